@@ -1,0 +1,31 @@
+-- What a conjunction or a disjunction of tests says of its parts, and the split of the indices below a bound.
+-- Assumes nothing.
+use mathlib.Core.Path.{_≡_, refl}
+use mathlib.Core.Bool.{Bool, true, false, _&&_, _||_, false≢true, true≢false}
+use Prim.Native.Nat.{ℕ, suc, _<_}
+use native.Mathlib.Omega.{arith}
+use native.Mathlib.Decide.{decLt}
+
+pub and-left : (a b : Bool) → (a && b) ≡ true → a ≡ true
+and-left true b h = refl
+and-left false b h = h
+
+pub and-right : (a b : Bool) → (a && b) ≡ true → b ≡ true
+and-right true b h = h
+and-right false b h = absurd (false≢true h)
+
+pub or-left : (a b : Bool) → (a || b) ≡ false → a ≡ false
+or-left true b h = h
+or-left false b h = refl
+
+pub or-right : (a b : Bool) → (a || b) ≡ false → b ≡ false
+or-right true b h = absurd (true≢false h)
+or-right false b h = h
+
+-- below k + 1: below k, or k
+pub by-last {ℓ} : (k : ℕ) (P : ℕ → Type ℓ) → ((j : ℕ) → j < k → P j) → P k → (j : ℕ) → j < suc k → P j
+by-last k P h e j p = go (decLt j k)
+  where
+    go : Dec (j < k) → P j
+    go (yes q) = h j q
+    go (no q) = let e′ : j ≡ k = omega arith in rw e′ e

@@ -1,0 +1,42 @@
+-- Laws of the first answer below a bound. Assumes nothing.
+use mathlib.Core.Path.{_≡_, refl}
+use mathlib.Core.Option.{Option, none, some}
+use Prim.Native.Nat.{ℕ, zero, suc, _+_, _-_, _<_, _≤_}
+use native.Mathlib.Numerals.{add-one}
+use native.Mathlib.Omega.{arith}
+use native.Mathlib.Nat.{zero-add, suc-add}
+use Rattle.numbers.specs.Bounded.{orElse, firstBelow}
+use Rattle.numbers.proofs.BoolLaws.{by-last}
+
+module _ {A : Type 0} (f : ℕ → Option A) where
+  -- nothing so far: one more is this one's answer
+  pub first-step : (k : ℕ) → firstBelow k f ≡ none → firstBelow (k + 1) f ≡ f k
+  unfolding firstBelow
+  first-step k h = rw (add-one, h)
+
+  first-up : (k m : ℕ) (a : A) → firstBelow k f ≡ some a → firstBelow (m + k) f ≡ some a
+  unfolding firstBelow
+  first-up k zero a h = rw zero-add h
+  first-up k (suc m) a h = rw (suc-add, first-up k m a h)
+
+  -- an answer stays the first
+  pub first-stays : (k m : ℕ) (a : A) → k ≤ m → firstBelow k f ≡ some a → firstBelow m f ≡ some a
+  first-stays k m a p h =
+      let e : m - k + k ≡ m = omega arith in
+      rw e at (first-up k (m - k) a h)
+
+  -- the answer at k, with nothing before it, is the first below any m above k
+  pub first-is : (k m : ℕ) (a : A) → k < m → firstBelow k f ≡ none → f k ≡ some a → firstBelow m f ≡ some a
+  first-is k m a p h e = first-stays (k + 1) m a (omega arith) (rw (first-step k h) e)
+
+or-none : {A : Type 0} (a b : Option A) → orElse a b ≡ none → (a ≡ none) × (b ≡ none)
+or-none none b h = (refl, h)
+or-none (some x) b h = absurd (let z : _≡_ {A = ℕ} 0 1 = cc in omega arith)
+
+-- no answer below the bound: none at any index
+pub first-none : {A : Type 0} (f : ℕ → Option A) (k : ℕ) → firstBelow k f ≡ none → (j : ℕ) → j < k → f j ≡ none
+unfolding firstBelow
+first-none f zero h j p = absurd (omega arith)
+first-none f (suc k) h j p =
+    let q = or-none (firstBelow k f) (f k) h in
+    by-last k (λ i. f i ≡ none) (first-none f k (q .0)) (q .1) j p

@@ -1,0 +1,9 @@
+pub mod BoolLaws
+pub mod SumLaws
+pub mod TestLaws
+pub mod FirstLaws
+pub mod ListLaws
+pub mod RoundingLaws
+pub mod SignedLaws
+pub mod UnitLaws
+mod Digits

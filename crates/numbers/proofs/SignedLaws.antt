@@ -1,0 +1,156 @@
+-- Laws of signed numbers as differences of unsigned ones, by which proofs leave ℤ for ℕ; and how an i64 relates
+-- to ℤ. Assumes nothing.
+use mathlib.Core.Path.{_≡_, refl, sym, _∙_, ap, ap₂}
+use mathlib.Core.Bool.{Bool, true, false, true≢false, false≢true}
+use Prim.Native.Nat.{ℕ, zero, suc, _+_, _-_, _*_, _^_, _<_, _≤_}
+use native.Mathlib.Omega.{arith}
+use native.Mathlib.Decide.{decLt}
+use native.Mathlib.Numerals.{add-one}
+use native.Mathlib.Nat.{suc-mul}
+use lib.Dec.{T}
+use lib.IntN.{ℤ, pos, negsuc, negℤ, subℕ, natAbs, _+ℤ_, _-ℤ_, _*ℤ_}
+use lib.Signed.{ltZ, leZ, nonNeg}
+use borrow.Author.Tests.{lt-ltb, le-ltb, ltb-true, leb-true, leb-false, le-leb, lt-leb}
+use mir.Syntax.{w64}
+use mir.Val.{SFits, toZ, ofZ}
+use mir.Facts.{toZ-ofZ, toZ-pos}
+use Rattle.numbers.specs.Bounded.{sumBelow}
+use Rattle.numbers.specs.Signed.{isNegative, positivePart, negativePart, withinSize, signedSumBelow}
+
+-- a difference by its sign
+pub sub-ge : (a b : ℕ) → b ≤ a → subℕ a b ≡ pos (a - b)
+sub-ge a b h = rw (le-ltb a b h)
+
+pub sub-lt : (a b : ℕ) → a < b → subℕ a b ≡ negsuc (b - suc a)
+sub-lt a b h = rw (lt-ltb a b h)
+
+-- to prove P of a difference: where it is not negative, and where it is
+pub sub-cases {ℓ} : (P : ℤ → Type ℓ) (a b : ℕ) → (b ≤ a → P (pos (a - b))) → (a < b → P (negsuc (b - suc a))) → P (subℕ a b)
+sub-cases P a b f g = go (decLt a b)
+  where
+    go : Dec (a < b) → P (subℕ a b)
+    go (yes h) = rw (sub-lt a b h) (g h)
+    go (no h) = let k : b ≤ a = omega arith in rw (sub-ge a b k) (f k)
+
+-- two differences are equal where the sums across are
+pub sub-eq : (a b c d : ℕ) → a + d ≡ c + b → subℕ a b ≡ subℕ c d
+sub-eq a b c d e =
+    sub-cases (λ z. z ≡ subℕ c d) a b
+    (λ h. let k : d ≤ c = omega arith in rw (sub-ge c d k) (ap pos (omega arith)))
+    (λ h. let k : c < d = omega arith in rw (sub-lt c d k) (ap negsuc (omega arith)))
+
+pub neg-sub : (m : ℕ) → subℕ 0 m ≡ negℤ (pos m)
+neg-sub zero = refl
+neg-sub (suc m) = sub-lt 0 (suc m) (omega arith) ∙ ap negsuc (omega arith)
+
+pub pos-sub-zero : (m : ℕ) → subℕ m 0 ≡ pos m
+pos-sub-zero m = sub-ge m 0 (omega arith) ∙ ap pos (omega arith)
+
+-- each number is the difference of its two parts
+pub parts : (z : ℤ) → z ≡ subℕ (positivePart z) (negativePart z)
+parts (pos n) = sym (pos-sub-zero n)
+parts (negsuc n) = ap negsuc (omega arith) ∙ sym (sub-lt 0 (suc n) (omega arith))
+
+-- a sum of differences is the difference of the sums
+pub sub-add : (a b c d : ℕ) → subℕ a b +ℤ subℕ c d ≡ subℕ (a + c) (b + d)
+sub-add a b c d =
+    sub-cases (λ z. z +ℤ subℕ c d ≡ subℕ (a + c) (b + d)) a b
+    (λ h. sub-cases (λ w. pos (a - b) +ℤ w ≡ subℕ (a + c) (b + d)) c d
+    (λ k. ap pos (omega arith) ∙ sym (sub-ge (a + c) (b + d) (omega arith)))
+    (λ k. sub-eq (a - b) (suc (d - suc c)) (a + c) (b + d) (omega arith)))
+    (λ h. sub-cases (λ w. negsuc (b - suc a) +ℤ w ≡ subℕ (a + c) (b + d)) c d
+    (λ k. sub-eq (c - d) (suc (b - suc a)) (a + c) (b + d) (omega arith))
+    (λ k. ap negsuc (omega arith) ∙ sym (sub-lt (a + c) (b + d) (omega arith))))
+
+-- sizes
+pub size-neg : (n : ℕ) → natAbs (negℤ (pos n)) ≡ n
+size-neg zero = refl
+size-neg (suc n) = refl
+
+pub size-add : (y z : ℤ) → natAbs (y +ℤ z) ≤ natAbs y + natAbs z
+size-add (pos a) (pos b) = omega arith
+size-add (pos a) (negsuc b) = sub-cases (λ z. natAbs z ≤ a + suc b) a (suc b) (λ h. omega arith) (λ h. omega arith)
+size-add (negsuc a) (pos b) = sub-cases (λ z. natAbs z ≤ suc a + b) b (suc a) (λ h. omega arith) (λ h. omega arith)
+size-add (negsuc a) (negsuc b) = omega arith
+
+pub size-mul : (y z : ℤ) → natAbs (y *ℤ z) ≡ natAbs y * natAbs z
+size-mul (pos a) (pos b) = refl
+size-mul (pos a) (negsuc b) = size-neg (a * suc b)
+size-mul (negsuc a) (pos b) = size-neg (suc a * b)
+size-mul (negsuc a) (negsuc b) = refl
+
+-- sums of signed numbers
+pub signed-sum-step : (k : ℕ) (f : ℕ → ℤ) → signedSumBelow (k + 1) f ≡ signedSumBelow k f +ℤ f k
+unfolding signedSumBelow
+signed-sum-step k f = rw add-one
+
+pub signed-sum-parts : (k : ℕ) (f : ℕ → ℤ) → signedSumBelow k f ≡ subℕ (sumBelow k (λ j. positivePart (f j))) (sumBelow k (λ j. negativePart (f j)))
+unfolding signedSumBelow sumBelow
+signed-sum-parts zero f = refl
+signed-sum-parts (suc k) f =
+    ap₂ _+ℤ_ (signed-sum-parts k f) (parts (f k))
+    ∙ sub-add (sumBelow k (λ j. positivePart (f j))) (sumBelow k (λ j. negativePart (f j))) (positivePart (f k)) (negativePart (f k))
+
+-- k numbers of size at most b sum to a size of at most k * b
+pub signed-sum-size : (k b : ℕ) (f : ℕ → ℤ) → ((j : ℕ) → j < k → natAbs (f j) ≤ b) → natAbs (signedSumBelow k f) ≤ k * b
+unfolding signedSumBelow
+signed-sum-size zero b f h = omega arith
+signed-sum-size (suc k) b f h =
+    let ih : natAbs (signedSumBelow k f) ≤ k * b = signed-sum-size k b f (λ j p. h j (omega arith)) in
+    rw suc-mul (omega (arith, size-add (signedSumBelow k f) (f k), h k (omega arith)))
+
+-- an i64: a number whose size is below 2 ^ 63 fits, and so does a difference of two such
+pub size-fits : (z : ℤ) → natAbs z < 2 ^ 63 → SFits w64 z
+size-fits (pos n) h = record { sfits = h }
+size-fits (negsuc n) h = record { sfits = omega arith }
+
+pub sub-fits : (p n : ℕ) → p < 2 ^ 63 → n < 2 ^ 63 → SFits w64 (subℕ p n)
+sub-fits p n hp hn =
+    sub-cases (SFits w64) p n (λ h. record { sfits = omega arith }) (λ h. record { sfits = omega arith })
+
+pos-sub : (p n : ℕ) → pos p -ℤ pos n ≡ subℕ p n
+pos-sub p zero = ap pos (omega arith) ∙ sym (pos-sub-zero p)
+pos-sub p (suc n) = refl
+
+-- what the machine computes of the bits of signed values
+pub sub-bits : (p n : ℕ) → p < 2 ^ 63 → n < 2 ^ 63 → toZ w64 p -ℤ toZ w64 n ≡ subℕ p n
+sub-bits p n hp hn = ap₂ _-ℤ_ (toZ-pos w64 hp) (toZ-pos w64 hn) ∙ pos-sub p n
+
+pub mul-bits : (x y : ℤ) → SFits w64 x → SFits w64 y → toZ w64 (ofZ w64 x) *ℤ toZ w64 (ofZ w64 y) ≡ x *ℤ y
+mul-bits x y f g = ap₂ _*ℤ_ (toZ-ofZ f) (toZ-ofZ g)
+
+pub add-bits : (x y : ℤ) → SFits w64 x → SFits w64 y → toZ w64 (ofZ w64 x) +ℤ toZ w64 (ofZ w64 y) ≡ x +ℤ y
+add-bits x y f g = ap₂ _+ℤ_ (toZ-ofZ f) (toZ-ofZ g)
+
+-- a turn of a loop that keeps a signed sum: its variable s holds the sum's bits
+pub next-bits : (s j : ℕ) (f : ℕ → ℤ) (z : ℤ) → s ≡ ofZ w64 (signedSumBelow j f) → z ≡ f j → SFits w64 (signedSumBelow j f) → SFits w64 (f j) → toZ w64 s +ℤ toZ w64 (ofZ w64 z) ≡ signedSumBelow (j + 1) f
+next-bits s j f z e h p q = rw (e, h) (add-bits (signedSumBelow j f) (f j) p q ∙ sym (signed-sum-step j f))
+
+-- the tests of the sign
+pub negative-is : (x : ℤ) → ltZ x (pos 0) ≡ isNegative x
+unfolding isNegative
+negative-is (pos n) = le-ltb n 0 (omega arith)
+negative-is (negsuc n) = refl
+
+-- 0 - x, of a negative x
+pub neg-size : (x : ℤ) → ltZ x (pos 0) ≡ true → natAbs x < 2 ^ 63 → (SFits w64 (pos 0 -ℤ x)) × T (nonNeg (pos 0 -ℤ x)) × (natAbs (pos 0 -ℤ x) ≡ natAbs x)
+neg-size (pos n) h k = absurd (omega (arith, ltb-true n 0 h))
+neg-size (negsuc n) h k = (record { sfits = omega arith }, tt, omega arith)
+
+pub pos-size : (x : ℤ) → ltZ x (pos 0) ≡ false → T (nonNeg x)
+pos-size (pos n) h = tt
+pos-size (negsuc n) h = absurd (true≢false h)
+
+-- the test of the size by two comparisons
+pub within-both : (b : ℕ) (x : ℤ) → leZ (subℕ 0 b) x ≡ true → leZ x (pos b) ≡ withinSize b x
+unfolding withinSize
+within-both b (pos n) h = refl
+within-both zero (negsuc n) h = absurd (false≢true h)
+within-both (suc b) (negsuc n) h = sym (le-leb (suc n) (suc b) (omega (arith, leb-true n b (rw (neg-sub (suc b)) at h))))
+
+pub within-low : (b : ℕ) (x : ℤ) → leZ (subℕ 0 b) x ≡ false → withinSize b x ≡ false
+unfolding withinSize
+within-low zero (pos n) h = absurd (true≢false (sym (le-leb 0 n (omega arith)) ∙ h))
+within-low (suc b) (pos n) h = absurd (true≢false (sym (ap (λ z. leZ z (pos n)) (neg-sub (suc b))) ∙ h))
+within-low zero (negsuc n) h = lt-leb (suc n) 0 (omega arith)
+within-low (suc b) (negsuc n) h = lt-leb (suc n) (suc b) (omega (arith, leb-false n b (rw (neg-sub (suc b)) at h)))

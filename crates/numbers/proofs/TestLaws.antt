@@ -1,0 +1,62 @@
+-- Laws of the tests of all and of any index below a bound. Assumes nothing.
+use mathlib.Core.Path.{_≡_, refl}
+use mathlib.Core.Bool.{Bool, true, false, _&&_, _||_, and-false}
+use Prim.Native.Nat.{ℕ, zero, suc, _+_, _<_}
+use native.Mathlib.Numerals.{add-one}
+use native.Mathlib.Omega.{arith}
+use Rattle.numbers.specs.Bounded.{allBelow, anyBelow}
+use Rattle.numbers.proofs.BoolLaws.{and-left, and-right, or-left, or-right, by-last}
+
+pub all-more : (k : ℕ) (t : ℕ → Bool) → allBelow k t ≡ true → t k ≡ true → allBelow (k + 1) t ≡ true
+unfolding allBelow
+all-more k t h e = rw (add-one, h, e)
+
+pub all-at : (k : ℕ) (t : ℕ → Bool) → allBelow k t ≡ true → (j : ℕ) → j < k → t j ≡ true
+unfolding allBelow
+all-at zero t h j p = absurd (omega arith)
+all-at (suc k) t h j p =
+    by-last k (λ i. t i ≡ true)
+    (all-at k t (and-left (allBelow k t) (t k) h))
+    (and-right (allBelow k t) (t k) h)
+    j p
+
+pub all-of : (k : ℕ) (t : ℕ → Bool) → ((j : ℕ) → j < k → t j ≡ true) → allBelow k t ≡ true
+unfolding allBelow
+all-of zero t h = refl
+all-of (suc k) t h = rw (all-of k t (λ j p. h j (omega arith)), h k (omega arith))
+
+pub all-fails : (k : ℕ) (t : ℕ → Bool) (j : ℕ) → j < k → t j ≡ false → allBelow k t ≡ false
+unfolding allBelow
+all-fails zero t j p h = absurd (omega arith)
+all-fails (suc k) t j p h =
+    by-last k (λ i. t i ≡ false → (allBelow k t && t k) ≡ false)
+    (λ i q e. rw (all-fails k t i q e))
+    (λ e. rw (e, and-false (allBelow k t)))
+    j p h
+
+pub any-more : (k : ℕ) (t : ℕ → Bool) → anyBelow k t ≡ false → t k ≡ false → anyBelow (k + 1) t ≡ false
+unfolding anyBelow
+any-more k t h e = rw (add-one, h, e)
+
+-- none holds: none at any index
+pub any-none : (k : ℕ) (t : ℕ → Bool) → anyBelow k t ≡ false → (j : ℕ) → j < k → t j ≡ false
+unfolding anyBelow
+any-none zero t h j p = absurd (omega arith)
+any-none (suc k) t h j p =
+    by-last k (λ i. t i ≡ false)
+    (any-none k t (or-left (anyBelow k t) (t k) h))
+    (or-right (anyBelow k t) (t k) h)
+    j p
+
+or-true : (a : Bool) → (a || true) ≡ true
+or-true true = refl
+or-true false = refl
+
+pub any-holds : (k : ℕ) (t : ℕ → Bool) (j : ℕ) → j < k → t j ≡ true → anyBelow k t ≡ true
+unfolding anyBelow
+any-holds zero t j p h = absurd (omega arith)
+any-holds (suc k) t j p h =
+    by-last k (λ i. t i ≡ true → (anyBelow k t || t k) ≡ true)
+    (λ i q e. rw (any-holds k t i q e))
+    (λ e. rw (e, or-true (anyBelow k t)))
+    j p h

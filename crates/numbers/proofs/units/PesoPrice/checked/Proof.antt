@@ -1,0 +1,19 @@
+-- The test of the bounds picks the answer, as in the definition.
+use Rattle.numbers.specs.Units.{checkedPrice}
+use borrow.Author.Needs.{needs}
+use Rattle.numbers.proofs.units.PesoPrice.checked.Statement.{statement}
+use Rattle.numbers.proofs.units.PesoPrice.checked.Tie as tie
+
+is-between-requires : tie.Need-is-between-requires
+is-between-requires c κs = search needs
+
+returns : tie.Need-returns
+unfolding checkedPrice
+returns c = rw (← c .before .is-between .ensures, c .if1 .taken)
+
+returns-2 : tie.Need-returns-2
+unfolding checkedPrice
+returns-2 c = rw (← c .before .is-between .ensures, c .if1 .left)
+
+pub checked-spec : {M : Type 1} → statement M
+checked-spec = tie.close (tie.spec is-between-requires returns returns-2)

@@ -1,0 +1,4 @@
+pub mod Bounded
+pub mod Rounding
+pub mod Signed
+pub mod Units

@@ -1,0 +1,54 @@
+// The units of document 01 as types of their own, so that a price, an energy and an amount of money cannot be
+// taken for one another: one peso-price unit times one MWh is $1.
+ghost use mathlib.Core.Path.{_≡_};
+ghost use Rattle.numbers.specs.Units.{between, checkedPrice, priceNumber};
+
+// A peso price, in 0.001 $/kWh.
+pub struct PesoPrice(pub u64);
+
+// Projected energy, in MWh.
+pub struct Energy(pub u64);
+
+// Money, in whole $. A balance and an amount may be below zero.
+pub struct Pesos(pub i64);
+
+// What the checked constructor of a peso price answers.
+pub enum CheckedPrice {
+    Within(PesoPrice),
+    OutOfBounds,
+}
+
+impl PesoPrice {
+    // The ends that a reference, and so an average, must keep.
+    pub const LEAST: u64 = 1000;
+
+    pub const MOST: u64 = 2000000;
+
+    // The price of a word, where it keeps the bounds.
+    pub fn checked(word: u64) -> CheckedPrice
+        ensures { λ r. ⌜ r ≡ checkedPrice word ⌝ }
+    {
+        if is_between(Self::LEAST, Self::MOST, word) {
+            CheckedPrice::Within(PesoPrice(word))
+        } else {
+            CheckedPrice::OutOfBounds
+        }
+    }
+}
+
+// 01's number of a checked price: 0 within its bounds, 11 out of them.
+pub fn number(answer: CheckedPrice) -> u64
+    ensures { λ r. ⌜ r ≡ priceNumber answer ⌝ }
+{
+    match answer {
+        CheckedPrice::Within(_) => 0,
+        CheckedPrice::OutOfBounds => 11,
+    }
+}
+
+// Whether low <= x <= high.
+pub fn is_between(low: u64, high: u64, x: u64) -> bool
+    ensures { λ r. ⌜ r ≡ between low high x ⌝ }
+{
+    low <= x && x <= high
+}
