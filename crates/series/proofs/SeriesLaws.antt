@@ -1,0 +1,72 @@
+-- Laws of the series: values stay at most the top value, a sum of a window stays small, and a mean of present values
+-- lies between the least and the greatest value that may be published. Callers cite these and not the definitions.
+-- Assumes nothing.
+use mathlib.Core.Path.{_≡_, refl, ap, sym, _∙_}
+use mathlib.Core.Bool.{Bool, true, false, cond, _&&_}
+use mathlib.Core.List.{List, [], _∷_}
+use mathlib.Core.Option.{Option, none, some}
+use Prim.Native.Nat.{ℕ, _+_, _-_, _*_, _≤_, _<_}
+use native.Mathlib.Omega.{arith}
+use native.Mathlib.Decide.{decLt}
+use lib.ListN.{getD, length, List·getD-eq-default}
+use lib.Dec.{leb, ltb, eqb}
+use borrow.Author.Tests.{leb-true, eqb-false}
+use Rattle.numbers.specs.Bounded.{sumBelow}
+use Rattle.numbers.proofs.SumLaws.{sum-le, sum-ge}
+use Rattle.numbers.proofs.TestLaws.{all-at, any-none}
+use Rattle.numbers.proofs.ListLaws.{list-at, list-length}
+use Rattle.numbers.proofs.RoundingLaws.{half-up-ge, half-up-le}
+use Rattle.series.specs.Series.{mostValue, monthCount, seriesCount, seriesRow, seriesTable, valuesInRange, TableInRange, valueIn, termMonth, valueOf, termValue, termMissing, termMean, meanAnswer}
+use Rattle.series.specs.declared.term.Mean.the-variants.{Published, Missing}
+
+pick-most : (b : Bool) (x m : ℕ) → x ≤ m → cond b x 0 ≤ m
+pick-most true x m h = h
+pick-most false x m h = omega arith
+
+-- what stands in the table that the words fill, at every place
+at-row : (words : List ℕ) (s k : ℕ) → Dec (k < 48) → valuesInRange words ≡ true → s < 5 → getD (seriesRow words s) k 0 ≤ mostValue
+unfolding seriesRow valuesInRange
+at-row words s k (yes p) h q =
+    rw (list-at (λ i. getD words (s * monthCount + i) 0) monthCount 0 k p)
+    (leb-true _ _ (all-at 240 (λ j. leb (getD words j 0) mostValue) h (s * 48 + k) (omega arith)))
+at-row words s k (no p) h q =
+    rw (List·getD-eq-default (seriesRow words s) 0 {n = k} (omega (arith, list-length (λ i. getD words (s * monthCount + i) 0) 48)))
+    (omega arith)
+
+at-table : (words : List ℕ) (s k : ℕ) → Dec (s < 5) → valuesInRange words ≡ true → getD (getD (seriesTable words) s []) k 0 ≤ mostValue
+unfolding seriesTable
+at-table words s k (yes p) h = rw (list-at (seriesRow words) seriesCount [] s p) (at-row words s k (decLt k 48) h p)
+at-table words s k (no p) h =
+    rw (List·getD-eq-default (seriesTable words) [] {n = s} (omega (arith, list-length (seriesRow words) 5))) (omega arith)
+
+pub table-in-range : (words : List ℕ) → valuesInRange words ≡ true → TableInRange (seriesTable words)
+table-in-range words h = record { most = λ s k. at-table words s k (decLt s 5) h }
+
+module _ (table : List (List ℕ)) (ok : TableInRange table) (first t s lag : ℕ) where
+  -- a value of a term, present or not
+  pub value-most : (k : ℕ) → termValue (getD table s []) first t lag k ≤ mostValue
+  unfolding termValue valueIn
+  value-most k = go (termMonth t lag k)
+    where
+      go : (m : Option ℕ) → valueOf (getD table s []) first m ≤ mostValue
+      go none = omega arith
+      go (some m) = pick-most (leb first m && ltb (m - first) monthCount) _ _ (ok .most s (m - first))
+
+  pub values-most : (k : ℕ) → sumBelow k (termValue (getD table s []) first t lag) ≤ k * mostValue
+  values-most k = sum-le k mostValue (termValue (getD table s []) first t lag) (λ j p. value-most j)
+
+  -- where no month is missing each value is at least 1, so the mean of the window lies in 1 to the top value
+  pub mean-least : (window : ℕ) → 1 ≤ window → termMissing table first t s lag window ≡ false → 1 ≤ termMean table first t s lag window
+  unfolding termMissing termMean
+  mean-least window p h =
+      half-up-ge _ window p 1
+      (omega (arith, sum-ge window 1 (termValue (getD table s []) first t lag) (λ j q. present j (any-none window (λ k. eqb (termValue (getD table s []) first t lag k) 0) h j q))))
+    where
+      present : (j : ℕ) → eqb (termValue (getD table s []) first t lag j) 0 ≡ false → 1 ≤ termValue (getD table s []) first t lag j
+      present j e =
+          let no-zero : termValue (getD table s []) first t lag j ≡ 0 → ⊥ = eqb-false _ _ e in
+          omega arith
+
+  pub mean-most : (window : ℕ) → 1 ≤ window → termMean table first t s lag window ≤ mostValue
+  unfolding termMean
+  mean-most window p = half-up-le _ window p mostValue (omega (arith, values-most window))

@@ -1,0 +1,56 @@
+// The table of 5 series by 48 months, by value, and the test of its 240 words.
+ghost use mathlib.Core.Path.{_≡_};
+ghost use Prim.Native.Nat.{_<_};
+ghost use lib.ListN.{length};
+ghost use Rattle.series.specs.Series.{wordCount, seriesRow, seriesTable, valuesInRange};
+
+pub const SERIES: usize = 5;
+
+pub const MONTHS: usize = 48;
+
+pub const WORDS: usize = 240;
+
+pub const MOST_VALUE: u64 = 99999999;
+
+// Row `series` of the lent words.
+fn row(words: &[u64], series: usize) -> [u64; 48]
+    requires { ⌜ length (now words) ≡ wordCount ⌝ ∗ ⌜ series < 5 ⌝ }
+    ensures { λ r. ⌜ r ≡ seriesRow (now (words .entry)) series ⌝ }
+{
+    let mut row = [0u64; 48];
+    let mut k: usize = 0;
+    while k < MONTHS {
+        row[k] = words[series * MONTHS + k];
+        k += 1;
+    }
+    row
+}
+
+// The table: word 48 * series + k of the lent words stands in row `series` at month k.
+pub fn fill(words: &[u64]) -> [[u64; 48]; 5]
+    requires { ⌜ length (now words) ≡ wordCount ⌝ }
+    ensures { λ r. ⌜ r ≡ seriesTable (now (words .entry)) ⌝ }
+{
+    let mut table = [[0u64; 48]; 5];
+    let mut series: usize = 0;
+    while series < SERIES {
+        table[series] = row(words, series);
+        series += 1;
+    }
+    table
+}
+
+// Whether no value of the 240 is too large, used or not.
+pub fn values_in_range(words: &[u64]) -> bool
+    requires { ⌜ length (now words) ≡ wordCount ⌝ }
+    ensures { λ r. ⌜ r ≡ valuesInRange (now (words .entry)) ⌝ }
+{
+    let mut j: usize = 0;
+    while j < WORDS {
+        if words[j] > MOST_VALUE {
+            return false;
+        }
+        j += 1;
+    }
+    true
+}
