@@ -1,13 +1,17 @@
 -- Laws of the list of a function's values below a bound, and of a loop that writes it from the front.
 -- Assumes nothing.
 use mathlib.Core.Path.{_≡_, refl, sym, _∙_}
+use mathlib.Core.Bool.{cond}
 use mathlib.Core.List.{List, [], _∷_, _++_}
 use Prim.Native.Nat.{ℕ, zero, suc, _+_, _<_, _≤_}
 use native.Mathlib.Numerals.{add-one}
 use native.Mathlib.Omega.{arith}
-use lib.ListN.{length, getD, take, set, length-append, List·getD-append}
-use lib.Seq.{take-suc-set, take-all, getD-at, ext-getD}
-use Rattle.numbers.specs.Bounded.{listBelow}
+use native.Mathlib.Decide.{ℕ-discrete, decLt}
+use lib.Dec.{ltb}
+use lib.ListN.{length, getD, take, set, replicate, length-append, length-set, length-replicate, getD-replicate, List·getD-append, List·getD-eq-default}
+use lib.Seq.{take-suc-set, take-all, getD-at, ext-getD, getD-set-same, getD-set-other}
+use borrow.Author.Tests.{lt-ltb, le-ltb}
+use Rattle.numbers.specs.Bounded.{listBelow, filledBelow}
 use Rattle.numbers.proofs.BoolLaws.{by-last}
 
 module _ {A : Type 0} (f : ℕ → A) where
@@ -42,3 +46,38 @@ pub list-same : {A : Type 0} (k : ℕ) (f g : ℕ → A) → ((j : ℕ) → j < 
 unfolding listBelow
 list-same zero f g h = refl
 list-same (suc k) f g h = rw (list-same k f g (λ j p. h j (omega arith)), h k (omega arith))
+
+-- a list that is filled from the front and empty behind
+module _ {A : Type 0} (size : ℕ) (empty : A) (f : ℕ → A) where
+  pub filled-length : (k : ℕ) → length (filledBelow size empty k f) ≡ size
+  unfolding filledBelow
+  filled-length k = list-length (λ j. cond (ltb j k) (f j) empty) size
+
+  pub filled-at : (k j : ℕ) → j < k → j < size → getD (filledBelow size empty k f) j empty ≡ f j
+  unfolding filledBelow
+  filled-at k j p q = list-at (λ i. cond (ltb i k) (f i) empty) size empty j q ∙ rw (lt-ltb j k p)
+
+  pub filled-past : (k j : ℕ) → k ≤ j → j < size → getD (filledBelow size empty k f) j empty ≡ empty
+  unfolding filledBelow
+  filled-past k j p q = list-at (λ i. cond (ltb i k) (f i) empty) size empty j q ∙ rw (le-ltb j k p)
+
+  pub filled-none : replicate size empty ≡ filledBelow size empty 0 f
+  filled-none =
+      ext-getD empty _ _ (length-replicate size empty ∙ sym (filled-length 0))
+      (λ j p. let q : j < size = omega (arith, length-replicate size empty) in
+      getD-replicate size j empty empty q ∙ sym (filled-past 0 j (omega arith) q))
+
+  -- one place more
+  pub filled-more : (k : ℕ) → k < size → set (filledBelow size empty k f) k (f k) ≡ filledBelow size empty (k + 1) f
+  filled-more k p =
+      ext-getD empty _ _ (length-set (filledBelow size empty k f) k (f k) ∙ filled-length k ∙ sym (filled-length (k + 1)))
+      (λ j q. at j (omega (arith, length-set (filledBelow size empty k f) k (f k), filled-length k)) (ℕ-discrete j k))
+    where
+      beside : (j : ℕ) → j < size → Dec (j < k) → (j ≡ k → ⊥) → getD (filledBelow size empty k f) j empty ≡ getD (filledBelow size empty (k + 1) f) j empty
+      beside j q (yes h) e = filled-at k j h q ∙ sym (filled-at (k + 1) j (omega arith) q)
+      beside j q (no h) e = filled-past k j (omega arith) q ∙ sym (filled-past (k + 1) j (omega arith) q)
+
+      at : (j : ℕ) → j < size → Dec (j ≡ k) → getD (set (filledBelow size empty k f) k (f k)) j empty ≡ getD (filledBelow size empty (k + 1) f) j empty
+      at j q (yes e) =
+          rw e (getD-set-same (filledBelow size empty k f) k (f k) empty (omega (arith, filled-length k)) ∙ sym (filled-at (k + 1) k (omega arith) p))
+      at j q (no e) = getD-set-other (filledBelow size empty k f) k j (f k) empty e ∙ beside j q (decLt j k) e

@@ -2,10 +2,11 @@
 -- of a function's values. Every definition of the engine that walks lines, terms, months or distributors is one
 -- of these, so each loop's invariant is the same combinator at the loop's index. Their laws are in proofs/.
 -- Assumes nothing.
-use mathlib.Core.Bool.{Bool, true, false, _&&_, _||_}
+use mathlib.Core.Bool.{Bool, true, false, cond, _&&_, _||_}
 use mathlib.Core.List.{List, [], _∷_, _++_}
 use mathlib.Core.Option.{Option, none, some}
 use Prim.Native.Nat.{ℕ, zero, suc, _+_}
+use lib.Dec.{ltb}
 
 -- f 0 + f 1 + .. up to below the bound
 unfoldable pub sumBelow : ℕ → (ℕ → ℕ) → ℕ
@@ -36,3 +37,7 @@ firstBelow (suc k) f = orElse (firstBelow k f) (f k)
 unfoldable pub listBelow : {A : Type 0} → ℕ → (ℕ → A) → List A
 listBelow zero f = []
 listBelow (suc k) f = listBelow k f ++ (f k ∷ [])
+
+-- a list of `size` places that holds f at each index below k and is empty from there on
+unfoldable pub filledBelow : {A : Type 0} → ℕ → A → ℕ → (ℕ → A) → List A
+filledBelow size empty k f = listBelow size (λ j. cond (ltb j k) (f j) empty)

@@ -17,6 +17,7 @@ use Rattle.numbers.proofs.TestLaws.{all-at, any-none}
 use Rattle.numbers.proofs.ListLaws.{list-at, list-length}
 use Rattle.numbers.proofs.RoundingLaws.{half-up-ge, half-up-le}
 use Rattle.series.specs.Series.{mostValue, monthCount, seriesCount, seriesRow, seriesTable, valuesInRange, TableInRange, valueIn, termMonth, valueOf, termValue, termMissing, termMean, meanAnswer}
+use Rattle.series.specs.declared.term.Mean.{Mean}
 use Rattle.series.specs.declared.term.Mean.the-variants.{Published, Missing}
 
 pick-most : (b : Bool) (x m : ℕ) → x ≤ m → cond b x 0 ≤ m
@@ -70,3 +71,31 @@ module _ (table : List (List ℕ)) (ok : TableInRange table) (first t s lag : �
   pub mean-most : (window : ℕ) → 1 ≤ window → termMean table first t s lag window ≤ mostValue
   unfolding termMean
   mean-most window p = half-up-le _ window p mostValue (omega (arith, values-most window))
+
+-- the answer where no month is missing, and where one is
+module _ (table : List (List ℕ)) (first t s lag window : ℕ) where
+  pub mean-published : termMissing table first t s lag window ≡ false → meanAnswer table first t s lag window ≡ Published (termMean table first t s lag window)
+  unfolding meanAnswer
+  mean-published h = rw h
+
+  pub mean-missing : termMissing table first t s lag window ≡ true → meanAnswer table first t s lag window ≡ Missing
+  unfolding meanAnswer
+  mean-missing h = rw h
+
+  -- what an answer at hand says
+  pub answered-mean : (x : Mean) (m : ℕ) → x ≡ meanAnswer table first t s lag window → termMissing table first t s lag window ≡ false → x ≡ Published m → m ≡ termMean table first t s lag window
+  answered-mean x m e h p = let q = mean-published h in cc
+
+  pub answered-present : (x : Mean) (m : ℕ) → x ≡ meanAnswer table first t s lag window → x ≡ Published m → termMissing table first t s lag window ≡ false
+  answered-present x m e p = go (termMissing table first t s lag window) refl
+    where
+      go : (b : Bool) → termMissing table first t s lag window ≡ b → b ≡ false
+      go true h = let q = mean-missing h in cc
+      go false h = refl
+
+  pub answered-missing : (x : Mean) → x ≡ meanAnswer table first t s lag window → x ≡ Missing → termMissing table first t s lag window ≡ true
+  answered-missing x e p = go (termMissing table first t s lag window) refl
+    where
+      go : (b : Bool) → termMissing table first t s lag window ≡ b → b ≡ true
+      go false h = let q = mean-published h in cc
+      go true h = refl

@@ -1,7 +1,8 @@
 // The mean that a term takes from the table: months t - lag back to t - lag - window + 1.
 ghost use mathlib.Core.Path.{_≡_};
+ghost use mathlib.Core.Bool.{false};
 ghost use Prim.Native.Nat.{_<_, _≤_};
-ghost use Rattle.series.specs.Series.{TableInRange, TermInRange, termValue, meanAnswer, meanNumber};
+ghost use Rattle.series.specs.Series.{TableInRange, TermInRange, termValue, termMissing, termMean, meanAnswer, meanNumber};
 use crate::table::MONTHS;
 
 // The mean of a term, or that a month of it is missing.
@@ -51,6 +52,24 @@ pub fn term_mean(
         k += 1;
     }
     Mean::Published(numbers::rounding::half_up(sum, window))
+}
+
+// The mean of a term of which no month is missing, as the search for missing months leaves it.
+pub fn present_mean(
+    table: [[u64; 48]; 5],
+    first: u64,
+    month: u64,
+    series: u64,
+    lag: u64,
+    window: u64,
+) -> u64
+    requires { ⌜ TableInRange table ⌝ ∗ ⌜ TermInRange first series lag window ⌝ ∗ ⌜ termMissing table first month series lag window ≡ false ⌝ }
+    ensures { λ r. ⌜ r ≡ termMean table first month series lag window ⌝ }
+{
+    match term_mean(table, first, month, series, lag, window) {
+        Mean::Published(mean) => mean,
+        Mean::Missing => 0,
+    }
 }
 
 // 01's number of a mean: 0 where it is published, 10 where a month is missing.
