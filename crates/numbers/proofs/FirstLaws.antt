@@ -1,5 +1,5 @@
 -- Laws of the first answer below a bound. Assumes nothing.
-use mathlib.Core.Path.{_≡_, refl}
+use mathlib.Core.Path.{_≡_, refl, _∙_}
 use mathlib.Core.Option.{Option, none, some}
 use Prim.Native.Nat.{ℕ, zero, suc, _+_, _-_, _<_, _≤_}
 use native.Mathlib.Numerals.{add-one}
@@ -40,3 +40,20 @@ first-none f zero h j p = absurd (omega arith)
 first-none f (suc k) h j p =
     let q = or-none (firstBelow k f) (f k) h in
     by-last k (λ i. f i ≡ none) (first-none f k (q .0)) (q .1) j p
+
+-- an answer below the bound stands at an index
+pub record Found {A : Type 0} (f : ℕ → Option A) (k : ℕ) (a : A) : Type 0 where
+  pub index : ℕ
+  pub below : index < k
+  pub answer : f index ≡ some a
+
+pub first-found : {A : Type 0} (f : ℕ → Option A) (k : ℕ) (a : A) → firstBelow k f ≡ some a → Found f k a
+unfolding firstBelow
+first-found f zero a h = absurd (let z : _≡_ {A = ℕ} 0 1 = cc in omega arith)
+first-found {A = A} f (suc k) a h = go (firstBelow k f) refl (λ e. first-found f k a e)
+  where
+    go : (o : Option A) → firstBelow k f ≡ o → (firstBelow k f ≡ some a → Found f k a) → Found f (suc k) a
+    go none e ih = record { index = k; below = omega arith; answer = rw e at h }
+    go (some b) e ih =
+        let w = ih (e ∙ (rw e at h)) in
+        record { index = w .index; below = omega (arith, w .below); answer = w .answer }

@@ -4,8 +4,23 @@ use mathlib.Core.Bool.{Bool, true, false, _&&_}
 use mathlib.Core.List.{List, [], _∷_}
 use Prim.Native.Nat.{ℕ}
 use lib.Dec.{leb}
+use lib.IntN.{pos}
+use Rattle.numbers.specs.declared.units.PesoPrice.{PesoPrice}
+use Rattle.numbers.specs.declared.units.Energy.{Energy}
+use Rattle.numbers.specs.declared.units.Pesos.{Pesos}
 use Rattle.numbers.specs.declared.units.CheckedPrice.{CheckedPrice}
 use Rattle.numbers.specs.declared.units.CheckedPrice.the-variants.{Within, OutOfBounds}
+
+-- an empty place of a list of prices, and of energies
+abbrev pub noPrice : PesoPrice
+noPrice = record { 0 = 0 }
+
+abbrev pub noEnergy : Energy
+noEnergy = record { 0 = 0 }
+
+-- no money
+abbrev pub noMoney : Pesos
+noMoney = record { 0 = pos 0 }
 
 -- the ends that a reference, and so an average, must keep, in 0.001 $/kWh
 abbrev pub leastPrice : ℕ

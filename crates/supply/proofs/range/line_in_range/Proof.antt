@@ -1,0 +1,69 @@
+-- Head, terms, weights: each way out is the definition at the tests that led there.
+use mathlib.Core.Bool.{true}
+use Rattle.numbers.specs.Bounded.{allBelow}
+use Rattle.supply.specs.Line.{mostTerms}
+use Rattle.supply.specs.Range.{headInRange, termAllowed}
+use mathlib.Core.Path.{_≡_, sym, _∙_}
+use borrow.Author.Tests.{eq-eqb, ne-eqb, not-true, not-false}
+use Rattle.supply.specs.Range.{lineInRange, weightsAllowed}
+use Rattle.supply.proofs.RangeLaws.{head-terms}
+use borrow.Author.Needs.{needs}
+use Rattle.supply.proofs.range.line_in_range.Statement.{statement}
+use Rattle.supply.proofs.range.line_in_range.Tie as tie
+
+-- what the tests passed say
+head : (c : tie.Else1) → headInRange (c .before .before .before .args .n) (c .before .before .before .args .lines .now) (c .before .before .before .args .j) ≡ true
+head c = sym (c .before .head-in-range .ensures) ∙ not-false _ (c .if1 .left)
+
+terms : (c : tie.Else2) → allBelow mostTerms (termAllowed (c .before .before .before .before .before .args .lines .now) (c .before .before .before .before .before .args .j)) ≡ true
+terms c = sym (c .before .terms-allowed .ensures) ∙ not-false _ (c .if2 .left)
+
+head-in-range-requires : tie.Need-head-in-range-requires
+head-in-range-requires c κs = search needs
+
+returns : tie.Need-returns
+unfolding lineInRange
+returns c = rw (← c .before .head-in-range .ensures, not-true (c .before .head-in-range .result) (c .if1 .taken))
+
+terms-allowed-requires : tie.Need-terms-allowed-requires
+terms-allowed-requires c κs = search needs
+
+returns-2 : tie.Need-returns-2
+unfolding lineInRange
+returns-2 c = rw (head (c .before .before), ← c .before .terms-allowed .ensures, not-true (c .before .terms-allowed .result) (c .if2 .taken))
+
+line-word-requires : tie.Need-line-word-requires
+line-word-requires c κs = search needs
+
+weight-total-requires : tie.Need-weight-total-requires
+weight-total-requires c κs =
+    let s = c .before .before .before .before .before .before .before in
+    (s .pre .0, (s .pre .1, (head-terms (s .args .n) (s .args .lines .now) (s .args .j) (head (c .before .before .before .before)), terms (c .before .before))))
+
+returns-3 : tie.Need-returns-3
+unfolding lineInRange weightsAllowed
+returns-3 c = rw (head (c .before .before .before .before), terms (c .before .before), ← c .before .line-word .ensures, eq-eqb _ _ (c .if3 .taken))
+
+returns-4 : tie.Need-returns-4
+unfolding lineInRange weightsAllowed
+returns-4 c =
+    rw (
+      head (c .before .before .before .before .before),
+      terms (c .before .before .before),
+      ← c .before .before .line-word .ensures,
+      ne-eqb _ _ (c .before .if3 .left),
+      ← c .weight-total .ensures,
+    )
+
+pub line-in-range-spec : {M : Type 1} → statement M
+line-in-range-spec =
+    tie.close
+    (tie.spec
+    head-in-range-requires
+    returns
+    terms-allowed-requires
+    returns-2
+    line-word-requires
+    weight-total-requires
+    returns-3
+    returns-4)

@@ -1,0 +1,43 @@
+-- Each way out is the definition at the tests that led there.
+use Rattle.supply.specs.Range.{marketInRange}
+use borrow.Author.Needs.{needs}
+use Rattle.supply.proofs.range.market_in_range.Statement.{statement}
+use Rattle.supply.proofs.range.market_in_range.Tie as tie
+
+is-between-requires : tie.Need-is-between-requires
+is-between-requires c κs = search needs
+
+is-between-requires-2 : tie.Need-is-between-requires-2
+is-between-requires-2 c κs = search needs
+
+returns : tie.Need-returns
+unfolding marketInRange
+returns c =
+    rw (
+      ← c .before .before .before .is-between .ensures,
+      c .before .before .if1 .taken,
+      ← c .before .is-between2 .ensures,
+      c .if2 .taken,
+    )
+
+returns-2 : tie.Need-returns-2
+unfolding marketInRange
+returns-2 c =
+    rw (
+      ← c .before .before .before .is-between .ensures,
+      c .before .before .if1 .taken,
+      ← c .before .is-between2 .ensures,
+      c .if2 .left,
+    )
+
+returns-3 : tie.Need-returns-3
+unfolding marketInRange
+returns-3 c =
+    rw (
+      ← c .before .is-between .ensures,
+      c .if1 .left,
+    )
+
+pub market-in-range-spec : {M : Type 1} → statement M
+market-in-range-spec =
+    tie.close (tie.spec is-between-requires is-between-requires-2 returns returns-2 returns-3)

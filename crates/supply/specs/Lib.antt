@@ -1,0 +1,4 @@
+pub mod Line
+pub mod Range
+pub mod Months
+pub mod Price

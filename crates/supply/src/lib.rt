@@ -1,0 +1,6 @@
+// The supply lines of document 01: where each word stands, the test of their ranges (cause 6), the search for a
+// missing month (cause 10), and the steps from the base price to the reference with their bounds (cause 11).
+pub mod line;
+pub mod months;
+pub mod price;
+pub mod range;
