@@ -10,13 +10,13 @@ use native.Mathlib.Omega.{arith}
 use native.Mathlib.Decide.{decLt}
 use lib.ListN.{getD, length, List·getD-eq-default}
 use lib.Dec.{leb, ltb, eqb}
-use borrow.Author.Tests.{leb-true, eqb-false}
+use borrow.Author.Tests.{leb-true, eqb-false, le-leb, lt-leb, lt-ltb, le-ltb}
 use Rattle.numbers.specs.Bounded.{sumBelow}
 use Rattle.numbers.proofs.SumLaws.{sum-le, sum-ge}
 use Rattle.numbers.proofs.TestLaws.{all-at, any-none}
 use Rattle.numbers.proofs.ListLaws.{list-at, list-length}
 use Rattle.numbers.proofs.RoundingLaws.{half-up-ge, half-up-le}
-use Rattle.series.specs.Series.{mostValue, monthCount, seriesCount, seriesRow, seriesTable, valuesInRange, TableInRange, valueIn, termMonth, valueOf, termValue, termMissing, termMean, meanAnswer}
+use Rattle.series.specs.Series.{mostValue, monthCount, seriesCount, seriesRow, seriesTable, valuesInRange, TableInRange, valueIn, termMonth, valueOf, termValue, termMissing, meanOf, termMean, meanAnswer}
 use Rattle.series.specs.declared.term.Mean.{Mean}
 use Rattle.series.specs.declared.term.Mean.the-variants.{Published, Missing}
 
@@ -43,6 +43,24 @@ at-table words s k (no p) h =
 pub table-in-range : (words : List ℕ) → valuesInRange words ≡ true → TableInRange (seriesTable words)
 table-in-range words h = record { most = λ s k. at-table words s k (decLt s 5) h }
 
+-- the value of a term in one month, by where the month lies: below 0, before the table, in it, past it
+module _ (row : List ℕ) (first t lag k : ℕ) where
+  pub value-below : t < lag + k → termValue row first t lag k ≡ 0
+  unfolding termValue termMonth
+  value-below p = rw (lt-leb (lag + k) t p)
+
+  pub value-before : lag + k ≤ t → t - (lag + k) < first → termValue row first t lag k ≡ 0
+  unfolding termValue termMonth valueIn
+  value-before p q = rw (le-leb (lag + k) t p, lt-leb first (t - (lag + k)) q)
+
+  pub value-inside : lag + k ≤ t → first ≤ t - (lag + k) → t - (lag + k) - first < monthCount → termValue row first t lag k ≡ getD row (t - (lag + k) - first) 0
+  unfolding termValue termMonth valueIn
+  value-inside p q r = rw (le-leb (lag + k) t p, le-leb first (t - (lag + k)) q, lt-ltb (t - (lag + k) - first) monthCount r)
+
+  pub value-past : lag + k ≤ t → first ≤ t - (lag + k) → monthCount ≤ t - (lag + k) - first → termValue row first t lag k ≡ 0
+  unfolding termValue termMonth valueIn
+  value-past p q r = rw (le-leb (lag + k) t p, le-leb first (t - (lag + k)) q, le-ltb (t - (lag + k) - first) monthCount r)
+
 module _ (table : List (List ℕ)) (ok : TableInRange table) (first t s lag : ℕ) where
   -- a value of a term, present or not
   pub value-most : (k : ℕ) → termValue (getD table s []) first t lag k ≤ mostValue
@@ -58,7 +76,7 @@ module _ (table : List (List ℕ)) (ok : TableInRange table) (first t s lag : �
 
   -- where no month is missing each value is at least 1, so the mean of the window lies in 1 to the top value
   pub mean-least : (window : ℕ) → 1 ≤ window → termMissing table first t s lag window ≡ false → 1 ≤ termMean table first t s lag window
-  unfolding termMissing termMean
+  unfolding termMissing termMean meanOf
   mean-least window p h =
       half-up-ge _ window p 1
       (omega (arith, sum-ge window 1 (termValue (getD table s []) first t lag) (λ j q. present j (any-none window (λ k. eqb (termValue (getD table s []) first t lag k) 0) h j q))))
@@ -69,7 +87,7 @@ module _ (table : List (List ℕ)) (ok : TableInRange table) (first t s lag : �
           omega arith
 
   pub mean-most : (window : ℕ) → 1 ≤ window → termMean table first t s lag window ≤ mostValue
-  unfolding termMean
+  unfolding termMean meanOf
   mean-most window p = half-up-le _ window p mostValue (omega (arith, values-most window))
 
 -- the answer where no month is missing, and where one is

@@ -76,8 +76,11 @@ unfoldable pub termMissing : List (List ℕ) → ℕ → ℕ → ℕ → ℕ →
 termMissing table first t s lag window = anyBelow window (λ k. eqb (termValue (getD table s []) first t lag k) 0)
 
 -- "Its mean is sum/W half up"
+unfoldable pub meanOf : ℕ → ℕ → ℕ
+meanOf sum window = halfUp sum window
+
 unfoldable pub termMean : List (List ℕ) → ℕ → ℕ → ℕ → ℕ → ℕ → ℕ
-termMean table first t s lag window = halfUp (sumBelow window (termValue (getD table s []) first t lag)) window
+termMean table first t s lag window = meanOf (sumBelow window (termValue (getD table s []) first t lag)) window
 
 abbrev pub pickMean : Bool → Mean → Mean → Mean
 pickMean true a b = a

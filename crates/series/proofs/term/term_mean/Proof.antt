@@ -11,7 +11,7 @@ use borrow.Author.Tests.{eq-eqb, ne-eqb}
 use Rattle.numbers.specs.Bounded.{sumBelow, anyBelow}
 use Rattle.numbers.proofs.SumLaws.{sum-step}
 use Rattle.numbers.proofs.TestLaws.{any-more, any-holds}
-use Rattle.series.specs.Series.{termValue, termMissing, termMean, meanAnswer}
+use Rattle.series.specs.Series.{termValue, termMissing, meanOf, termMean, meanAnswer}
 use Rattle.series.proofs.SeriesLaws.{value-most, values-most}
 use Rattle.series.proofs.term.term_mean.Statement.{statement}
 use Rattle.series.proofs.term.term_mean.Tie as tie
@@ -87,7 +87,7 @@ half-up-requires c κs =
     )
 
 returns-2 : tie.Need-returns-2 Inv-loop μ-loop
-unfolding meanAnswer termMissing termMean
+unfolding meanAnswer termMissing termMean meanOf
 returns-2 c =
     let l = c .before .before in
     let s = l .before .before in

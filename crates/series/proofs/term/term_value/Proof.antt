@@ -1,7 +1,6 @@
--- Each way out is the definition at the tests that led there.
-use mathlib.Core.Path.{_≡_, refl}
-use borrow.Author.Tests.{le-leb, lt-leb, lt-ltb, le-ltb}
-use Rattle.series.specs.Series.{termValue, termMonth, valueIn}
+-- Each way out is a law of the value in one month, by where the month lies.
+use mathlib.Core.Path.{sym}
+use Rattle.series.proofs.SeriesLaws.{value-below, value-before, value-inside, value-past}
 use borrow.Author.Needs.{needs}
 use Rattle.series.proofs.term.term_value.Statement.{statement}
 use Rattle.series.proofs.term.term_value.Tie as tie
@@ -10,12 +9,10 @@ add-back : tie.Need-add-back
 add-back c = search needs
 
 returns : tie.Need-returns
-unfolding termValue termMonth
-returns c = rw (lt-leb _ _ (c .if1 .taken))
+returns c = let s = c .before in sym (value-below (s .args .row .now) (s .args .first) (s .args .month) (s .args .lag) (s .args .k) (c .if1 .taken))
 
 returns-2 : tie.Need-returns-2
-unfolding termValue termMonth valueIn
-returns-2 c = rw (le-leb _ _ (c .before .if1 .left), lt-leb _ _ (c .if2 .taken))
+returns-2 c = let s = c .before .before in sym (value-before (s .args .row .now) (s .args .first) (s .args .month) (s .args .lag) (s .args .k) (c .before .if1 .left) (c .if2 .taken))
 
 mul-result : tie.Need-mul-result
 mul-result c = search needs
@@ -24,12 +21,10 @@ element-copy-out-result : tie.Need-element-copy-out-result
 element-copy-out-result c = search needs
 
 returns-3 : tie.Need-returns-3
-unfolding termValue termMonth valueIn
-returns-3 c = rw (le-leb _ _ (c .before .before .before .if1 .left), le-leb _ _ (c .before .before .if2 .left), lt-ltb _ _ (c .before .if3 .taken))
+returns-3 c = let s = c .before .before .before .before in sym (value-inside (s .args .row .now) (s .args .first) (s .args .month) (s .args .lag) (s .args .k) (c .before .before .before .if1 .left) (c .before .before .if2 .left) (c .before .if3 .taken))
 
 returns-4 : tie.Need-returns-4
-unfolding termValue termMonth valueIn
-returns-4 c = rw (le-leb _ _ (c .before .before .if1 .left), le-leb _ _ (c .before .if2 .left), le-ltb _ _ (c .if3 .left))
+returns-4 c = let s = c .before .before .before in sym (value-past (s .args .row .now) (s .args .first) (s .args .month) (s .args .lag) (s .args .k) (c .before .before .if1 .left) (c .before .if2 .left) (c .if3 .left))
 
 pub term-value-spec : {M : Type 1} → statement M
 term-value-spec =
