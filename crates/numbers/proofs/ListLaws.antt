@@ -1,7 +1,7 @@
 -- Laws of the list of a function's values below a bound, and of a loop that writes it from the front.
 -- Assumes nothing.
-use mathlib.Core.Path.{_≡_, refl, sym, _∙_}
-use mathlib.Core.Bool.{cond}
+use mathlib.Core.Path.{_≡_, refl, sym, _∙_, ap, ap₂}
+use mathlib.Core.Bool.{Bool, true, false, cond}
 use mathlib.Core.List.{List, [], _∷_, _++_}
 use Prim.Native.Nat.{ℕ, zero, suc, _+_, _<_, _≤_}
 use native.Mathlib.Numerals.{add-one}
@@ -10,7 +10,7 @@ use native.Mathlib.Decide.{ℕ-discrete, decLt}
 use lib.Dec.{ltb}
 use lib.ListN.{length, getD, take, set, replicate, length-append, length-set, length-replicate, getD-replicate, List·getD-append, List·getD-eq-default}
 use lib.Seq.{take-suc-set, take-all, getD-at, ext-getD, getD-set-same, getD-set-other}
-use borrow.Author.Tests.{lt-ltb, le-ltb}
+use borrow.Author.Tests.{lt-ltb, le-ltb, ltb-true}
 use Rattle.numbers.specs.Bounded.{listBelow, filledBelow}
 use Rattle.numbers.proofs.BoolLaws.{by-last}
 
@@ -81,3 +81,37 @@ module _ {A : Type 0} (size : ℕ) (empty : A) (f : ℕ → A) where
       at j q (yes e) =
           rw e (getD-set-same (filledBelow size empty k f) k (f k) empty (omega (arith, filled-length k)) ∙ sym (filled-at (k + 1) k (omega arith) p))
       at j q (no e) = getD-set-other (filledBelow size empty k f) k j (f k) empty e ∙ beside j q (decLt j k) e
+
+-- two functions that agree below k fill alike
+pub filled-same : {A : Type 0} (size : ℕ) (empty : A) (k : ℕ) (f g : ℕ → A) → ((j : ℕ) → j < k → f j ≡ g j) → filledBelow size empty k f ≡ filledBelow size empty k g
+unfolding filledBelow
+filled-same {A = A} size empty k f g h =
+    list-same size (λ j. cond (ltb j k) (f j) empty) (λ j. cond (ltb j k) (g j) empty) (λ j p. pick j (ltb j k) refl)
+  where
+    pick : (j : ℕ) (b : Bool) → ltb j k ≡ b → cond b (f j) empty ≡ cond b (g j) empty
+    pick j true e = h j (ltb-true j k e)
+    pick j false e = refl
+
+-- filled lists: one whose values are all empty, one that a loop fills or leaves
+module _ {A : Type 0} (size : ℕ) (empty : A) (k : ℕ) (f : ℕ → A) where
+  pub filled-empty : ((j : ℕ) → j < k → f j ≡ empty) → replicate size empty ≡ filledBelow size empty k f
+  unfolding filledBelow
+  filled-empty h = filled-none size empty f ∙ list-same size _ _ (λ j p. go j (decLt j k))
+    where
+      go : (j : ℕ) → Dec (j < k) → cond (ltb j 0) (f j) empty ≡ cond (ltb j k) (f j) empty
+      go j (yes q) = rw (le-ltb j 0 (omega arith), lt-ltb j k q) (sym (h j q))
+      go j (no q) = rw (le-ltb j 0 (omega arith), le-ltb j k (omega arith))
+
+  pub filled-next : (l : List A) (v : A) → k < size → l ≡ filledBelow size empty k f → v ≡ f k → set l k v ≡ filledBelow size empty (k + 1) f
+  filled-next l v p h e = ap₂ (λ m w. set m k w) h e ∙ filled-more size empty f k p
+
+  pub filled-skip : f k ≡ empty → filledBelow size empty k f ≡ filledBelow size empty (k + 1) f
+  unfolding filledBelow
+  filled-skip e = list-same size _ _ (λ j p. go j (decLt j k) (decLt k j))
+    where
+      go : (j : ℕ) → Dec (j < k) → Dec (k < j) → cond (ltb j k) (f j) empty ≡ cond (ltb j (k + 1)) (f j) empty
+      go j (yes q) r = rw (lt-ltb j k q, lt-ltb j (k + 1) (omega arith))
+      go j (no q) (yes r) = rw (le-ltb j k (omega arith), le-ltb j (k + 1) (omega arith))
+      go j (no q) (no r) =
+          let h : j ≡ k = omega arith in
+          rw (le-ltb j k (omega arith), lt-ltb j (k + 1) (omega arith)) (sym (ap f h ∙ e))

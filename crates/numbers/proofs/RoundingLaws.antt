@@ -61,3 +61,6 @@ pub away-size : (x : ℤ) (b : ℕ) → natAbs (halfAway x b) ≡ halfUp (natAbs
 unfolding halfAway
 away-size (pos n) b = refl
 away-size (negsuc n) b = size-neg (halfUp (suc n) b)
+
+pub away-le : (x : ℤ) (b c : ℕ) → 0 < b → natAbs x ≤ c * b → natAbs (halfAway x b) ≤ c
+away-le x b c some h = rw (away-size x b) (half-up-le (natAbs x) b some c h)

@@ -1,14 +1,14 @@
 -- Laws of signed numbers as differences of unsigned ones, by which proofs leave ℤ for ℕ; and how an i64 relates
 -- to ℤ. Assumes nothing.
 use mathlib.Core.Path.{_≡_, refl, sym, _∙_, ap, ap₂}
-use mathlib.Core.Bool.{Bool, true, false, true≢false, false≢true}
+use mathlib.Core.Bool.{Bool, true, false, cond, Bool·beq, true≢false, false≢true}
 use Prim.Native.Nat.{ℕ, zero, suc, _+_, _-_, _*_, _^_, _<_, _≤_}
 use native.Mathlib.Omega.{arith}
 use native.Mathlib.Decide.{decLt}
 use native.Mathlib.Numerals.{add-one}
-use native.Mathlib.Nat.{suc-mul}
+use native.Mathlib.Nat.{suc-mul, mul-le-mul}
 use lib.Dec.{T}
-use lib.IntN.{ℤ, pos, negsuc, negℤ, subℕ, natAbs, _+ℤ_, _-ℤ_, _*ℤ_}
+use lib.IntN.{ℤ, pos, negsuc, negℤ, subℕ, natAbs, _+ℤ_, _-ℤ_, _*ℤ_, +ℤ-assoc, +ℤ-comm}
 use lib.Signed.{ltZ, leZ, nonNeg}
 use borrow.Author.Tests.{lt-ltb, le-ltb, ltb-true, leb-true, leb-false, le-leb, lt-leb}
 use mir.Syntax.{w64}
@@ -72,6 +72,10 @@ size-add (pos a) (pos b) = omega arith
 size-add (pos a) (negsuc b) = sub-cases (λ z. natAbs z ≤ a + suc b) a (suc b) (λ h. omega arith) (λ h. omega arith)
 size-add (negsuc a) (pos b) = sub-cases (λ z. natAbs z ≤ suc a + b) b (suc a) (λ h. omega arith) (λ h. omega arith)
 size-add (negsuc a) (negsuc b) = omega arith
+
+-- a difference of two numbers is at most the greater in size
+pub size-sub-le : (a b most : ℕ) → a ≤ most → b ≤ most → natAbs (subℕ a b) ≤ most
+size-sub-le a b most p q = sub-cases (λ z. natAbs z ≤ most) a b (λ h. omega arith) (λ h. omega arith)
 
 pub size-mul : (y z : ℤ) → natAbs (y *ℤ z) ≡ natAbs y * natAbs z
 size-mul (pos a) (pos b) = refl
@@ -154,3 +158,85 @@ within-low zero (pos n) h = absurd (true≢false (sym (le-leb 0 n (omega arith))
 within-low (suc b) (pos n) h = absurd (true≢false (sym (ap (λ z. leZ z (pos n)) (neg-sub (suc b))) ∙ h))
 within-low zero (negsuc n) h = lt-leb (suc n) 0 (omega arith)
 within-low (suc b) (negsuc n) h = lt-leb (suc n) (suc b) (omega (arith, leb-false n b (rw (neg-sub (suc b)) at h)))
+
+-- a sum of differences is the difference of the sums
+pub signed-sum-sub : (k : ℕ) (f g : ℕ → ℕ) → signedSumBelow k (λ j. subℕ (f j) (g j)) ≡ subℕ (sumBelow k f) (sumBelow k g)
+unfolding signedSumBelow sumBelow
+signed-sum-sub zero f g = refl
+signed-sum-sub (suc k) f g =
+    ap (λ (z : ℤ). z +ℤ subℕ (f k) (g k)) (signed-sum-sub k f g)
+    ∙ sub-add (sumBelow k f) (sumBelow k g) (f k) (g k)
+
+-- two sums of two, regrouped
+pub add-across : (a b c d : ℤ) → (a +ℤ b) +ℤ (c +ℤ d) ≡ (a +ℤ c) +ℤ (b +ℤ d)
+add-across a b c d =
+    +ℤ-assoc a b (c +ℤ d)
+    ∙ ap (λ (z : ℤ). a +ℤ z) (sym (+ℤ-assoc b c d) ∙ ap (λ (z : ℤ). z +ℤ d) (+ℤ-comm b c) ∙ +ℤ-assoc c b d)
+    ∙ sym (+ℤ-assoc a c (b +ℤ d))
+
+-- the two parts of a difference, and a difference added to a number
+pub sub-parts : (a b : ℕ) → (positivePart (subℕ a b) ≡ a - b) × (negativePart (subℕ a b) ≡ b - a)
+sub-parts a b =
+    sub-cases (λ z. (positivePart z ≡ a - b) × (negativePart z ≡ b - a)) a b (λ h. omega arith) (λ h. omega arith)
+
+pub add-sub : (z : ℤ) (a b : ℕ) → z +ℤ subℕ a b ≡ subℕ (positivePart z + a) (negativePart z + b)
+add-sub z a b =
+    ap (λ (y : ℤ). y +ℤ subℕ a b) (parts z) ∙ sub-add (positivePart z) (negativePart z) a b
+
+-- the size by the two parts, and the part of one sign
+pub size-parts : (z : ℤ) → natAbs z ≡ positivePart z + negativePart z
+size-parts (pos n) = omega arith
+size-parts (negsuc n) = omega arith
+
+pub part-size : (negative : Bool) (z : ℤ) → Bool·beq (isNegative z) negative ≡ true → natAbs z ≡ cond negative (negativePart z) (positivePart z)
+unfolding isNegative
+part-size true (pos n) h = absurd (false≢true h)
+part-size false (pos n) h = refl
+part-size true (negsuc n) h = refl
+part-size false (negsuc n) h = absurd (false≢true h)
+
+pub part-most : (negative : Bool) (z : ℤ) → cond negative (negativePart z) (positivePart z) ≤ natAbs z
+part-most true z = omega (arith, size-parts z)
+part-most false z = omega (arith, size-parts z)
+
+pub part-none : (negative : Bool) (z : ℤ) → Bool·beq (isNegative z) negative ≡ false → cond negative (negativePart z) (positivePart z) ≡ 0
+unfolding isNegative
+part-none true (pos n) h = refl
+part-none false (pos n) h = absurd (true≢false h)
+part-none true (negsuc n) h = absurd (true≢false h)
+part-none false (negsuc n) h = refl
+
+-- a number whose part above zero is 0 fails the test of being above zero; the same below
+pub not-above : (z : ℤ) → positivePart z ≡ 0 → ltZ (pos 0) z ≡ false
+not-above (pos n) h = le-ltb 0 n (omega arith)
+not-above (negsuc n) h = refl
+
+pub not-below : (z : ℤ) → negativePart z ≡ 0 → isNegative z ≡ false
+unfolding isNegative
+not-below (pos n) h = refl
+not-below (negsuc n) h = absurd (omega arith)
+
+pub size-add-le : (y z : ℤ) {a b : ℕ} → natAbs y ≤ a → natAbs z ≤ b → natAbs (y +ℤ z) ≤ a + b
+size-add-le y z p q = omega (arith, size-add y z)
+
+pub size-mul-le : (y z : ℤ) {a b : ℕ} → natAbs y ≤ a → natAbs z ≤ b → natAbs (y *ℤ z) ≤ a * b
+size-mul-le y z p q = rw (size-mul y z) (mul-le-mul p q)
+
+-- values of the machine that are a and b: that one fits, what it adds and multiplies of two
+pub is-fits : (x a : ℤ) → x ≡ a → natAbs a < 2 ^ 63 → SFits w64 x
+is-fits x a e h = rw e (size-fits a h)
+
+module _ (x y a b : ℤ) (f : SFits w64 x) (g : SFits w64 y) (e : x ≡ a) (h : y ≡ b) where
+  pub sum-bits : toZ w64 (ofZ w64 x) +ℤ toZ w64 (ofZ w64 y) ≡ a +ℤ b
+  sum-bits = add-bits x y f g ∙ ap₂ _+ℤ_ e h
+
+  pub product-bits : toZ w64 (ofZ w64 x) *ℤ toZ w64 (ofZ w64 y) ≡ a *ℤ b
+  product-bits = mul-bits x y f g ∙ ap₂ _*ℤ_ e h
+
+-- sums of two signed functions
+pub signed-sum-add : (n : ℕ) (f g : ℕ → ℤ) → signedSumBelow n (λ i. f i +ℤ g i) ≡ signedSumBelow n f +ℤ signedSumBelow n g
+unfolding signedSumBelow
+signed-sum-add zero f g = refl
+signed-sum-add (suc n) f g =
+    ap (λ (z : ℤ). z +ℤ (f n +ℤ g n)) (signed-sum-add n f g)
+    ∙ add-across (signedSumBelow n f) (signedSumBelow n g) (f n) (g n)

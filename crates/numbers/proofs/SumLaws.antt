@@ -1,5 +1,5 @@
 -- Laws of the sum below a bound. Assumes nothing.
-use mathlib.Core.Path.{_≡_, refl}
+use mathlib.Core.Path.{_≡_, refl, ap}
 use Prim.Native.Nat.{ℕ, zero, suc, _+_, _-_, _*_, _≤_, _<_}
 use native.Mathlib.Numerals.{add-one}
 use native.Mathlib.Omega.{arith}
@@ -69,3 +69,12 @@ pub sum-scale : (k c : ℕ) (f : ℕ → ℕ) → sumBelow k (λ j. c * f j) ≡
 unfolding sumBelow
 sum-scale zero c f = omega arith
 sum-scale (suc k) c f = rw (mul-add, sum-scale k c f)
+
+-- the steps of a function that never falls add up to how far it climbs
+pub sum-steps : (k : ℕ) (g : ℕ → ℕ) → ((j : ℕ) → j < k → g j ≤ g (j + 1)) → sumBelow k (λ j. g (j + 1) - g j) + g 0 ≡ g k
+unfolding sumBelow
+sum-steps zero g h = omega arith
+sum-steps (suc k) g h =
+    let ih : sumBelow k (λ j. g (j + 1) - g j) + g 0 ≡ g k = sum-steps k g (λ j p. h j (omega arith)) in
+    let e : g (k + 1) ≡ g (suc k) = ap g (add-one k) in
+    omega (arith, h k (omega arith))

@@ -60,3 +60,9 @@ any-holds (suc k) t j p h =
     (λ i q e. rw (any-holds k t i q e))
     (λ e. rw (e, or-true (anyBelow k t)))
     j p h
+
+-- a test that fails at every index holds at none
+pub any-never : (k : ℕ) (t : ℕ → Bool) → ((j : ℕ) → j < k → t j ≡ false) → anyBelow k t ≡ false
+unfolding anyBelow
+any-never zero t h = refl
+any-never (suc k) t h = rw (any-never k t (λ j p. h j (omega arith)), h k (omega arith))

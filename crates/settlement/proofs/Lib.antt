@@ -1,0 +1,4 @@
+pub mod AmountLaws
+pub mod ShareLaws
+pub mod SettlementLaws
+pub mod MonthLaws

@@ -1,0 +1,112 @@
+-- What follows for a month from the three laws of the shares alone: no sign turns, transfers add up to zero, balances
+-- add up to the positions, no balance is above zero beside one below, no size grows. Assumes nothing.
+use mathlib.Core.Path.{_≡_, refl, _∙_, ap}
+use mathlib.Core.Bool.{true, false, and-false}
+use Prim.Native.Nat.{ℕ, zero, suc, _+_, _-_, _≤_, _<_}
+use native.Mathlib.Omega.{arith}
+use native.Mathlib.Decide.{decLe}
+use lib.IntN.{ℤ, pos, subℕ, natAbs, _+ℤ_, +ℤ-idr}
+use lib.Signed.{ltZ}
+use Rattle.numbers.specs.Bounded.{sumBelow, anyBelow}
+use Rattle.numbers.specs.Signed.{signedSumBelow, positivePart, negativePart, isNegative}
+use Rattle.numbers.proofs.SignedLaws.{sub-eq, signed-sum-sub, add-across, add-sub, sub-parts, size-parts, not-above, not-below, signed-sum-add}
+use Rattle.settlement.specs.Share.{sideTotal}
+use Rattle.settlement.specs.Settlement.{positionOf, owing, owed, transferred, paid, received, transfer, newBalance, oneSign}
+use Rattle.settlement.proofs.ShareLaws.{shares-total, share-most, share-whole}
+use Rattle.numbers.proofs.TestLaws.{any-never}
+
+module _ (n : ℕ) (position : ℕ → ℤ) where
+  -- what is transferred is at most each side's total
+  enough : (transferred n position ≤ sideTotal n (owing position)) × (transferred n position ≤ sideTotal n (owed position))
+  unfolding transferred
+  enough = omega arith
+
+  -- what is paid is at most what is owing, what is received at most what is owed
+  pub paid-most : (i : ℕ) → i < n → paid n position i ≤ owing position i
+  unfolding paid
+  paid-most = share-most n (owing position) (transferred n position) (enough .0)
+
+  pub received-most : (i : ℕ) → i < n → received n position i ≤ owed position i
+  unfolding received
+  received-most = share-most n (owed position) (transferred n position) (enough .1)
+
+  -- a new balance is what is still owing less what is still owed
+  pub balance-is : (i : ℕ) → i < n → newBalance n position i ≡ subℕ (owing position i - paid n position i) (owed position i - received n position i)
+  unfolding newBalance transfer owing owed
+  balance-is i p =
+      add-sub (position i) (received n position i) (paid n position i)
+      ∙ sub-eq (owing position i + received n position i) (owed position i + paid n position i)
+      (owing position i - paid n position i) (owed position i - received n position i)
+      (omega (arith, paid-most i p, received-most i p))
+
+  parts-most : (i : ℕ) → i < n → (positivePart (newBalance n position i) ≤ owing position i - paid n position i) × (negativePart (newBalance n position i) ≤ owed position i - received n position i)
+  parts-most i p =
+      rw (balance-is i p)
+      (omega (arith, sub-parts (owing position i - paid n position i) (owed position i - received n position i)))
+
+  -- no position changes its sign, and none grows in size: the part above zero falls by what is paid, the part below
+  -- by what is received
+  pub balance-above : (i : ℕ) → i < n → positivePart (newBalance n position i) ≤ positivePart (position i)
+  unfolding owing
+  balance-above i p = omega (arith, parts-most i p)
+
+  pub balance-below : (i : ℕ) → i < n → negativePart (newBalance n position i) ≤ negativePart (position i)
+  unfolding owed
+  balance-below i p = omega (arith, parts-most i p)
+
+  pub balance-size : (i : ℕ) → i < n → natAbs (newBalance n position i) ≤ natAbs (position i)
+  balance-size i p =
+      omega (arith, size-parts (newBalance n position i), size-parts (position i), balance-above i p, balance-below i p)
+
+  -- either side's shares add up to what is transferred, so transfers add up to zero
+  pub paid-total : sumBelow n (paid n position) ≡ transferred n position
+  unfolding paid
+  paid-total = shares-total n (owing position) (transferred n position) (enough .0)
+
+  pub received-total : sumBelow n (received n position) ≡ transferred n position
+  unfolding received
+  received-total = shares-total n (owed position) (transferred n position) (enough .1)
+
+  pub transfers-zero : signedSumBelow n (transfer n position) ≡ pos 0
+  unfolding transfer
+  transfers-zero =
+      signed-sum-sub n (received n position) (paid n position)
+      ∙ sub-eq (sumBelow n (received n position)) (sumBelow n (paid n position)) 0 0
+      (omega (arith, received-total, paid-total))
+
+  -- the new balances add up to the positions
+  pub balances-total : signedSumBelow n (newBalance n position) ≡ signedSumBelow n position
+  unfolding newBalance
+  balances-total =
+      signed-sum-add n position (transfer n position)
+      ∙ ap (λ (z : ℤ). signedSumBelow n position +ℤ z) transfers-zero
+      ∙ +ℤ-idr (signedSumBelow n position)
+
+  -- the smaller side is transferred whole, so no balance is left on it
+  none-above : sideTotal n (owing position) ≤ sideTotal n (owed position) → anyBelow n (λ i. ltZ (pos 0) (newBalance n position i)) ≡ false
+  unfolding paid transferred
+  none-above h =
+      let whole = share-whole n (owing position) (transferred n position) (enough .0) (omega arith) in
+      any-never n (λ i. ltZ (pos 0) (newBalance n position i))
+      (λ i p. not-above (newBalance n position i) (omega (arith, parts-most i p, whole i p)))
+
+  none-below : sideTotal n (owed position) ≤ sideTotal n (owing position) → anyBelow n (λ i. isNegative (newBalance n position i)) ≡ false
+  unfolding received transferred
+  none-below h =
+      let whole = share-whole n (owed position) (transferred n position) (enough .1) (omega arith) in
+      any-never n (λ i. isNegative (newBalance n position i))
+      (λ i p. not-below (newBalance n position i) (omega (arith, parts-most i p, whole i p)))
+
+  -- afterwards never a balance above zero beside one below
+  pub balances-sign : oneSign n (newBalance n position) ≡ true
+  unfolding oneSign
+  balances-sign = go (decLe (sideTotal n (owing position)) (sideTotal n (owed position)))
+    where
+      go : Dec (sideTotal n (owing position) ≤ sideTotal n (owed position)) → oneSign n (newBalance n position) ≡ true
+      go (yes h) = rw (none-above h)
+      go (no h) = rw (none-below (omega arith), and-false)
+
+-- so the new balances add up to the old ones plus the amounts
+pub balances-collected : (n : ℕ) (balance amount : ℕ → ℤ) → signedSumBelow n (newBalance n (positionOf balance amount)) ≡ signedSumBelow n balance +ℤ signedSumBelow n amount
+unfolding positionOf
+balances-collected n balance amount = balances-total n (positionOf balance amount) ∙ signed-sum-add n balance amount

@@ -1,0 +1,4 @@
+pub mod Amount
+pub mod Share
+pub mod Settlement
+pub mod Month

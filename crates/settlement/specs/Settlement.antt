@@ -1,0 +1,56 @@
+-- One month's settlement ("The ledger" of document 01): positions, the two sides, transfers, new balances, in $.
+-- Assumes nothing.
+use mathlib.Core.Bool.{Bool, cond, not, _&&_}
+use Prim.Native.Nat.{ℕ, _*_, _^_, min}
+use lib.IntN.{ℤ, pos, subℕ, _+ℤ_}
+use lib.Signed.{ltZ}
+use Rattle.numbers.specs.Bounded.{allBelow, anyBelow}
+use Rattle.numbers.specs.Signed.{positivePart, negativePart, withinSize, isNegative}
+use Rattle.settlement.specs.Share.{sideTotal, share}
+
+-- "Position = balance + MFAR" (a term of 01)
+unfoldable pub positionOf : (ℕ → ℤ) → (ℕ → ℤ) → ℕ → ℤ
+positionOf balance amount i = balance i +ℤ amount i
+
+-- balances and positions lie within ±10^15
+abbrev pub mostPosition : ℕ
+mostPosition = 10 ^ 15
+
+-- cause 13 is met where this is false: "position beyond ±10^15"
+unfoldable pub positionsInRange : ℕ → (ℕ → ℤ) → Bool
+positionsInRange n position = allBelow n (λ i. withinSize mostPosition (position i))
+
+-- "Positive positions owe" (VTRS, a term of 01, is their total), "negative ones are owed" (VTAS)
+unfoldable pub owing : (ℕ → ℤ) → ℕ → ℕ
+owing position i = positivePart (position i)
+
+unfoldable pub owed : (ℕ → ℤ) → ℕ → ℕ
+owed position i = negativePart (position i)
+
+-- one side by its sign: those below zero, or the others
+unfoldable pub sideSize : Bool → (ℕ → ℤ) → ℕ → ℕ
+sideSize negative position i = cond negative (owed position i) (owing position i)
+
+-- T (a term of 01), "the smaller total"
+unfoldable pub transferred : ℕ → (ℕ → ℤ) → ℕ
+transferred n position = min (sideTotal n (owing position)) (sideTotal n (owed position))
+
+-- what i pays and receives
+unfoldable pub paid : ℕ → (ℕ → ℤ) → ℕ → ℕ
+paid n position i = share n (owing position) (transferred n position) i
+
+unfoldable pub received : ℕ → (ℕ → ℤ) → ℕ → ℕ
+received n position i = share n (owed position) (transferred n position) i
+
+-- "Transfers .. paid negative, received positive"
+unfoldable pub transfer : ℕ → (ℕ → ℤ) → ℕ → ℤ
+transfer n position i = subℕ (received n position i) (paid n position i)
+
+-- "The new balance moves towards zero by the share"
+unfoldable pub newBalance : ℕ → (ℕ → ℤ) → ℕ → ℤ
+newBalance n position i = position i +ℤ transfer n position i
+
+-- balances are "never of both signs": whether not both one above zero and one below is among n of them
+unfoldable pub oneSign : ℕ → (ℕ → ℤ) → Bool
+oneSign n balance =
+    not (anyBelow n (λ i. ltZ (pos 0) (balance i)) && anyBelow n (λ i. isNegative (balance i)))

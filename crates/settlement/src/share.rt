@@ -1,0 +1,45 @@
+// The shares of one side, by running totals. A side is a size for each distributor, 0 for those who are not on it.
+ghost use mathlib.Core.Path.{_≡_};
+ghost use Prim.Native.Nat.{_≤_, _<_, _^_};
+ghost use lib.ListN.{getD, replicate};
+ghost use Rattle.settlement.specs.Share.{sideTotal};
+ghost use Rattle.settlement.specs.Month.{shareList, Side};
+use numbers::division::multiply_divide;
+
+// The total of a side.
+pub fn side_total(n: usize, sizes: &[u64; 40]) -> u64
+    requires { ⌜ Side n (now sizes) ⌝ }
+    ensures { λ r. ⌜ r ≡ sideTotal n (λ i. getD (now (sizes .entry)) i 0) ⌝ }
+{
+    let mut total: u64 = 0;
+    let mut i: usize = 0;
+    while i < n {
+        total += sizes[i];
+        i += 1;
+    }
+    total
+}
+
+// The shares of a side in the transferred total, in one pass: with each distributor's own size, less the same before
+// it.
+pub fn shares(n: usize, sizes: &[u64; 40], transferred: u64) -> [u64; 40]
+    requires { ⌜ Side n (now sizes) ⌝ ∗ ⌜ transferred ≤ sideTotal n (λ i. getD (now sizes) i 0) ⌝ }
+    ensures { λ r. ⌜ r ≡ shareList n (now (sizes .entry)) transferred ⌝ }
+{
+    let total = side_total(n, sizes);
+    let mut shares = [0u64; 40];
+    if total == 0 {
+        return shares;
+    }
+    let mut running: u64 = 0;
+    let mut before: u64 = 0;
+    let mut i: usize = 0;
+    while i < n {
+        running += sizes[i];
+        let shared = multiply_divide(transferred, running, total).quotient;
+        shares[i] = shared - before;
+        before = shared;
+        i += 1;
+    }
+    shares
+}
