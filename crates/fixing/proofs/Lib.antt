@@ -1,0 +1,13 @@
+mod SearchLaws
+mod PriceLaws
+mod RoundLaws
+mod GreatestLaws
+pub mod LimitLaws
+mod PassLaws
+mod LoopLaws
+mod AnswerLaws
+pub mod AverageLaws
+pub mod SectorLaws
+pub mod InputLaws
+pub mod FixingLaws
+pub mod VerdictLaws

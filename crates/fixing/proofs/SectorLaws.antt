@@ -1,0 +1,49 @@
+-- Laws of the sectors' presences and charges: none at first, one place more, what an allowed factor is.
+-- Assumes nothing.
+use mathlib.Core.Path.{_≡_, sym, _∙_, ap, ap₂}
+use native.Mathlib.Omega.{arith}
+use mathlib.Core.Bool.{Bool, true, false, _&&_}
+use mathlib.Core.List.{List}
+use Prim.Native.Nat.{ℕ, _+_, _*_, _/_, _≤_, _<_}
+use lib.Dec.{leb}
+use lib.ListN.{set}
+use lib.IntN.{ℤ, pos}
+use borrow.Author.Tests.{leb-true}
+use Rattle.numbers.specs.Bounded.{allBelow, filledBelow}
+use Rattle.numbers.proofs.BoolLaws.{and-left}
+use Rattle.numbers.proofs.TestLaws.{all-at}
+use Rattle.numbers.proofs.ListLaws.{filled-none, filled-more, filled-same}
+use Rattle.fixing.specs.Charge.{sectorCharge}
+use Rattle.fixing.specs.Sector.{sectorCount, mostFactor, factorAt, sectorPresent, hasSector, sectorsAllowed, chargedPlaces, sectorCharges, noCharges}
+use Rattle.fixing.specs.declared.sector.SectorCharges.{SectorCharges}
+
+module _ (charge : ℕ → ℤ) (sectors : List ℕ) where
+  pub places-none : noCharges ≡ chargedPlaces 0 charge sectors
+  unfolding noCharges chargedPlaces
+  places-none =
+      ap₂ {C = SectorCharges} (λ p q. record { present = p; charges = q })
+      (sym (filled-none 320 false _) ∙ filled-none 320 false _)
+      (sym (filled-none 320 (pos 0) _) ∙ filled-none 320 (pos 0) _)
+
+  -- one place more, with its presence and its charge
+  pub places-more : (k : ℕ) (force : SectorCharges) (p : Bool) (z : ℤ) → k < 320 → force ≡ chargedPlaces k charge sectors → p ≡ sectorPresent sectors k → z ≡ sectorCharge (charge (k / sectorCount)) (factorAt sectors k) → _≡_ {A = SectorCharges} (record { present = set (force .present) k p; charges = set (force .charges) k z }) (chargedPlaces (k + 1) charge sectors)
+  unfolding chargedPlaces
+  places-more k force p z few e f g =
+      ap₂ {C = SectorCharges} (λ x y. record { present = x; charges = y })
+      (rw (e, f) (filled-more 320 false (sectorPresent sectors) k few))
+      (rw (e, g) (filled-more 320 (pos 0) (λ i. sectorCharge (charge (i / sectorCount)) (factorAt sectors i)) k few))
+
+pub allowed-factor : (n : ℕ) (sectors : List ℕ) → sectorsAllowed n sectors ≡ true → (k : ℕ) → k < n * sectorCount → factorAt sectors k ≤ mostFactor
+unfolding sectorsAllowed
+allowed-factor n sectors h k p =
+    leb-true _ _
+    (all-at (n * sectorCount) (λ i. leb (factorAt sectors i) mostFactor)
+    (and-left (allBelow (n * sectorCount) (λ i. leb (factorAt sectors i) mostFactor)) (allBelow n (hasSector sectors)) h)
+    k p)
+
+-- charges that agree for the n distributors charge their sectors alike
+pub sectors-same : (n : ℕ) (f g : ℕ → ℤ) (sectors : List ℕ) → ((i : ℕ) → i < n → f i ≡ g i) → sectorCharges n f sectors ≡ sectorCharges n g sectors
+unfolding sectorCharges chargedPlaces
+sectors-same n f g sectors h =
+    ap {B = SectorCharges} (λ q. record { present = filledBelow 320 false (n * sectorCount) (sectorPresent sectors); charges = q })
+    (filled-same 320 (pos 0) (n * sectorCount) _ _ (λ k p. ap (λ z. sectorCharge z (factorAt sectors k)) (h (k / sectorCount) (omega arith))))

@@ -1,0 +1,50 @@
+-- What the lines add up to at a price of 1 is the energy.
+use mathlib.Core.Path.{_≡_, sym, _∙_, ap}
+use mathlib.Core.List.{List}
+use Prim.Native.Nat.{ℕ, _<_}
+use lib.ListN.{getD}
+use Rattle.numbers.specs.Bounded.{filledBelow, listBelow}
+use Rattle.numbers.specs.Units.{noPrice, noEnergy}
+use Rattle.numbers.specs.declared.units.Energy.{Energy}
+use Rattle.numbers.specs.declared.units.PesoPrice.{PesoPrice}
+use Rattle.numbers.proofs.ListLaws.{filled-same, list-at}
+use Rattle.fixing.specs.Average.{linesAmount, suppliedEnergy, energyList, PricedLines}
+use Rattle.fixing.proofs.AverageLaws.{ones, ones-priced, ones-add}
+use borrow.Author.Needs.{needs}
+use Rattle.fixing.proofs.average.energies.Statement.{statement}
+use Rattle.fixing.proofs.average.energies.Tie as tie
+use native.Mathlib.Omega.{arith}
+
+-- the word that is added up for distributor i
+word : (c : tie.After-add-up) (i : ℕ) → i < 40 → getD (c .add-up .result) i 0 ≡ suppliedEnergy (c .before .before .before .args .count) (c .before .before .before .args .lines .now) i
+word c i p =
+    let s = c .before .before .before in
+    ap (λ (xs : List ℕ). getD xs i 0) (c .add-up .ensures)
+    ∙ list-at _ 40 0 i p
+    ∙ ap (λ (prices : List PesoPrice). linesAmount (λ j. getD prices j noPrice .0) (s .args .count) (s .args .lines .now) i) (c .before .price-of-one .ensures)
+    ∙ ones-add (s .args .n) (s .args .lines .now) (s .args .count) (s .pre) i
+
+price-of-one-requires : tie.Need-price-of-one-requires
+price-of-one-requires c κs = search needs
+
+add-up-requires : tie.Need-add-up-requires
+add-up-requires c κs =
+    let s = c .before .before in
+    rw (c .price-of-one .ensures) (ones-priced (s .args .n) (s .args .lines .now) (s .args .count) (s .pre))
+
+as-energies-requires : tie.Need-as-energies-requires
+as-energies-requires c κs = c .before .before .before .pre .few
+
+returns : tie.Need-returns
+unfolding energyList
+returns c =
+    let s = c .before .before .before .before in
+    let lines = s .args .lines .now in
+    c .as-energies .ensures
+    ∙ filled-same 40 noEnergy (s .args .n) _ (λ i. record { 0 = suppliedEnergy (s .args .count) lines i })
+    (λ i p. ap {B = Energy} (λ x. record { 0 = x })
+    (word (c .before) i (omega (arith, s .pre .few))))
+
+pub energies-spec : {M : Type 1} → statement M
+energies-spec =
+    tie.close (tie.spec price-of-one-requires add-up-requires as-energies-requires returns)

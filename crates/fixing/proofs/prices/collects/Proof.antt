@@ -1,0 +1,86 @@
+-- The invariant: what the distributors passed pay.
+use mathlib.Core.Path.{_≡_, refl}
+use Prim.Native.Nat.{_≤_, _-_, _+_, _*_}
+use lib.ListN.{getD}
+use Rattle.numbers.specs.Bounded.{sumBelow}
+use Rattle.numbers.specs.Units.{noPrice, noEnergy}
+use Rattle.numbers.proofs.SumLaws.{sum-step}
+use Rattle.fixing.specs.Limit.{contractTotal}
+use Rattle.fixing.specs.Prices.{distributors}
+use Rattle.fixing.proofs.PassLaws.{paid-most}
+use Rattle.fixing.proofs.prices.collects.Statement.{statement}
+use Rattle.fixing.proofs.prices.collects.Tie as tie
+use native.Mathlib.Omega.{arith}
+
+abbrev Inv-loop : tie.InvT-loop
+Inv-loop n prices energies total₀ i₀ total i = (i ≤ n) × (total ≡ sumBelow i (λ j. getD prices j noPrice .0 * getD energies j noEnergy .0))
+
+abbrev μ-loop : tie.MeasureT-loop
+μ-loop n prices energies total₀ i₀ total i = n - i
+
+loop-holds : tie.Need-loop-holds Inv-loop μ-loop
+unfolding sumBelow
+loop-holds c = (omega arith, refl)
+
+mul-total : tie.Need-mul-total Inv-loop μ-loop
+mul-total c = omega arith
+
+element-copy-out-total : tie.Need-element-copy-out-total Inv-loop μ-loop
+element-copy-out-total c = omega arith
+
+mul-total-2 : tie.Need-mul-total-2 Inv-loop μ-loop
+mul-total-2 c = omega arith
+
+element-copy-out-total-2 : tie.Need-element-copy-out-total-2 Inv-loop μ-loop
+element-copy-out-total-2 c = omega arith
+
+-- what is paid so far, with the distributor at hand
+module _ (c : tie.In-loop Inv-loop μ-loop) where
+  abbrev l : tie.At-loop Inv-loop μ-loop
+  l = c .before
+
+  abbrev s : tie.Start Inv-loop μ-loop
+  s = l .before
+
+  paid : l .loop .total + getD (s .args .t2) (l .loop .i) noPrice .0 * getD (s .args .t3) (l .loop .i) noEnergy .0 ≤ 5120000000000000
+  paid = omega (arith, paid-most (distributors (s .args .n) (s .args .t2) (s .args .t3)) (s .pre) (l .loop .i) (omega arith))
+
+mul-total-3 : tie.Need-mul-total-3 Inv-loop μ-loop
+mul-total-3 c = omega (arith, paid c)
+
+add-total : tie.Need-add-total Inv-loop μ-loop
+add-total c = omega (arith, paid c)
+
+add-i : tie.Need-add-i Inv-loop μ-loop
+add-i c = omega arith
+
+loop-less : tie.Need-loop-less Inv-loop μ-loop
+loop-less c = omega arith
+
+loop-again : tie.Need-loop-again Inv-loop μ-loop
+loop-again c = (omega arith, rw sum-step (omega arith))
+
+returns : tie.Need-returns Inv-loop μ-loop
+unfolding contractTotal
+returns c =
+    let l = c .before in
+    let e : l .loop .i ≡ l .before .args .n = omega arith in
+    rw (← e) (l .loop .inv .1)
+
+pub collects-spec : {M : Type 1} → statement M
+collects-spec =
+    tie.close
+    (tie.spec
+    Inv-loop
+    μ-loop
+    loop-holds
+    mul-total
+    element-copy-out-total
+    mul-total-2
+    element-copy-out-total-2
+    mul-total-3
+    add-total
+    add-i
+    loop-less
+    loop-again
+    returns)

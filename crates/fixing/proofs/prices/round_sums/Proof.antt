@@ -1,0 +1,127 @@
+-- The invariant: the three sums of the distributors passed.
+use mathlib.Core.Logic.{⊎-elim}
+use mathlib.Core.Path.{_≡_}
+use mathlib.Core.Bool.{Bool, true, false}
+use mathlib.Core.List.{List}
+use Prim.Native.Nat.{ℕ, _≤_, _-_, _+_, _*_}
+use lib.ListN.{getD}
+use lib.Dec.{ltb}
+use borrow.Author.Tests.{lt-ltb, le-ltb}
+use Rattle.numbers.specs.Units.{noPrice, noEnergy}
+use Rattle.numbers.specs.declared.units.PesoPrice.{PesoPrice}
+use Rattle.fixing.specs.Limit.{Distributors}
+use Rattle.fixing.specs.Prices.{distributors}
+use Rattle.fixing.proofs.LimitLaws.{limit-most}
+use Rattle.fixing.proofs.PassLaws.{Sums, sums-none, sums-more, paid-fits, energy-fits, sums-all}
+use Rattle.fixing.proofs.prices.round_sums.Statement.{statement}
+use Rattle.fixing.proofs.prices.round_sums.Tie as tie
+use native.Mathlib.Omega.{arith}
+
+-- whether distributor j is in the set
+abbrev above : List PesoPrice → ℕ → ℕ → ℕ → Bool
+above averages limit raise j = ltb limit (getD averages j noPrice .0 + raise)
+
+abbrev Inv-loop : tie.InvT-loop
+Inv-loop n limit raise averages energies paid₀ inside₀ outside₀ i₀ paid inside outside i = (i ≤ n) × Sums (above averages limit raise) (λ j. getD averages j noPrice .0) (λ j. getD energies j noEnergy .0) i paid inside outside
+
+abbrev μ-loop : tie.MeasureT-loop
+μ-loop n limit raise averages energies paid₀ inside₀ outside₀ i₀ paid inside outside i = n - i
+
+loop-holds : tie.Need-loop-holds Inv-loop μ-loop
+loop-holds c = (omega arith, sums-none _ _ _)
+
+mul-average : tie.Need-mul-average Inv-loop μ-loop
+mul-average c = omega arith
+
+element-copy-out-average : tie.Need-element-copy-out-average Inv-loop μ-loop
+element-copy-out-average c = omega arith
+
+mul-energy : tie.Need-mul-energy Inv-loop μ-loop
+mul-energy c = omega arith
+
+element-copy-out-energy : tie.Need-element-copy-out-energy Inv-loop μ-loop
+element-copy-out-energy c = omega arith
+
+-- the distributor at hand, and the sums so far with it
+module _ (c : tie.In-loop Inv-loop μ-loop) where
+  abbrev l : tie.At-loop Inv-loop μ-loop
+  l = c .before
+
+  abbrev s : tie.Start Inv-loop μ-loop
+  s = l .before
+
+  abbrev d : Distributors
+  d = distributors (s .args .n) (s .args .t2) (s .args .t3)
+
+  abbrev set : ℕ → Bool
+  set = above (s .args .t2) (s .args .limit) (s .args .raise)
+
+  raised : d .average (l .loop .i) + s .args .raise ≤ 4100000
+  raised = omega (arith, s .pre .0 .most (l .loop .i) (omega arith), limit-most d (s .pre .0))
+
+  paid : l .loop .paid + d .average (l .loop .i) * d .energy (l .loop .i) ≤ 5120000000000000
+  paid = paid-fits set d (s .pre .0) _ _ _ _ (omega arith) (l .loop .inv .1)
+
+  energy : l .loop .inside + l .loop .outside + d .energy (l .loop .i) ≤ 2560000000
+  energy = energy-fits set d (s .pre .0) _ _ _ _ (omega arith) (l .loop .inv .1)
+
+add-if1 : tie.Need-add-if1 Inv-loop μ-loop
+add-if1 c = omega (arith, raised c)
+
+mul-paid : tie.Need-mul-paid Inv-loop μ-loop
+mul-paid c = omega (arith, paid (c .before))
+
+add-paid : tie.Need-add-paid Inv-loop μ-loop
+add-paid c = omega (arith, paid (c .before))
+
+add-inside : tie.Need-add-inside Inv-loop μ-loop
+add-inside c = omega (arith, energy (c .before))
+
+add-outside : tie.Need-add-outside Inv-loop μ-loop
+add-outside c = omega (arith, energy (c .before))
+
+add-i : tie.Need-add-i Inv-loop μ-loop
+add-i c = omega arith
+
+loop-less : tie.Need-loop-less Inv-loop μ-loop
+loop-less c = omega arith
+
+loop-again : tie.Need-loop-again Inv-loop μ-loop
+loop-again c =
+    let l = c .before .before in
+    let s = l .before in
+    let raised = getD (s .args .t2) (l .loop .i) noPrice .0 + s .args .raise in (
+      omega arith,
+      ⊎-elim
+          (λ w. sums-more _ _ _ _ _ _ _ (l .loop .inv .1) true (lt-ltb (s .args .limit) raised (omega (arith, w .0 .taken))) _ _ _ (w .1) (w .2) (omega (arith, w .3)))
+          (λ w. sums-more _ _ _ _ _ _ _ (l .loop .inv .1) false (le-ltb (s .args .limit) raised (omega (arith, w .0 .left))) _ _ _ (omega (arith, w .1)) (omega (arith, w .2)) (w .3))
+          (c .if1 .came),
+    )
+
+returns : tie.Need-returns Inv-loop μ-loop
+returns c =
+    let l = c .before in
+    let s = l .before in
+    let e : l .loop .i ≡ s .args .n = omega arith in
+    sums-all (distributors (s .args .n) (s .args .t2) (s .args .t3)) _ _ _ _ _ (s .pre .1 .0) (rw e at (l .loop .inv .1))
+
+pub round-sums-spec : {M : Type 1} → statement M
+round-sums-spec =
+    tie.close
+    (tie.spec
+    Inv-loop
+    μ-loop
+    loop-holds
+    mul-average
+    element-copy-out-average
+    mul-energy
+    element-copy-out-energy
+    add-if1
+    mul-paid
+    add-paid
+    add-inside
+    add-outside
+    add-i
+    loop-less
+    loop-again
+    returns)

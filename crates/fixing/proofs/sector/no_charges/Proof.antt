@@ -1,0 +1,17 @@
+-- Empty lists are filled with nothing.
+use mathlib.Core.Path.{_≡_, ap₂}
+use mathlib.Core.Bool.{Bool, false}
+use mathlib.Core.List.{List, []}
+use lib.IntN.{ℤ, pos}
+use Rattle.numbers.proofs.ListLaws.{filled-none}
+use Rattle.fixing.specs.Sector.{chargedPlaces, noCharges}
+use Rattle.fixing.specs.declared.sector.SectorCharges.{SectorCharges}
+use Rattle.fixing.proofs.sector.no_charges.Statement.{statement}
+use Rattle.fixing.proofs.sector.no_charges.Tie as tie
+
+returns : tie.Need-returns
+unfolding noCharges chargedPlaces
+returns c = ap₂ {C = SectorCharges} (λ p q. record { present = p; charges = q }) (filled-none 320 false _) (filled-none 320 (pos 0) _)
+
+pub no-charges-spec : {M : Type 1} → statement M
+no-charges-spec = tie.close (tie.spec returns)

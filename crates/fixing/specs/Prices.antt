@@ -1,0 +1,41 @@
+-- The call on averages and energies alone: what it answers, by the definitions of the limit. Assumes nothing.
+use mathlib.Core.Path.{_≡_}
+use mathlib.Core.List.{List}
+use Prim.Native.Nat.{ℕ, _<_}
+use lib.ListN.{getD}
+use lib.IntN.{pos}
+use Rattle.numbers.specs.Bounded.{filledBelow}
+use Rattle.numbers.specs.Units.{noPrice, noEnergy}
+use Rattle.numbers.specs.declared.units.PesoPrice.{PesoPrice}
+use Rattle.numbers.specs.declared.units.Energy.{Energy}
+use Rattle.fixing.specs.Limit.{Distributors, limit, rounds, surcharge, residue, finalPrice}
+use Rattle.fixing.specs.declared.prices.FixedPrices.{FixedPrices}
+
+-- "n (1 to 40)"
+abbrev pub mostDistributors : ℕ
+mostDistributors = 40
+
+-- the distributors of a list of averages and one of energies
+abbrev pub distributors : ℕ → List PesoPrice → List Energy → Distributors
+distributors n averages energies =
+    record { count = n; average = λ i. getD averages i noPrice .0; energy = λ i. getD energies i noEnergy .0 }
+
+-- the final prices, distributor by distributor; the places past n are empty
+unfoldable pub finalPrices : Distributors → List PesoPrice
+finalPrices d = filledBelow mostDistributors noPrice (d .count) (λ i. record { 0 = finalPrice d i })
+
+-- "Fixing .. returns L, r (0 if none), rounds, residue", beside the final prices
+unfoldable pub fixedPrices : Distributors → FixedPrices
+fixedPrices d =
+    record {
+      limit = record { 0 = limit d };
+      surcharge = record { 0 = surcharge d };
+      rounds = rounds d;
+      residue = record { 0 = pos (residue d) };
+      finals = finalPrices d;
+    }
+
+-- what the call promises: the answer is the definitions', and the rounds made are fewer than the distributors
+pub record Fixed (d : Distributors) (answer : FixedPrices) : Type 0 where
+  pub answered : answer ≡ fixedPrices d
+  pub few : answer .rounds < d .count

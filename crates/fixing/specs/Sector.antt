@@ -1,0 +1,66 @@
+-- Sector factors of document 01: "8n words, 0 (sector absent) or 1 to 50,000 ten-thousandths; each distributor has a
+-- sector". Assumes nothing.
+use mathlib.Core.Bool.{Bool, true, false, not, _&&_}
+use mathlib.Core.Path.{_≡_}
+use mathlib.Core.List.{List, []}
+use Prim.Native.Nat.{ℕ, _+_, _*_, _/_, _≤_, _<_}
+use lib.Dec.{leb, eqb}
+use lib.ListN.{getD, length}
+use lib.IntN.{ℤ, pos}
+use Rattle.numbers.specs.Bounded.{allBelow, anyBelow, filledBelow}
+use Rattle.numbers.specs.Units.{noPrice, mostPrice}
+use Rattle.numbers.specs.declared.units.PesoPrice.{PesoPrice}
+use Rattle.fixing.specs.Charge.{sectorCharge}
+use Rattle.fixing.specs.declared.sector.SectorCharges.{SectorCharges}
+
+abbrev pub sectorCount : ℕ
+sectorCount = 8
+
+-- 40 distributors of 8 sectors
+abbrev pub sectorPlaces : ℕ
+sectorPlaces = 320
+
+abbrev pub mostFactor : ℕ
+mostFactor = 50000
+
+-- the factor at place k, 8 places a distributor
+abbrev pub factorAt : List ℕ → ℕ → ℕ
+factorAt sectors k = getD sectors k 0
+
+-- whether the sector at place k is present
+unfoldable pub sectorPresent : List ℕ → ℕ → Bool
+sectorPresent sectors k = not (eqb (factorAt sectors k) 0)
+
+-- whether distributor i has a sector
+unfoldable pub hasSector : List ℕ → ℕ → Bool
+hasSector sectors i = anyBelow sectorCount (λ s. sectorPresent sectors (i * sectorCount + s))
+
+-- cause 8 is met where this is false
+unfoldable pub sectorsAllowed : ℕ → List ℕ → Bool
+sectorsAllowed n sectors =
+    allBelow (n * sectorCount) (λ k. leb (factorAt sectors k) mostFactor) && allBelow n (hasSector sectors)
+
+-- presence and charge of the first k places, the charge of each distributor being given; the places past them are
+-- empty
+unfoldable pub chargedPlaces : ℕ → (ℕ → ℤ) → List ℕ → SectorCharges
+chargedPlaces k charge sectors =
+    record {
+      present = filledBelow sectorPlaces false k (sectorPresent sectors);
+      charges = filledBelow sectorPlaces (pos 0) k (λ p. sectorCharge (charge (p / sectorCount)) (factorAt sectors p));
+    }
+
+-- of the sectors of n distributors
+unfoldable pub sectorCharges : ℕ → (ℕ → ℤ) → List ℕ → SectorCharges
+sectorCharges n charge sectors = chargedPlaces (n * sectorCount) charge sectors
+
+-- nothing in force
+unfoldable pub noCharges : SectorCharges
+noCharges = chargedPlaces 0 (λ i. pos 0) []
+
+-- what the charges are worked from: checked sector factors, averages and final prices of at most 2,000,000
+pub record ChargedSectors (n : ℕ) (averages finals : List PesoPrice) (sectors : List ℕ) : Type 0 where
+  pub few : n ≤ 40
+  pub lent : length sectors ≡ n * sectorCount
+  pub factors : (k : ℕ) → k < n * sectorCount → factorAt sectors k ≤ mostFactor
+  pub average : (i : ℕ) → i < n → getD averages i noPrice .0 ≤ mostPrice
+  pub final : (i : ℕ) → i < n → getD finals i noPrice .0 ≤ mostPrice

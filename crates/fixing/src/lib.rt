@@ -1,0 +1,7 @@
+// The fixing of document 01, by value and with no ledger in it: averages, limit, rounds, final prices, charges and
+// sector charges from checked lines, and the causes 6 to 11 in their order.
+pub mod average;
+pub mod fix;
+pub mod prices;
+pub mod sector;
+pub mod verdict;

@@ -1,0 +1,119 @@
+// Sector factors: their test (cause 8), and the presences and charges that a fixing puts in force.
+ghost use mathlib.Core.Path.{_≡_};
+ghost use mathlib.Core.List.{List};
+ghost use mathlib.Core.Bool.{false};
+ghost use Prim.Native.Nat.{ℕ, _*_, _≤_, _<_};
+ghost use lib.Dec.{leb};
+ghost use lib.ListN.{length, getD, replicate};
+ghost use lib.IntN.{pos, natAbs, subℕ};
+ghost use Rattle.numbers.specs.Bounded.{allBelow};
+ghost use Rattle.numbers.specs.Units.{noPrice};
+ghost use Rattle.fixing.specs.Charge.{sectorCharge};
+ghost use Rattle.fixing.specs.Sector.{sectorCount, sectorPlaces, mostFactor, factorAt, hasSector, sectorsAllowed, sectorCharges, noCharges, ChargedSectors};
+use numbers::rounding::half_away;
+use numbers::signed::difference;
+use numbers::units::PesoPrice;
+
+// Presence and charge of 8 sectors of 40 distributors: what a fixing puts in force, without its month.
+pub struct SectorCharges {
+    pub present: [bool; 320],
+    pub charges: [i64; 320],
+}
+
+const SECTORS: usize = 8;
+
+const MOST_FACTOR: u64 = 50000;
+
+// Whether no factor is too large.
+fn factors_allowed(n: usize, sectors: &[u64]) -> bool
+    requires { ⌜ n ≤ 40 ⌝ ∗ ⌜ length (now sectors) ≡ n * sectorCount ⌝ }
+    ensures { λ r. ⌜ r ≡ allBelow (n * sectorCount) (λ k. leb (factorAt (now (sectors .entry)) k) mostFactor) ⌝ }
+{
+    let mut k: usize = 0;
+    while k < sectors.len() {
+        if sectors[k] > MOST_FACTOR {
+            return false;
+        }
+        k += 1;
+    }
+    true
+}
+
+// Whether distributor i has a sector.
+fn has_sector(n: usize, sectors: &[u64], i: usize) -> bool
+    requires { ⌜ n ≤ 40 ⌝ ∗ ⌜ length (now sectors) ≡ n * sectorCount ⌝ ∗ ⌜ i < n ⌝ }
+    ensures { λ r. ⌜ r ≡ hasSector (now (sectors .entry)) i ⌝ }
+{
+    let mut s: usize = 0;
+    while s < SECTORS {
+        if sectors[i * SECTORS + s] != 0 {
+            return true;
+        }
+        s += 1;
+    }
+    false
+}
+
+// Whether every distributor has a sector.
+fn all_have_sectors(n: usize, sectors: &[u64]) -> bool
+    requires { ⌜ n ≤ 40 ⌝ ∗ ⌜ length (now sectors) ≡ n * sectorCount ⌝ }
+    ensures { λ r. ⌜ r ≡ allBelow n (hasSector (now (sectors .entry))) ⌝ }
+{
+    let mut i: usize = 0;
+    while i < n {
+        if !has_sector(n, sectors, i) {
+            return false;
+        }
+        i += 1;
+    }
+    true
+}
+
+// Whether no sector factor is too large and every distributor has a sector.
+pub fn sectors_allowed(n: usize, sectors: &[u64]) -> bool
+    requires { ⌜ n ≤ 40 ⌝ ∗ ⌜ length (now sectors) ≡ n * sectorCount ⌝ }
+    ensures { λ r. ⌜ r ≡ sectorsAllowed n (now (sectors .entry)) ⌝ }
+{
+    factors_allowed(n, sectors) && all_have_sectors(n, sectors)
+}
+
+// The charge of a sector: the distributor's charge times the factor, in ten-thousandths.
+fn sector_charge(charge: i64, factor: u64) -> i64
+    requires { ⌜ natAbs charge ≤ 2000000 ⌝ ∗ ⌜ factor ≤ mostFactor ⌝ }
+    ensures { λ r. ⌜ r ≡ sectorCharge charge factor ⌝ }
+{
+    half_away(charge * difference(factor, 0), 10000)
+}
+
+// Nothing in force.
+pub fn no_charges() -> SectorCharges
+    ensures { λ r. ⌜ r ≡ noCharges ⌝ }
+{
+    SectorCharges {
+        present: [false; 320],
+        charges: [0i64; 320],
+    }
+}
+
+// Presences and charges of the sectors of n distributors, from their averages and final prices.
+pub fn sector_charges(
+    n: usize,
+    averages: [PesoPrice; 40],
+    finals: [PesoPrice; 40],
+    sectors: &[u64],
+) -> SectorCharges
+    requires { ⌜ ChargedSectors n averages finals (now sectors) ⌝ }
+    ensures { λ r. ⌜ r ≡ sectorCharges n (λ i. subℕ (getD finals i noPrice .0) (getD averages i noPrice .0)) (now (sectors .entry)) ⌝ }
+{
+    let mut force = no_charges();
+    let mut k: usize = 0;
+    while k < sectors.len() {
+        let i = k / SECTORS;
+        let charge = difference(finals[i].0, averages[i].0);
+        let factor = sectors[k];
+        force.present[k] = factor != 0;
+        force.charges[k] = sector_charge(charge, factor);
+        k += 1;
+    }
+    force
+}
