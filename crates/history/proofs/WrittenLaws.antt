@@ -1,0 +1,120 @@
+-- What an accepted fixing wrote: the prices of document 01, with a smallest largest charge. Assumes nothing.
+use mathlib.Core.Path.{_≡_, refl, _∙_, ap, ap₂}
+use mathlib.Core.Bool.{true}
+use mathlib.Core.List.{List}
+use Prim.Native.Nat.{ℕ, zero, suc, _+_, _-_, _*_, _/_, _%_, _≤_, _<_}
+use native.Mathlib.Omega.{arith}
+use lib.Dec.{le→leb}
+use lib.ListN.{length, getD}
+use lib.IntN.{ℤ, pos, subℕ, _-ℤ_, _*ℤ_}
+use lib.Signed.{_≤ℤ_}
+use Rattle.numbers.specs.Bounded.{listBelow}
+use Rattle.numbers.specs.Units.{noPrice}
+use Rattle.numbers.specs.declared.units.PesoPrice.{PesoPrice}
+use Rattle.numbers.proofs.ListLaws.{list-length, list-at}
+use Rattle.fixing.specs.Limit.{Distributors, InRange, contractTotal, limit, finalPrice, charge, collected}
+use Rattle.fixing.specs.Charge.{greater, greatestUpTo, pricesCollect, largestCharge}
+use Rattle.fixing.specs.Prices.{fixedPrices}
+use Rattle.fixing.specs.Input.{inputAverages, inputEnergies}
+use Rattle.fixing.specs.Fixing.{acceptedFixing}
+use Rattle.fixing.specs.declared.fix.Fixing.{Fixing}
+use Rattle.fixing.proofs.LimitLaws.{final-limit, collects, smallest-largest, collect-whole}
+use Rattle.fixing.proofs.FixingLaws.{final-at}
+use Rattle.ledger.specs.Sound.{sound}
+use Rattle.ledger.specs.Fix.{FixingCall, fixingAnswer, fixingList, isAccepted, priceList, priceWord, third}
+use Rattle.ledger.specs.declared.book.Ledger.{Ledger}
+use Rattle.ledger.proofs.SoundFacts.{sound-facts}
+use Rattle.ledger.proofs.MoneyLaws.{signed-sum-same}
+use Rattle.ledger.proofs.CallLaws.{fixing-passed, passed-range, passed-fixing}
+use Rattle.history.specs.Plain.{inputDistributors}
+use Rattle.history.specs.History.{writtenFinal, WrittenPrices}
+
+pos-le : (a b : ℕ) → a ≤ b → pos a ≤ℤ pos b
+pos-le a b h = record { le = le→leb a b h }
+
+-- prices that agree below n collect the same and have the same largest charge
+greatest-same : (k : ℕ) (f g : ℕ → ℤ) → ((i : ℕ) → i ≤ k → f i ≡ g i) → greatestUpTo k f ≡ greatestUpTo k g
+unfolding greatestUpTo
+greatest-same zero f g h = h 0 (omega arith)
+greatest-same (suc k) f g h =
+    ap₂ greater (greatest-same k f g (λ i p. h i (omega arith))) (h (suc k) (omega arith))
+
+module _ (d : Distributors) (f g : ℕ → ℤ) (h : (i : ℕ) → i < d .count → f i ≡ g i) where
+  collect-same : pricesCollect d f ≡ pricesCollect d g
+  unfolding pricesCollect
+  collect-same =
+      signed-sum-same (d .count) (λ i. f i *ℤ pos (d .energy i)) (λ i. g i *ℤ pos (d .energy i))
+      (λ i p. ap (λ (z : ℤ). z *ℤ pos (d .energy i)) (h i p))
+
+  largest-same : 1 ≤ d .count → largestCharge d f ≡ largestCharge d g
+  unfolding largestCharge
+  largest-same some =
+      greatest-same (d .count - 1) (λ i. f i -ℤ pos (d .average i)) (λ i. g i -ℤ pos (d .average i))
+      (λ i p. ap (λ (z : ℤ). z -ℤ pos (d .average i)) (h i (omega arith)))
+
+-- the three words of distributor i
+module _ (n : ℕ) (averages finals : List PesoPrice) (i : ℕ) (p : i < n) where
+  word-at : (j k : ℕ) → j ≡ i * 3 + k → k < 3 → getD (listBelow (n * 3) (priceWord averages finals)) j (pos 0) ≡ third k (pos (getD averages i noPrice .0)) (pos (getD finals i noPrice .0)) (subℕ (getD finals i noPrice .0) (getD averages i noPrice .0))
+  unfolding priceWord
+  word-at j k e q =
+      let whole : j / 3 ≡ i = omega arith in
+      let part : j % 3 ≡ k = omega arith in
+      list-at (priceWord averages finals) (n * 3) (pos 0) j (omega arith) ∙ rw (whole, part)
+
+-- a fixing that was accepted
+module _ (book : Ledger) (call : FixingCall) (h : sound book ≡ true) (e : isAccepted (fixingAnswer book call) ≡ true) where
+  abbrev d : Distributors
+  d = inputDistributors (book .n) (call .input)
+
+  abbrev averages : List PesoPrice
+  averages = inputAverages (book .n) (call .input)
+
+  abbrev finals : List PesoPrice
+  finals = fixedPrices d .finals
+
+  range : InRange d
+  unfolding inputDistributors
+  range =
+      let g = sound-facts book h in
+      let f = fixing-passed book call e in
+      passed-range (book .n) call (g .some) (g .few) (f .lengths) (f .passed)
+
+  list-is : fixingList book call ≡ listBelow (book .n * 3) (priceWord averages finals)
+  unfolding fixingList priceList acceptedFixing inputDistributors
+  list-is =
+      rw e
+      (ap (λ (x : Fixing). listBelow (book .n * 3) (priceWord (x .averages) (x .prices .finals)))
+      (passed-fixing (book .n) (call .input) (fixing-passed book call e .passed)))
+
+  final-is : (i : ℕ) → i < book .n → getD finals i noPrice .0 ≡ finalPrice d i
+  unfolding inputDistributors
+  final-is i p = final-at (book .n) averages (inputEnergies (book .n) (call .input)) range i p
+
+  final-written : (i : ℕ) → i < book .n → writtenFinal (fixingList book call) i ≡ pos (finalPrice d i)
+  final-written i p =
+      ap (λ l. writtenFinal l i) list-is
+      ∙ word-at (book .n) averages finals i p (i * 3 + 1) 1 refl (omega arith)
+      ∙ ap pos (final-is i p)
+
+  pub written : WrittenPrices (book .n) d (fixingList book call)
+  unfolding inputDistributors charge collected
+  written =
+      let same = final-written in
+      record {
+        words = ap length list-is ∙ list-length (priceWord averages finals) (book .n * 3);
+        average = λ i p.
+            ap (λ l. getD l (i * 3) (pos 0)) list-is
+            ∙ word-at (book .n) averages finals i p (i * 3) 0 (omega arith) (omega arith);
+        final = same;
+        charged = λ i p.
+            ap (λ l. getD l (i * 3 + 2) (pos 0)) list-is
+            ∙ word-at (book .n) averages finals i p (i * 3 + 2) 2 refl (omega arith)
+            ∙ ap (λ x. subℕ x (getD averages i noPrice .0)) (final-is i p);
+        limited = λ i p. rw (same i p) (pos-le (finalPrice d i) (limit d) (final-limit d range i p));
+        collects =
+            rw (collect-same d (writtenFinal (fixingList book call)) (λ i. pos (finalPrice d i)) same, collect-whole d (finalPrice d))
+            (pos-le (contractTotal d) (collected d) (collects d range));
+        smallest = λ price below enough.
+            rw (largest-same d (writtenFinal (fixingList book call)) (λ i. pos (finalPrice d i)) same (range .some))
+            (smallest-largest d range price below enough);
+      }

@@ -1,0 +1,49 @@
+-- Demand 3 of document 01 as one statement about a whole list of calls. Assumes nothing.
+use mathlib.Core.Path.{_≡_}
+use mathlib.Core.Bool.{true}
+use mathlib.Core.List.{List, _∷_, _++_}
+use Prim.Native.Nat.{ℕ, _+_, _*_, _<_}
+use lib.ListN.{length, getD}
+use lib.IntN.{ℤ, pos}
+use lib.Signed.{_≤ℤ_}
+use Rattle.numbers.specs.Signed.{signedSumBelow}
+use Rattle.fixing.specs.Limit.{Distributors, contractTotal, limit, finalPrice, charge}
+use Rattle.fixing.specs.Charge.{pricesCollect, largestCharge}
+use Rattle.fixing.specs.Input.{FixingInput}
+use Rattle.settlement.specs.Settlement.{oneSign}
+use Rattle.settlement.specs.Month.{mostDistributors, moneyAt}
+use Rattle.ledger.specs.Sound.{sound}
+use Rattle.ledger.specs.Fix.{FixingCall, fixingAnswer, fixingList, isAccepted}
+use Rattle.history.specs.Run.{Call, fixing, opened, after, answers}
+use Rattle.history.specs.Plain.{inputDistributors, plainOpened, image, plainAfter, plainAnswers, plainCollected}
+
+-- the written final prices of a price list
+abbrev pub writtenFinal : List ℤ → ℕ → ℤ
+writtenFinal written i = getD written (i * 3 + 1) (pos 0)
+
+-- what an accepted fixing wrote, of its arguments: 3n words, average, final price and charge of each distributor as 01
+-- defines them; no final price above the limit; they collect the contract total; and every list of whole prices of either
+-- sign, none above the limit, that does so has a largest charge at least as great
+pub record WrittenPrices (n : ℕ) (d : Distributors) (written : List ℤ) : Type 0 where
+  pub words : length written ≡ n * 3
+  pub average : (i : ℕ) → i < n → getD written (i * 3) (pos 0) ≡ pos (d .average i)
+  pub final : (i : ℕ) → i < n → writtenFinal written i ≡ pos (finalPrice d i)
+  pub charged : (i : ℕ) → i < n → getD written (i * 3 + 2) (pos 0) ≡ charge d i
+  pub limited : (i : ℕ) → i < n → writtenFinal written i ≤ℤ pos (limit d)
+  pub collects : pos (contractTotal d) ≤ℤ pricesCollect d (writtenFinal written)
+  pub smallest : (price : ℕ → ℤ) → ((i : ℕ) → i < n → price i ≤ℤ pos (limit d)) → pos (contractTotal d) ≤ℤ pricesCollect d price → largestCharge d (writtenFinal written) ≤ℤ largestCharge d price
+
+-- after every list of calls from an opened ledger of n distributors:
+pub record History (n : ℕ) (calls : List Call) : Type 0 where
+  -- the ledger equals the plain ledger part by part
+  pub same : after (opened n) calls ≡ image (plainAfter (plainOpened n) calls)
+  -- the same calls were accepted, with the same numbers and values
+  pub answered : answers (opened n) calls ≡ plainAnswers (plainOpened n) calls
+  -- balances add up to the collected amounts worked from the inputs
+  pub total : signedSumBelow mostDistributors (moneyAt (after (opened n) calls .balances)) ≡ plainCollected (plainOpened n) calls
+  -- never both signs
+  pub signs : oneSign mostDistributors (moneyAt (after (opened n) calls .balances)) ≡ true
+  -- the ledger is sound, so that no call in such a list meets 2
+  pub whole : sound (after (opened n) calls) ≡ true
+  -- each accepted fixing in the list wrote 01's prices, with a smallest largest charge
+  pub fixings : (before rest : List Call) (call : FixingCall) → calls ≡ before ++ (fixing call ∷ rest) → isAccepted (fixingAnswer (after (opened n) before) call) ≡ true → WrittenPrices n (inputDistributors n (call .input)) (fixingList (after (opened n) before) call)

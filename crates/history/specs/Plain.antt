@@ -1,0 +1,169 @@
+-- The "plain ledger" (a term of document 01), defined apart from the ledger: it holds the latest accepted fixing's
+-- arguments, not charges, and its checks and steps are written over its own parts. Only the check of soundness goes
+-- through its image, the ledger that follows from it. Assumes nothing.
+use mathlib.Core.Bool.{Bool, true, false, cond}
+use mathlib.Core.List.{List, [], _∷_}
+use mathlib.Core.Option.{Option, none, some}
+use Prim.Native.Nat.{ℕ, _+_}
+use lib.Dec.{eqb}
+use lib.IntN.{ℤ, pos, _+ℤ_}
+use Rattle.numbers.specs.Signed.{signedSumBelow}
+use Rattle.fixing.specs.Limit.{Distributors, limit, surcharge, rounds, residue, charge}
+use Rattle.fixing.specs.Prices.{distributors}
+use Rattle.fixing.specs.Sector.{sectorCharges, noCharges}
+use Rattle.fixing.specs.Input.{FixingInput, inputVerdict, verdictNumber, verdictValues, inputAverages, inputEnergies}
+use Rattle.fixing.specs.declared.sector.SectorCharges.{SectorCharges}
+use Rattle.settlement.specs.Amount.{billingInRange, collectedAmount}
+use Rattle.settlement.specs.Settlement.{positionOf, positionsInRange, newBalance}
+use Rattle.settlement.specs.Month.{moneyBelow}
+use Rattle.ledger.specs.Sound.{sound}
+use Rattle.ledger.specs.Turn.{fixingTurn, settlementTurn}
+use Rattle.ledger.specs.Fix.{FixingCall, fixingLengths}
+use Rattle.ledger.specs.Settle.{SettlementCall, settlementLengths}
+use Rattle.ledger.specs.declared.book.Ledger.{Ledger}
+use Rattle.history.specs.Run.{Call, fixing, settlement, Answered}
+
+-- "It holds n, the count of settled months, the last month, the latest accepted fixing's arguments and n balances"
+pub record Plain : Type 0 where
+  pub count : ℕ
+  pub months : ℕ
+  pub last : ℕ
+  pub held : Option FixingCall
+  pub balance : ℕ → ℤ
+
+-- "at first n, zeros and no fixing"
+unfoldable pub plainOpened : ℕ → Plain
+plainOpened n = record { count = n; months = 0; last = 0; held = none; balance = λ i. pos 0 }
+
+-- what follows from the arguments held: whether there is a fixing, its month, its presences and sector charges
+abbrev pub isHeld : Option FixingCall → Bool
+isHeld none = false
+isHeld (some call) = true
+
+abbrev pub heldMonth : Option FixingCall → ℕ
+heldMonth none = 0
+heldMonth (some call) = call .input .month
+
+-- the distributors of a fixing's arguments: averages and energies of their lines
+unfoldable pub inputDistributors : ℕ → FixingInput → Distributors
+inputDistributors n input = distributors n (inputAverages n input) (inputEnergies n input)
+
+abbrev pub heldForce : ℕ → Option FixingCall → SectorCharges
+heldForce n none = noCharges
+heldForce n (some call) = sectorCharges n (charge (inputDistributors n (call .input))) (call .input .sectors)
+
+-- the ledger that follows from the plain one; "unset parts are zero"
+unfoldable pub image : Plain → Ledger
+image plain =
+    record {
+      n = plain .count;
+      months = plain .months;
+      last = plain .last;
+      fixed = isHeld (plain .held);
+      month = heldMonth (plain .held);
+      force = heldForce (plain .count) (plain .held);
+      balances = moneyBelow (plain .count) (plain .balance);
+    }
+
+abbrev pub refusedUnless : Bool → ℕ → Option Answered
+refusedUnless true number = none
+refusedUnless false number = some (record { number = number; values = [] })
+
+-- the fixing's causes 6 to 11, by their numbers
+abbrev pub refusedAt : ℕ → List ℕ → Option Answered
+refusedAt number values = cond (eqb number 0) none (some (record { number = number; values = values }))
+
+abbrev pub firstRefusal : List (Option Answered) → Answered → Answered
+firstRefusal [] accepted = accepted
+firstRefusal (none ∷ rest) accepted = firstRefusal rest accepted
+firstRefusal (some refusal ∷ rest) accepted = refusal
+
+-- "Each call is put to the checks below, in their order, on the plain ledger": a fixing
+unfoldable pub plainFixing : Plain → FixingCall → Answered
+plainFixing plain call =
+    let n = plain .count in
+    let verdict = inputVerdict n (call .input) in
+    let d = inputDistributors n (call .input) in
+    firstRefusal
+    (refusedUnless (sound (image plain)) 2
+    ∷ refusedUnless (fixingLengths n call) 3
+    ∷ refusedUnless (fixingTurn (plain .months) (plain .last) (call .input .month)) 4
+    ∷ refusedAt (verdictNumber verdict) (verdictValues verdict)
+    ∷ [])
+    (record { number = 0; values = limit d ∷ surcharge d ∷ rounds d ∷ residue d ∷ [] })
+
+-- the collected amount of each distributor: "works MFAR from its readings, its loss factors and those charges"
+unfoldable pub plainAmount : Plain → SettlementCall → ℕ → ℤ
+plainAmount plain call =
+    collectedAmount (heldForce (plain .count) (plain .held) .charges) (call .readings) (call .losses)
+
+unfoldable pub plainPosition : Plain → SettlementCall → ℕ → ℤ
+plainPosition plain call = positionOf (plain .balance) (plainAmount plain call)
+
+-- a settlement put to the checks
+unfoldable pub plainSettlement : Plain → SettlementCall → Answered
+plainSettlement plain call =
+    let n = plain .count in
+    let force = heldForce n (plain .held) in
+    firstRefusal
+    (refusedUnless (sound (image plain)) 2
+    ∷ refusedUnless (settlementLengths n call) 3
+    ∷ refusedUnless (settlementTurn (plain .months) (plain .last) (isHeld (plain .held)) (heldMonth (plain .held)) (call .month)) 4
+    ∷ refusedUnless (isHeld (plain .held)) 5
+    ∷ refusedUnless (billingInRange n (force .present) (call .readings) (call .losses)) 12
+    ∷ refusedUnless (positionsInRange n (plainPosition plain call)) 13
+    ∷ [])
+    (record { number = 0; values = [] })
+
+unfoldable pub plainAnswer : Plain → Call → Answered
+plainAnswer plain (fixing call) = plainFixing plain call
+plainAnswer plain (settlement call) = plainSettlement plain call
+
+-- "One that meets a cause is refused and changes nothing; any other is accepted"
+unfoldable pub plainAccepts : Plain → Call → Bool
+plainAccepts plain call = eqb (plainAnswer plain call .number) 0
+
+-- "An accepted fixing replaces the one held"; "An accepted settlement .. moves the balances .., sets the last month and
+-- raises the count"
+unfoldable pub plainChange : Plain → Call → Plain
+plainChange plain (fixing call) =
+    record {
+      count = plain .count;
+      months = plain .months;
+      last = plain .last;
+      held = some call;
+      balance = plain .balance;
+    }
+plainChange plain (settlement call) =
+    record {
+      count = plain .count;
+      months = plain .months + 1;
+      last = call .month;
+      held = plain .held;
+      balance = newBalance (plain .count) (plainPosition plain call);
+    }
+
+abbrev pub pickPlain : Bool → Plain → Plain → Plain
+pickPlain true a b = a
+pickPlain false a b = b
+
+unfoldable pub plainStep : Plain → Call → Plain
+plainStep plain call = pickPlain (plainAccepts plain call) (plainChange plain call) plain
+
+unfoldable pub plainAfter : Plain → List Call → Plain
+plainAfter plain [] = plain
+plainAfter plain (call ∷ calls) = plainAfter (plainStep plain call) calls
+
+unfoldable pub plainAnswers : Plain → List Call → List Answered
+plainAnswers plain [] = []
+plainAnswers plain (call ∷ calls) = plainAnswer plain call ∷ plainAnswers (plainStep plain call) calls
+
+-- "A collected amount is one distributor's MFAR in one accepted settlement; demand 3 adds up all of them"
+unfoldable pub callCollects : Plain → Call → ℤ
+callCollects plain (fixing call) = pos 0
+callCollects plain (settlement call) = signedSumBelow (plain .count) (plainAmount plain call)
+
+unfoldable pub plainCollected : Plain → List Call → ℤ
+plainCollected plain [] = pos 0
+plainCollected plain (call ∷ calls) =
+    cond (plainAccepts plain call) (callCollects plain call) (pos 0) +ℤ plainCollected (plainStep plain call) calls

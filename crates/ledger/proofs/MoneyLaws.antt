@@ -1,0 +1,109 @@
+-- Laws of money over all 40 places where only the first n are filled: sums, signs; and that a month's balances depend on
+-- the positions of the n distributors alone. Assumes nothing.
+use mathlib.Core.Path.{_≡_, refl, _∙_, ap, ap₂}
+use mathlib.Core.Bool.{Bool, true, false, and-false}
+use Prim.Native.Nat.{ℕ, zero, suc, _+_, _-_, _≤_, _<_, min}
+use native.Mathlib.Omega.{arith}
+use native.Mathlib.Decide.{decLt}
+use native.Mathlib.Nat.{zero-add, suc-add}
+use lib.IntN.{ℤ, pos, subℕ, _+ℤ_, +ℤ-idr}
+use lib.Signed.{ltZ}
+use Rattle.numbers.specs.Bounded.{allBelow, anyBelow}
+use Rattle.numbers.specs.Signed.{signedSumBelow, positivePart, negativePart, withinSize, isNegative}
+use Rattle.numbers.specs.Units.{noMoney}
+use Rattle.numbers.specs.declared.units.Pesos.{Pesos}
+use Rattle.numbers.proofs.TestLaws.{any-none, any-never}
+use Rattle.numbers.proofs.SumLaws.{sum-same}
+use Rattle.numbers.proofs.ListLaws.{filled-past}
+use Rattle.settlement.specs.Share.{sideTotal}
+use Rattle.settlement.specs.Settlement.{mostPosition, positionsInRange, owing, owed, transferred, paid, received, transfer, newBalance, oneSign}
+use Rattle.settlement.specs.Month.{mostDistributors, moneyAt, moneyBelow}
+use Rattle.settlement.proofs.ShareLaws.{share-same}
+use Rattle.settlement.proofs.MonthLaws.{money-at}
+use Rattle.ledger.proofs.SoundFacts.{not-both}
+
+-- functions that agree below the bound: one sum, one test of all
+pub signed-sum-same : (k : ℕ) (f g : ℕ → ℤ) → ((i : ℕ) → i < k → f i ≡ g i) → signedSumBelow k f ≡ signedSumBelow k g
+unfolding signedSumBelow
+signed-sum-same zero f g h = refl
+signed-sum-same (suc k) f g h =
+    ap₂ (λ (y z : ℤ). y +ℤ z) (signed-sum-same k f g (λ i p. h i (omega arith))) (h k (omega arith))
+
+pub all-same : (k : ℕ) (t u : ℕ → Bool) → ((i : ℕ) → i < k → t i ≡ u i) → allBelow k t ≡ allBelow k u
+unfolding allBelow
+all-same zero t u h = refl
+all-same (suc k) t u h = rw (all-same k t u (λ i p. h i (omega arith)), h k (omega arith))
+
+-- places that hold 0 add nothing
+sum-up : (n k : ℕ) (f : ℕ → ℤ) → ((i : ℕ) → n ≤ i → i < k + n → f i ≡ pos 0) → signedSumBelow (k + n) f ≡ signedSumBelow n f
+unfolding signedSumBelow
+sum-up n zero f h = rw zero-add
+sum-up n (suc k) f h =
+    rw suc-add
+    (ap₂ (λ (y z : ℤ). y +ℤ z) (sum-up n k f (λ i p q. h i p (omega arith))) (h (k + n) (omega arith) (omega arith))
+    ∙ +ℤ-idr (signedSumBelow n f))
+
+pub sum-wide : (n m : ℕ) (f : ℕ → ℤ) → n ≤ m → ((i : ℕ) → n ≤ i → i < m → f i ≡ pos 0) → signedSumBelow m f ≡ signedSumBelow n f
+sum-wide n m f p h =
+    let e : m - n + n ≡ m = omega arith in
+    rw e at (sum-up n (m - n) f (λ i q r. h i q (omega arith)))
+
+-- what stands past the filled places
+pub money-past : (f : ℕ → ℤ) (n i : ℕ) → n ≤ i → i < mostDistributors → moneyAt (moneyBelow n f) i ≡ pos 0
+unfolding moneyBelow
+money-past f n i p q = ap (λ (m : Pesos). m .0) (filled-past mostDistributors noMoney (λ j. record { 0 = f j }) n i p q)
+
+module _ (n : ℕ) (few : n ≤ mostDistributors) (f : ℕ → ℤ) where
+  pub money-sum : signedSumBelow mostDistributors (moneyAt (moneyBelow n f)) ≡ signedSumBelow n f
+  money-sum =
+      sum-wide n mostDistributors (moneyAt (moneyBelow n f)) few (money-past f n)
+      ∙ signed-sum-same n (moneyAt (moneyBelow n f)) f (λ i p. money-at f n i p (omega arith))
+
+  -- a test that 0 fails, and that no value passes, no place passes
+  none-wide : (t : ℤ → Bool) → t (pos 0) ≡ false → anyBelow n (λ i. t (f i)) ≡ false → anyBelow mostDistributors (λ i. t (moneyAt (moneyBelow n f) i)) ≡ false
+  none-wide t z h = any-never mostDistributors (λ i. t (moneyAt (moneyBelow n f) i)) (λ i p. go i p (decLt i n))
+    where
+      go : (i : ℕ) → i < mostDistributors → Dec (i < n) → t (moneyAt (moneyBelow n f) i) ≡ false
+      go i p (yes q) = ap t (money-at f n i q p) ∙ any-none n (λ j. t (f j)) h i q
+      go i p (no q) = ap t (money-past f n i (omega arith) p) ∙ z
+
+  pub money-sign : oneSign n f ≡ true → oneSign mostDistributors (moneyAt (moneyBelow n f)) ≡ true
+  unfolding oneSign isNegative
+  money-sign h = go (anyBelow n (λ i. ltZ (pos 0) (f i))) refl
+    where
+      go : (b : Bool) → anyBelow n (λ i. ltZ (pos 0) (f i)) ≡ b → oneSign mostDistributors (moneyAt (moneyBelow n f)) ≡ true
+      go false e = rw (none-wide (λ z. ltZ (pos 0) z) refl e)
+      go true e =
+          rw (none-wide isNegative refl (not-both (anyBelow n (λ i. ltZ (pos 0) (f i))) (anyBelow n (λ i. isNegative (f i))) h e), and-false)
+
+-- positions that agree below n
+module _ (n : ℕ) (f g : ℕ → ℤ) (h : (i : ℕ) → i < n → f i ≡ g i) where
+  pub range-same : positionsInRange n f ≡ positionsInRange n g
+  unfolding positionsInRange
+  range-same =
+      all-same n (λ i. withinSize mostPosition (f i)) (λ i. withinSize mostPosition (g i))
+      (λ i p. ap (withinSize mostPosition) (h i p))
+
+  owing-same : (i : ℕ) → i < n → owing f i ≡ owing g i
+  unfolding owing
+  owing-same i p = ap positivePart (h i p)
+
+  owed-same : (i : ℕ) → i < n → owed f i ≡ owed g i
+  unfolding owed
+  owed-same i p = ap negativePart (h i p)
+
+  transferred-same : transferred n f ≡ transferred n g
+  unfolding transferred sideTotal
+  transferred-same = ap₂ min (sum-same n (owing f) (owing g) owing-same) (sum-same n (owed f) (owed g) owed-same)
+
+  transfer-same : (i : ℕ) → i < n → transfer n f i ≡ transfer n g i
+  unfolding transfer paid received
+  transfer-same i p =
+      rw transferred-same
+      (ap₂ subℕ
+      (share-same n (owed f) (owed g) (transferred n g) i owed-same p)
+      (share-same n (owing f) (owing g) (transferred n g) i owing-same p))
+
+  pub balance-same : (i : ℕ) → i < n → newBalance n f i ≡ newBalance n g i
+  unfolding newBalance
+  balance-same i p = ap₂ (λ (y z : ℤ). y +ℤ z) (h i p) (transfer-same i p)

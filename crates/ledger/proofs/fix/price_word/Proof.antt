@@ -1,0 +1,77 @@
+-- Each arm is the definition at its rest of k; prices are small, so that each word fits.
+use mathlib.Core.Path.{_≡_, _∙_}
+use Prim.Native.Nat.{_/_, _%_}
+use native.Mathlib.Omega.{arith}
+use mir.Facts.{toZ-ofZ}
+use Rattle.numbers.proofs.SignedLaws.{pos-sub-zero}
+use Rattle.ledger.specs.Fix.{priceWord}
+use borrow.Author.Needs.{needs, sfits-of}
+use Rattle.ledger.proofs.fix.price_word.Statement.{statement}
+use Rattle.ledger.proofs.fix.price_word.Tie as tie
+
+mul-difference : tie.Need-mul-difference
+mul-difference c = search needs
+
+element-copy-out-difference : tie.Need-element-copy-out-difference
+element-copy-out-difference c = search needs
+
+difference-requires : tie.Need-difference-requires
+difference-requires c κs = (omega (arith, c .before .pre .0 .average (c .before .args .k / 3)), omega arith)
+
+mul-difference-2 : tie.Need-mul-difference-2
+mul-difference-2 c = search needs
+
+element-copy-out-difference-2 : tie.Need-element-copy-out-difference-2
+element-copy-out-difference-2 c = search needs
+
+difference-requires-2 : tie.Need-difference-requires-2
+difference-requires-2 c κs = (omega (arith, c .before .pre .0 .final (c .before .args .k / 3)), omega arith)
+
+mul-difference-3 : tie.Need-mul-difference-3
+mul-difference-3 c = search needs
+
+element-copy-out-difference-3 : tie.Need-element-copy-out-difference-3
+element-copy-out-difference-3 c = search needs
+
+mul-difference-4 : tie.Need-mul-difference-4
+mul-difference-4 c = search needs
+
+element-copy-out-difference-4 : tie.Need-element-copy-out-difference-4
+element-copy-out-difference-4 c = search needs
+
+difference-requires-3 : tie.Need-difference-requires-3
+difference-requires-3 c κs = let p = c .before .pre .0 in
+    let i = c .before .args .k / 3 in
+    (omega (arith, p .final i), omega (arith, p .average i))
+
+returns : tie.Need-returns
+unfolding priceWord
+returns c = rw (toZ-ofZ (sfits-of (c .difference .ok)), c .before .match .keys1) (c .difference .ensures ∙ pos-sub-zero _)
+
+returns-2 : tie.Need-returns-2
+unfolding priceWord
+returns-2 c = rw (toZ-ofZ (sfits-of (c .difference2 .ok)), c .before .match .keys2) (c .difference2 .ensures ∙ pos-sub-zero _)
+
+returns-3 : tie.Need-returns-3
+unfolding priceWord
+returns-3 c = let e : c .before .before .args .k % 3 ≡ 2 = omega arith in
+    rw (toZ-ofZ (sfits-of (c .difference3 .ok)), e) (c .difference3 .ensures)
+
+pub price-word-spec : {M : Type 1} → statement M
+price-word-spec =
+    tie.close
+    (tie.spec
+    mul-difference
+    element-copy-out-difference
+    difference-requires
+    mul-difference-2
+    element-copy-out-difference-2
+    difference-requires-2
+    mul-difference-3
+    element-copy-out-difference-3
+    mul-difference-4
+    element-copy-out-difference-4
+    difference-requires-3
+    returns
+    returns-2
+    returns-3)

@@ -1,0 +1,22 @@
+-- The definition, field by field: no charges, and forty balances of zero.
+use mathlib.Core.Path.{ap₂}
+use mathlib.Core.Bool.{false}
+use lib.IntN.{pos}
+use Rattle.settlement.proofs.MonthLaws.{money-none}
+use Rattle.ledger.specs.Ledger.{noBalances, emptyLedger}
+use Rattle.ledger.specs.declared.book.Ledger.{Ledger}
+use borrow.Author.Needs.{needs}
+use Rattle.ledger.proofs.open.empty.Statement.{statement}
+use Rattle.ledger.proofs.open.empty.Tie as tie
+
+no-charges-requires : tie.Need-no-charges-requires
+no-charges-requires c κs = search needs
+
+returns : tie.Need-returns
+unfolding emptyLedger noBalances
+returns c = ap₂ {C = Ledger}
+    (λ f b. record { n = c .before .args .n; months = 0; last = 0; fixed = false; month = 0; force = f; balances = b })
+    (c .no-charges .ensures) (money-none (λ i. pos 0))
+
+pub empty-spec : {M : Type 1} → statement M
+empty-spec = tie.close (tie.spec no-charges-requires returns)

@@ -1,0 +1,127 @@
+-- Causes 12 and 13 in their order; a month that passes both is settled, written and booked.
+use mathlib.Core.Path.{_≡_, refl, sym, _∙_}
+use mathlib.Core.Bool.{true}
+use native.Mathlib.Omega.{arith}
+use borrow.Author.Tests.{not-true, not-false}
+use Rattle.settlement.specs.Amount.{billingInRange}
+use Rattle.settlement.specs.Settlement.{positionsInRange}
+use Rattle.settlement.specs.Month.{moneyAt}
+use Rattle.settlement.proofs.MonthLaws.{positions-within}
+use Rattle.ledger.specs.Settle.{SettlementCall, callOf, positionsOf}
+use Rattle.ledger.specs.declared.book.Ledger.{Ledger}
+use Rattle.ledger.specs.declared.settle.SettlementAnswer.the-variants.{WrongReading, PositionBeyond}
+use Rattle.ledger.proofs.SoundLaws.{sound-few, sound-months, sound-balances}
+use Rattle.ledger.proofs.SettleLaws.{lists-due, transfers-length, billed-due, answer-twelve, answer-thirteen, month-settled, month-refused}
+use borrow.Author.Needs.{needs}
+use Rattle.ledger.proofs.settle.settle_month.Statement.{statement}
+use Rattle.ledger.proofs.settle.settle_month.Tie as tie
+
+-- the ledger and the call
+module _ (s : tie.Start) where
+  abbrev book : Ledger
+  book = s .args .ledger
+
+  abbrev call : SettlementCall
+  call = callOf (s .args .month) (s .args .readings .now) (s .args .losses .now) (s .args .transfers .now)
+
+abbrev start : tie.After-present2 → tie.Start
+start c = c .before .before .before .before .before .before
+
+-- what is known where a check is passed
+module _ (c : tie.Else1) where
+  abbrev begun : tie.Start
+  begun = start (c .before .before)
+
+  billed : billingInRange (book begun .n) (book begun .force .present) (begun .args .readings .now) (begun .args .losses .now) ≡ true
+  billed = sym (c .before .billing-in-range .ensures) ∙ not-false _ (c .if1 .left)
+
+module _ (c : tie.After-positions) where
+  abbrev twelve : tie.Else1
+  twelve = c .before .before .before
+
+  worked : c .positions .result ≡ positionsOf (book (begun twelve)) (call (begun twelve))
+  unfolding positionsOf
+  worked = c .positions .ensures
+
+module _ (c : tie.Else2) where
+  abbrev placed : tie.After-positions
+  placed = c .before .before
+
+  within : positionsInRange (book (begun (twelve placed)) .n) (moneyAt (placed .positions .result)) ≡ true
+  within = sym (c .before .positions-in-range .ensures) ∙ not-false _ (c .if2 .left)
+
+billing-in-range-requires : tie.Need-billing-in-range-requires
+billing-in-range-requires c κs = lists-due _ (call (start c)) (start c .pre)
+
+refused-requires : tie.Need-refused-requires
+refused-requires c κs = search needs
+
+returns : tie.Need-returns
+returns c =
+    let t = c .before in
+    let s = start (t .before .before) in
+    month-refused (book s) (call s) WrongReading
+    (answer-twelve _ _ (s .pre) (sym (t .before .billing-in-range .ensures) ∙ not-true _ (t .if1 .taken))) refl _ (c .refused .ensures)
+
+positions-requires : tie.Need-positions-requires
+positions-requires c κs =
+    let e = c .before .before in
+    let s = begun e in
+    (sound-balances _ (s .pre .whole), billed-due _ (call s) (s .pre) (billed e))
+
+positions-in-range-requires : tie.Need-positions-in-range-requires
+positions-in-range-requires c κs = omega (arith, sound-few (book (begun (twelve c))) (begun (twelve c) .pre .whole))
+
+refused-requires-2 : tie.Need-refused-requires-2
+refused-requires-2 c κs = search needs
+
+returns-2 : tie.Need-returns-2
+returns-2 c =
+    let t = c .before in
+    let p = t .before .before in
+    let s = begun (twelve p) in
+    month-refused (book s) (call s) PositionBeyond
+    (answer-thirteen _ _ (s .pre) (billed (twelve p)) _ (worked p) (sym (t .before .positions-in-range .ensures) ∙ not-true _ (t .if2 .taken)))
+    refl _ (c .refused2 .ensures)
+
+settle-positions-requires : tie.Need-settle-positions-requires
+settle-positions-requires c κs = positions-within _ _ (sound-few _ (begun (twelve (placed c)) .pre .whole)) (within c)
+
+write-transfers-requires : tie.Need-write-transfers-requires
+write-transfers-requires c κs =
+    let s = begun (twelve (placed (c .before .before .before .before))) in
+    (sound-few _ (s .pre .whole), transfers-length _ (call s) (s .pre))
+
+book-month-requires : tie.Need-book-month-requires
+book-month-requires c κs =
+    let s = begun (twelve (placed (c .before .before .before .before .before .before))) in
+    omega (arith, sound-months (book s) (s .pre .whole))
+
+same-length : tie.Need-same-length
+same-length c = search needs
+
+returns-3 : tie.Need-returns-3
+returns-3 c =
+    let w = c .before .before in
+    let m = w .before .before .before .before in
+    let p = placed (m .before) in
+    let s = begun (twelve p) in
+    month-settled (book s) (call s) (s .pre) (billed (twelve p)) _ (worked p) (within (m .before)) _ _ _
+    (m .settle-positions .ensures) (c .book-month .ensures) (w .write-transfers .ensures)
+
+pub settle-month-spec : {M : Type 1} → statement M
+settle-month-spec =
+    tie.close
+    (tie.spec
+    billing-in-range-requires
+    refused-requires
+    returns
+    positions-requires
+    positions-in-range-requires
+    refused-requires-2
+    returns-2
+    settle-positions-requires
+    write-transfers-requires
+    book-month-requires
+    same-length
+    returns-3)

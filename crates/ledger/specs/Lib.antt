@@ -1,0 +1,5 @@
+pub mod Ledger
+pub mod Sound
+pub mod Turn
+pub mod Fix
+pub mod Settle

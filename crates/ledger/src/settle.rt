@@ -1,0 +1,172 @@
+// The open call of settlement: no requires. Causes 2, 3, 4, 5, 12 and 13 in their order; the transfers are written only
+// when all of them are passed.
+ghost use mathlib.Core.Path.{_≡_};
+ghost use Prim.Native.Nat.{_≤_, _<_, _^_};
+ghost use lib.ListN.{length};
+ghost use Rattle.numbers.specs.Bounded.{listBelow};
+ghost use Rattle.settlement.specs.Month.{moneyAt};
+ghost use Rattle.ledger.specs.Ledger.{settledLedger};
+ghost use Rattle.ledger.specs.Turn.{settlementTurn};
+ghost use Rattle.ledger.specs.Settle.{callOf, settlementLengths, Due, answerNumber, Settlement};
+use crate::book::Ledger;
+use crate::sound::sound;
+use numbers::units::Pesos;
+use settlement::amount::billing_in_range;
+use settlement::month::positions;
+use settlement::month::positions_in_range;
+use settlement::month::settle_positions;
+
+pub enum SettlementAnswer {
+    Settled,
+    Unsound,
+    WrongLength,
+    OutOfTurn,
+    NoFixing,
+    WrongReading,
+    PositionBeyond,
+}
+
+// The answer, and the ledger handed back.
+pub struct SettlementOutcome {
+    pub answer: SettlementAnswer,
+    pub ledger: Ledger,
+}
+
+const LAST_MONTH: u64 = 1199;
+
+impl Ledger {
+    // The ledger with one month more settled.
+    fn book_month(mut self, month: u64, balances: [Pesos; 40]) -> Self
+        requires { ⌜ self .months < 2 ^ 63 ⌝ }
+        ensures { λ r. ⌜ r ≡ settledLedger self month balances ⌝ }
+    {
+        self.months = self.months + 1;
+        self.last = month;
+        self.balances = balances;
+        self
+    }
+}
+
+// Whether every lent list has its length.
+fn lengths_right(n: usize, readings: &[u64], losses: &[u64], transfers: &[i64]) -> bool
+    requires { ⌜ n ≤ 40 ⌝ }
+    ensures { λ r. ⌜ r ≡ settlementLengths n (callOf 0 (now (readings .entry)) (now (losses .entry)) (now (transfers .entry))) ⌝ }
+{
+    readings.len() == n * 32 && (losses.len() == n * 2 && transfers.len() == n)
+}
+
+// Whether the month is due.
+fn in_turn(months: u64, last: u64, fixed: bool, fixing_month: u64, month: u64) -> bool
+    requires { ⌜ last ≤ 1199 ⌝ }
+    ensures { λ r. ⌜ r ≡ settlementTurn months last fixed «fixing_month» month ⌝ }
+{
+    if month > LAST_MONTH {
+        return false;
+    }
+    if months != 0 {
+        month == last + 1
+    } else {
+        !fixed || month == fixing_month
+    }
+}
+
+// The transfers, in one loop that cannot fail.
+fn write_transfers(transfers: &mut [i64], n: usize, amounts: [Pesos; 40])
+    requires { ⌜ n ≤ 40 ⌝ ∗ ⌜ length (now transfers) ≡ n ⌝ }
+    ensures { λ r. ⌜ now (transfers .exit) ≡ listBelow n (moneyAt amounts) ⌝ }
+{
+    let mut i: usize = 0;
+    while i < transfers.len() {
+        let amount = amounts[i];
+        let word = amount.0;
+        transfers[i] = word;
+        i += 1;
+    }
+}
+
+// A refusal hands the ledger back as it was.
+fn refused(answer: SettlementAnswer, ledger: Ledger) -> SettlementOutcome
+    ensures { λ r. ⌜ r ≡ record { answer = answer; ledger = ledger } ⌝ }
+{
+    SettlementOutcome { answer, ledger }
+}
+
+// The settlement of a sound ledger with a fixing in force, in a month that is due: causes 12 and 13, then the month.
+fn settle_month(
+    ledger: Ledger,
+    month: u64,
+    readings: &[u64],
+    losses: &[u64],
+    transfers: &mut [i64],
+) -> SettlementOutcome
+    requires { ⌜ Due ledger (callOf month (now readings) (now losses) (now transfers)) ⌝ }
+    ensures { λ r. ⌜ Settlement ledger (callOf month (now (readings .entry)) (now (losses .entry)) (now (transfers .entry))) (r .answer) (r .ledger) (now (transfers .exit)) ⌝ }
+{
+    let n = ledger.n;
+    let force = ledger.force;
+    let present = force.present;
+    let charges = force.charges;
+    if !billing_in_range(n, &present, readings, losses) {
+        return refused(SettlementAnswer::WrongReading, ledger);
+    }
+    let old = ledger.balances;
+    let positions = positions(n, old, &charges, readings, losses);
+    if !positions_in_range(n, positions) {
+        return refused(SettlementAnswer::PositionBeyond, ledger);
+    }
+    let settled = settle_positions(n, positions);
+    let amounts = settled.transfers;
+    let balances = settled.balances;
+    write_transfers(transfers, n, amounts);
+    let ledger = ledger.book_month(month, balances);
+    SettlementOutcome {
+        answer: SettlementAnswer::Settled,
+        ledger,
+    }
+}
+
+// A month's settlement from readings and loss factors. Where it is accepted the transfers are written and the balances of
+// the ledger handed back are moved; where it is refused both are as they were.
+pub fn settle(
+    ledger: Ledger,
+    month: u64,
+    readings: &[u64],
+    losses: &[u64],
+    transfers: &mut [i64],
+) -> SettlementOutcome
+    ensures { λ r. ⌜ Settlement ledger (callOf month (now (readings .entry)) (now (losses .entry)) (now (transfers .entry))) (r .answer) (r .ledger) (now (transfers .exit)) ⌝ }
+{
+    if !sound(ledger) {
+        return refused(SettlementAnswer::Unsound, ledger);
+    }
+    let n = ledger.n;
+    if !lengths_right(n, readings, losses, transfers) {
+        return refused(SettlementAnswer::WrongLength, ledger);
+    }
+    let months = ledger.months;
+    let last = ledger.last;
+    let fixed = ledger.fixed;
+    let fixing_month = ledger.month;
+    if !in_turn(months, last, fixed, fixing_month, month) {
+        return refused(SettlementAnswer::OutOfTurn, ledger);
+    }
+    if !fixed {
+        return refused(SettlementAnswer::NoFixing, ledger);
+    }
+    settle_month(ledger, month, readings, losses, transfers)
+}
+
+// 01's number of a settlement's answer: 0 where it is accepted.
+pub fn number(answer: SettlementAnswer) -> u64
+    ensures { λ r. ⌜ r ≡ answerNumber answer ⌝ }
+{
+    match answer {
+        SettlementAnswer::Settled => 0,
+        SettlementAnswer::Unsound => 2,
+        SettlementAnswer::WrongLength => 3,
+        SettlementAnswer::OutOfTurn => 4,
+        SettlementAnswer::NoFixing => 5,
+        SettlementAnswer::WrongReading => 12,
+        SettlementAnswer::PositionBeyond => 13,
+    }
+}

@@ -1,0 +1,53 @@
+-- The index stays within its bound.
+use Prim.Native.Nat.{_≤_, _-_}
+use mathlib.Core.Path.{_≡_, refl}
+use lib.ListN.{length, length-set}
+use Rattle.timing.proofs.lines.Statement.{statement}
+use Rattle.timing.proofs.lines.Tie as tie
+use native.Mathlib.Omega.{arith}
+use borrow.Author.Needs.{needs}
+
+abbrev Inv-loop : tie.InvT-loop
+Inv-loop lines₀ at₀ lines at = (at ≤ 6656) × (length lines ≡ 6656)
+
+abbrev μ-loop : tie.MeasureT-loop
+μ-loop lines₀ at₀ lines at = 6656 - at
+
+loop-holds : tie.Need-loop-holds Inv-loop μ-loop
+loop-holds c = (omega arith, refl)
+
+line-word-requires : tie.Need-line-word-requires Inv-loop μ-loop
+line-word-requires c κs = search needs
+
+mul-lines : tie.Need-mul-lines Inv-loop μ-loop
+mul-lines c = omega arith
+
+array-write-lines : tie.Need-array-write-lines Inv-loop μ-loop
+array-write-lines c = omega arith
+
+add-at : tie.Need-add-at Inv-loop μ-loop
+add-at c = omega arith
+
+loop-less : tie.Need-loop-less Inv-loop μ-loop
+loop-less c = omega arith
+
+loop-again : tie.Need-loop-again Inv-loop μ-loop
+loop-again c = (omega arith, simp length-set (c .before .before .loop .inv .1))
+
+returns : tie.Need-returns Inv-loop μ-loop
+returns c = omega arith
+
+pub lines-spec : {M : Type 1} → statement M
+lines-spec =
+    tie.close
+    (tie.spec
+    Inv-loop
+    μ-loop
+    loop-holds
+    line-word-requires
+    mul-lines
+    array-write-lines
+    add-at
+    loop-less
+    loop-again
+    returns)
