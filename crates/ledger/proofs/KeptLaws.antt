@@ -181,6 +181,22 @@ fixing-keeps book call h = go (isAccepted (fixingAnswer book call)) refl
     go true e = accepted (fixing-passed book call e)
     go false e = h
 
+-- an accepted settlement's balances add up to the old ones plus the collected amounts
+pub settlement-adds : (book : Ledger) (call : SettlementCall) → sound book ≡ true → isSettled (settlementAnswer book call) ≡ true → signedSumBelow mostDistributors (moneyAt (settlementLedger book call .balances)) ≡ signedSumBelow mostDistributors (moneyAt (book .balances)) +ℤ signedSumBelow (book .n) (collectedAmount (book .force .charges) (call .readings) (call .losses))
+unfolding settlementLedger settledLedger settledMonth positionsOf positionList positionOf
+settlement-adds book call h e =
+    let g = sound-facts book h in
+    let amount : ℕ → ℤ = collectedAmount (book .force .charges) (call .readings) (call .losses) in
+    let position : ℕ → ℤ = λ i. moneyAt (book .balances) i +ℤ amount i in
+    let held : ℕ → ℤ = moneyAt (moneyBelow (book .n) position) in
+    rw e
+    (money-sum (book .n) (g .few) (newBalance (book .n) held)
+    ∙ balances-total (book .n) held
+    ∙ signed-sum-same (book .n) held position (λ i p. money-at position (book .n) i p (omega (arith, g .few)))
+    ∙ signed-sum-add (book .n) (moneyAt (book .balances)) amount
+    ∙ ap (λ (z : ℤ). z +ℤ signedSumBelow (book .n) amount)
+    (sym (sum-wide (book .n) mostDistributors (moneyAt (book .balances)) (g .few) (λ i p q. g .balance i q .past p))))
+
 -- what a settled month's turn says
 module _ (months last : ℕ) (fixed : Bool) (fixingMonth month : ℕ) (h : settlementTurn months last fixed fixingMonth month ≡ true) where
   abbrev due : Bool
@@ -244,19 +260,3 @@ settlement-keeps book call h = go (isSettled (settlementAnswer book call)) refl
     go : (b : Bool) → isSettled (settlementAnswer book call) ≡ b → sound (pickLedger b (settledLedger book (call .month) (settledMonth (book .n) (positionsOf book call) .balances)) book) ≡ true
     go true e = accepted (settlement-passed book call e)
     go false e = h
-
--- an accepted settlement's balances add up to the old ones plus the collected amounts
-pub settlement-adds : (book : Ledger) (call : SettlementCall) → sound book ≡ true → isSettled (settlementAnswer book call) ≡ true → signedSumBelow mostDistributors (moneyAt (settlementLedger book call .balances)) ≡ signedSumBelow mostDistributors (moneyAt (book .balances)) +ℤ signedSumBelow (book .n) (collectedAmount (book .force .charges) (call .readings) (call .losses))
-unfolding settlementLedger settledLedger settledMonth positionsOf positionList positionOf
-settlement-adds book call h e =
-    let g = sound-facts book h in
-    let amount : ℕ → ℤ = collectedAmount (book .force .charges) (call .readings) (call .losses) in
-    let position : ℕ → ℤ = λ i. moneyAt (book .balances) i +ℤ amount i in
-    let held : ℕ → ℤ = moneyAt (moneyBelow (book .n) position) in
-    rw e
-    (money-sum (book .n) (g .few) (newBalance (book .n) held)
-    ∙ balances-total (book .n) held
-    ∙ signed-sum-same (book .n) held position (λ i p. money-at position (book .n) i p (omega (arith, g .few)))
-    ∙ signed-sum-add (book .n) (moneyAt (book .balances)) amount
-    ∙ ap (λ (z : ℤ). z +ℤ signedSumBelow (book .n) amount)
-    (sym (sum-wide (book .n) mostDistributors (moneyAt (book .balances)) (g .few) (λ i p q. g .balance i q .past p))))
