@@ -1,0 +1,357 @@
+#!/usr/bin/env python3
+"""An independent model of document 01, written from its text with unbounded integers: opening, fixing, settlement.
+
+    tools/recompute.py < JOURNAL
+
+prints what each call of a journal (JOURNAL.md) is answered with. No part of the gate; the outputs that the gate compares
+were worked with it."""
+import re
+import sys
+
+
+def half_up(a, b):
+    assert a >= 0 and b > 0
+    return (2 * a + b) // (2 * b)
+
+
+def half_away(a, b):
+    return half_up(a, b) if a >= 0 else -half_up(-a, b)
+
+
+class Ledger:
+    """n, months settled, last month, fixing present, its month, presence and charge of each sector, balances."""
+
+    def __init__(self, n=0):
+        self.n, self.months, self.last, self.fixed, self.month = n, 0, 0, False, 0
+        self.present, self.charge, self.balance = [False] * 320, [0] * 320, [0] * 40
+
+    def copy(self):
+        c = Ledger(self.n)
+        c.months, c.last, c.fixed, c.month = self.months, self.last, self.fixed, self.month
+        c.present, c.charge, c.balance = list(self.present), list(self.charge), list(self.balance)
+        return c
+
+
+def open_ledger(n):
+    return (0, Ledger(n)) if 1 <= n <= 40 else (1, Ledger(0))
+
+
+def sound(b):
+    if not 1 <= b.n <= 40:
+        return False
+    # "entries past n .. are zero"
+    if any(b.present[8 * b.n:]) or any(b.charge[8 * b.n:]) or any(b.balance[b.n:]):
+        return False
+    # "charges of absent sectors"
+    if any(c != 0 and not p for p, c in zip(b.present, b.charge)):
+        return False
+    # "everything unset [is] zero"
+    if not b.fixed and (b.month != 0 or any(b.present) or any(b.charge)):
+        return False
+    if b.months == 0 and b.last != 0:
+        return False
+    # "month numbers are at most 1,199"
+    if b.last > 1199 or b.month > 1199:
+        return False
+    # "once a month is settled, the count of months and the fixing's month are at most last+1"
+    if b.months > 0 and (b.months > b.last + 1 or b.month > b.last + 1):
+        return False
+    # "till then balances are zero"
+    if b.months == 0 and any(b.balance):
+        return False
+    # "nothing is settled without a fixing"
+    if b.months > 0 and not b.fixed:
+        return False
+    if any(abs(c) > 10_500_000 for c in b.charge) or any(abs(v) > 10 ** 15 for v in b.balance):
+        return False
+    return not (any(v > 0 for v in b.balance) and any(v < 0 for v in b.balance))
+
+
+def line_wrong(line, n):
+    """Cause 6 of one line of 26 words."""
+    d, base, offer, purchase, energy, count = line[:6]
+    if not d < n or not 1 <= base <= 1_000_000:
+        return True
+    if not 5000 <= offer <= 20000 or not 5000 <= purchase <= 20000:
+        return True
+    if not 1 <= energy <= 10_000_000 or not count <= 4:
+        return True
+    total = 0
+    for k in range(4):
+        series, weight, lag, window, value = line[6 + 5 * k:11 + 5 * k]
+        if k >= count:
+            if (series, weight, lag, window, value) != (0, 0, 0, 0, 0):
+                return True
+            continue
+        if series > 4 or not 1 <= weight <= 10000 or not 1 <= lag <= 12 or window not in (1, 6, 9):
+            return True
+        if not 1 <= value <= 99_999_999:
+            return True
+        total += weight
+    return count != 0 and total != 10000
+
+
+def months_of(t, lag, window):
+    return [t - lag - k for k in range(window)]
+
+
+def value_at(series, first, row, month):
+    """The published value, or None where the month is missing."""
+    if month < 0 or not first <= month <= first + 47:
+        return None
+    v = series[48 * row + month - first]
+    return v if v else None
+
+
+def line_price(line, t, dollar, factor, first, series):
+    """The reference of a line, or None where the factor or a price is out of bounds."""
+    d, base, offer, purchase_factor, energy, count = line[:6]
+    f = 1_000_000
+    if count:
+        total = 0
+        for k in range(count):
+            row, weight, lag, window, value = line[6 + 5 * k:11 + 5 * k]
+            mean = half_up(sum(value_at(series, first, row, m) for m in months_of(t, lag, window)), window)
+            total += weight * half_up(mean * 1_000_000, value)
+        f = half_up(total, 10000)
+    if f > 100_000_000:
+        return None
+    indexed = half_up(base * f, 1_000_000)
+    purchase = half_up(indexed * purchase_factor, offer)
+    peso = half_up(purchase * dollar, 100_000)
+    reference = half_up(peso * factor, purchase_factor)
+    if not 1 <= indexed <= 1_000_000 or not 1 <= purchase <= 1_000_000:
+        return None
+    return reference if 1000 <= reference <= 2_000_000 else None
+
+
+def limit_and_rounds(p, e):
+    n = len(p)
+    total = sum(a * b for a, b in zip(p, e))
+    limit = 105 * total // (100 * sum(e))
+    capped = {i for i in range(n) if p[i] > limit}
+    r = rounds = 0
+    if capped:
+        while True:
+            rounds += 1
+            need = sum((p[i] - limit) * e[i] for i in capped)
+            outside = sum(e[i] for i in range(n) if i not in capped)
+            r = -(-need // outside)
+            joining = {i for i in range(n) if i not in capped and p[i] + r > limit}
+            if not joining:
+                break
+            capped |= joining
+    final = [limit if i in capped else p[i] + r for i in range(n)]
+    residue = sum(a * b for a, b in zip(final, e)) - total
+    return limit, r, rounds, residue, final
+
+
+def fix(book, month, dollar, factor, first, series, lines, sectors, out):
+    """(number, values, ledger, list)"""
+    keep = (book, out)
+    if not sound(book):
+        return 2, (), *keep
+    n = book.n
+    if len(series) != 240 or len(lines) % 26 or not 1 <= len(lines) // 26 <= 256:
+        return 3, (), *keep
+    if len(sectors) != 8 * n or len(out) != 3 * n:
+        return 3, (), *keep
+    if month > 1199 or (book.months and month != book.last + 1):
+        return 4, (), *keep
+    rows = [lines[26 * j:26 * j + 26] for j in range(len(lines) // 26)]
+    if not 1 <= dollar <= 200_000 or not 5000 <= factor <= 20000 or first > 1199:
+        return 6, (), *keep
+    if any(line_wrong(line, n) for line in rows):
+        return 6, (), *keep
+    if any(v > 99_999_999 for v in series):
+        return 7, (), *keep
+    if any(s > 50000 for s in sectors) or any(not any(sectors[8 * i:8 * i + 8]) for i in range(n)):
+        return 8, (), *keep
+    if {line[0] for line in rows} != set(range(n)):
+        return 9, (), *keep
+    for j, line in enumerate(rows):
+        for k in range(line[5]):
+            row, weight, lag, window, value = line[6 + 5 * k:11 + 5 * k]
+            if any(value_at(series, first, row, m) is None for m in months_of(month, lag, window)):
+                return 10, (j, k), *keep
+    references = [line_price(line, month, dollar, factor, first, series) for line in rows]
+    if None in references:
+        return 11, (references.index(None),), *keep
+    e = [sum(line[4] for line in rows if line[0] == i) for i in range(n)]
+    p = [half_up(sum(q * line[4] for q, line in zip(references, rows) if line[0] == i), e[i]) for i in range(n)]
+    limit, r, rounds, residue, final = limit_and_rounds(p, e)
+    written = []
+    for i in range(n):
+        written += [p[i], final[i], final[i] - p[i]]
+    new = book.copy()
+    new.fixed, new.month = True, month
+    new.present, new.charge = [False] * 320, [0] * 320
+    for k, s in enumerate(sectors):
+        i = k // 8
+        if s:
+            new.present[k], new.charge[k] = True, half_away((final[i] - p[i]) * s, 10000)
+    return 0, (limit, r, rounds, residue), new, written
+
+
+def shares(sizes, t):
+    total, running, out = sum(sizes), 0, []
+    for s in sizes:
+        if total == 0:
+            out.append(0)
+            continue
+        before = t * running // total
+        running += s
+        out.append(t * running // total - before)
+    return out
+
+
+def settle(book, month, readings, losses, out):
+    keep = (book, out)
+    if not sound(book):
+        return 2, *keep
+    n = book.n
+    if len(readings) != 32 * n or len(losses) != 2 * n or len(out) != n:
+        return 3, *keep
+    if month > 1199:
+        return 4, *keep
+    if book.months:
+        if month != book.last + 1:
+            return 4, *keep
+    elif book.fixed and month != book.month:
+        return 4, *keep
+    if not book.fixed:
+        return 5, *keep
+    if any(v > 2_000_000_000 for v in readings) or any(not 10000 <= v <= 20000 for v in losses):
+        return 12, *keep
+    if any(any(readings[4 * k:4 * k + 4]) and not book.present[k] for k in range(8 * n)):
+        return 12, *keep
+    position = []
+    for i in range(n):
+        peat, pebt = losses[2 * i:2 * i + 2]
+        total = 0
+        for k in range(8 * i, 8 * i + 8):
+            bat, iat, bbt, ibt = readings[4 * k:4 * k + 4]
+            x = half_away((bat - iat) * peat * 10000 + (bbt - ibt) * peat * pebt, 100_000_000)
+            total += book.charge[k] * x
+        position.append(book.balance[i] + half_away(total, 1000))
+    if any(abs(v) > 10 ** 15 for v in position):
+        return 13, *keep
+    owing, owed = [max(v, 0) for v in position], [max(-v, 0) for v in position]
+    t = min(sum(owing), sum(owed))
+    transfers = [b - a for a, b in zip(shares(owing, t), shares(owed, t))]
+    new = book.copy()
+    new.balance = [v + w for v, w in zip(position, transfers)] + [0] * (40 - n)
+    new.months, new.last = book.months + 1, month
+    return 0, new, transfers
+
+
+# A journal of calls (the text form that `replay` will read), answered by the model.
+MOST_BYTES, MOST_WORDS = 524_288, 8_192
+
+
+class Unreadable(Exception):
+    """A journal that cannot be read, with the place of its first bad token."""
+
+
+class Journal:
+    def __init__(self, text):
+        bare = re.sub(rb"#[^\n]*", lambda m: b" " * len(m.group()), text)
+        self.tokens = [(m.start(), m.group()) for m in re.finditer(rb"[^ \t\r\n]+", bare)]
+        self.next, self.length = 0, len(text)
+
+    def token(self):
+        if self.next == len(self.tokens):
+            raise Unreadable(self.length)
+        self.next += 1
+        return self.tokens[self.next - 1]
+
+    def word(self, expected):
+        at, token = self.token()
+        if token != expected:
+            raise Unreadable(at)
+
+    def number(self, least=0, most=2 ** 64 - 1):
+        at, token = self.token()
+        if not re.fullmatch(rb"-?[0-9]+" if least < 0 else rb"[0-9]+", token) or not least <= int(token) <= most:
+            raise Unreadable(at)
+        return int(token)
+
+    def signed(self):
+        return self.number(-2 ** 63, 2 ** 63 - 1)
+
+    def flag(self):
+        return self.number(0, 1) == 1
+
+    def count(self, name, most=MOST_WORDS):
+        self.word(name)
+        return self.number(0, most)
+
+    def list(self, name, read, most=MOST_WORDS):
+        return [read() for _ in range(self.count(name, most))]
+
+
+def fix_command(journal, book):
+    month, dollar, factor, first = (journal.number() for _ in range(4))
+    series, lines, sectors = (journal.list(name, journal.number) for name in (b"series", b"lines", b"sectors"))
+    lent = [-1] * journal.count(b"prices")
+    number, values, book, out = fix(book, month, dollar, factor, first, series, lines, sectors, lent)
+    if number == 0:
+        rows = [f"{i} {out[3 * i]} {out[3 * i + 1]} {out[3 * i + 2]}" for i in range(book.n)]
+        return book, ["fix accepted limit %d surcharge %d rounds %d residue %d" % values] + rows
+    place = {10: " line %d term %d", 11: " line %d"}.get(number, "")
+    return book, [f"fix refused {number}" + place % values]
+
+
+def settle_command(journal, book):
+    month = journal.number()
+    readings, losses = (journal.list(name, journal.number) for name in (b"readings", b"losses"))
+    number, book, out = settle(book, month, readings, losses, [-1] * journal.count(b"transfers"))
+    if number == 0:
+        return book, ["settle accepted"] + [f"{i} {out[i]} {book.balance[i]}" for i in range(book.n)]
+    return book, [f"settle refused {number}"]
+
+
+def open_command(journal, book):
+    number, book = open_ledger(journal.number())
+    return book, ["open accepted" if number == 0 else f"open refused {number}"]
+
+
+def save_command(journal, book):
+    n = book.n
+    places = n if n <= 40 and not (any(book.present[8 * n:]) or any(book.charge[8 * n:]) or any(book.balance[n:])) else 40
+    lists = (("present", map(int, book.present[:8 * places])), ("charges", book.charge[:8 * places]), ("balances", book.balance[:places]))
+    rows = [" ".join([name, str(len(words)), *map(str, words)]) for name, words in ((a, list(b)) for a, b in lists)]
+    return book, [f"load {n} {book.months} {book.last} {int(book.fixed)} {book.month}"] + rows
+
+
+def load_command(journal, book):
+    book = Ledger(journal.number())
+    book.months, book.last = journal.number(), journal.number()
+    book.fixed, book.month = journal.flag(), journal.number()
+    for held, name, read in ((book.present, b"present", journal.flag), (book.charge, b"charges", journal.signed), (book.balance, b"balances", journal.signed)):
+        given = journal.list(name, read, len(held))
+        held[:len(given)] = given
+    return book, ["load accepted"]
+
+
+COMMANDS = {b"open": open_command, b"fix": fix_command, b"settle": settle_command, b"save": save_command, b"load": load_command}
+
+
+def replay(text):
+    if len(text) > MOST_BYTES:
+        return [f"journal error at byte {MOST_BYTES}"]
+    journal, book, printed = Journal(text), Ledger(), []
+    try:
+        while journal.next < len(journal.tokens):
+            at, word = journal.token()
+            if word not in COMMANDS:
+                raise Unreadable(at)
+            book, rows = COMMANDS[word](journal, book)
+            printed += rows
+    except Unreadable as place:
+        printed.append(f"journal error at byte {place}")
+    return printed
+
+
+if __name__ == "__main__":
+    print("".join(line + "\n" for line in replay(sys.stdin.buffer.read())), end="")
