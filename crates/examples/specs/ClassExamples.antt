@@ -2,25 +2,22 @@
 -- Assumes nothing.
 use mathlib.Core.List.{List, [], _∷_, _++_}
 use mathlib.Core.Option.{Option, none, some}
-use Prim.Native.Nat.{ℕ, zero, suc, _+_, _*_}
-use lib.ListN.{getD, replicate}
+use Prim.Native.Nat.{ℕ, zero, suc}
+use lib.ListN.{replicate}
 use lib.IntN.{ℤ, pos, negsuc}
 use Rattle.numbers.specs.Bounded.{listBelow}
 use Rattle.series.specs.Series.{meanOf, termMonth}
 use Rattle.supply.specs.Price.{lineIndexed, boundsSearch, boundsNumber}
-use Rattle.numbers.specs.Units.{noPrice}
-use Rattle.numbers.specs.declared.units.PesoPrice.{PesoPrice}
 use Rattle.numbers.specs.declared.units.Pesos.{Pesos}
 use Rattle.fixing.specs.Limit.{Distributors, limit, rounds, charge}
 use Rattle.fixing.specs.Charge.{sectorCharge}
-use Rattle.fixing.specs.Input.{FixingInput, inputOf}
-use Rattle.fixing.specs.Fixing.{fixingOf}
-use Rattle.fixing.specs.declared.fix.Fixing.{Fixing}
-use Rattle.fixing.specs.declared.sector.SectorCharges.{SectorCharges}
 use Rattle.settlement.specs.Amount.{collectedAmount}
 use Rattle.settlement.specs.Settlement.{transfer}
 use Rattle.settlement.specs.Month.{moneyAt, moneyBelow, positionList, settledMonth}
 use Rattle.settlement.specs.declared.month.Settled.{Settled}
+use Rattle.ledger.specs.Ledger.{emptyLedger}
+use Rattle.ledger.specs.Fix.{FixingCall, callOf, fixingAnswer, answerNumber, answerValues, fixingList}
+use Rattle.ledger.specs.declared.fix.FixingAnswer.{FixingAnswer}
 use Rattle.examples.specs.Table.{Example, whole}
 
 -- a month as a value: -1 where it is below 0
@@ -71,18 +68,11 @@ unfoldable pub inSectorZero : {A : Type 0} → A → A → A → A → List A
 inSectorZero d a b c =
     a ∷ d ∷ d ∷ d ∷ d ∷ d ∷ d ∷ d ∷ b ∷ d ∷ d ∷ d ∷ d ∷ d ∷ d ∷ d ∷ c ∷ d ∷ d ∷ d ∷ d ∷ d ∷ d ∷ d ∷ []
 
-unfoldable pub printInput : FixingInput
-printInput = inputOf 0 100000 10000 0 (replicate 240 0) printLines (inSectorZero 0 10000 10000 10000)
+unfoldable pub printCall : FixingCall
+printCall = callOf 0 100000 10000 0 (replicate 240 0) printLines (inSectorZero 0 10000 10000 10000) (replicate 9 (pos 0))
 
-unfoldable pub printFixing : Fixing
-printFixing = fixingOf 3 printInput
-
--- prices and charges of the first three distributors
-unfoldable pub firstThree : List PesoPrice → List ℤ
-firstThree prices = listBelow 3 (λ i. pos (getD prices i noPrice .0))
-
-unfoldable pub firstCharges : SectorCharges → List ℤ
-firstCharges force = listBelow 3 (λ i. getD (force .charges) (i * 8) (pos 0))
+unfoldable pub printAnswer : FixingAnswer
+printAnswer = fixingAnswer (emptyLedger 3) printCall
 
 -- the readings of three distributors that bill at high voltage in sector 0 alone; loss factors 10,000
 unfoldable pub billed : ℕ → List ℕ
@@ -138,15 +128,10 @@ classExamples =
     }
     ∷ record {
       number = 6;
-      computed =
-          whole (printFixing .prices .limit .0 ∷ printFixing .prices .surcharge .0 ∷ printFixing .prices .rounds ∷ [])
-          ++ (printFixing .prices .residue .0 ∷ [])
-          ++ firstThree (printFixing .averages)
-          ++ firstThree (printFixing .prices .finals)
-          ++ firstCharges (printFixing .sectors);
+      computed = whole (answerNumber printAnswer ∷ answerValues printAnswer) ++ fixingList (emptyLedger 3) printCall;
       printed =
-          whole (84338 ∷ 13022 ∷ 2 ∷ 2 ∷ 100000 ∷ 83000 ∷ 60000 ∷ 84338 ∷ 84338 ∷ 73022 ∷ [])
-          ++ (negsuc 15661 ∷ pos 1338 ∷ pos 13022 ∷ []);
+          whole (0 ∷ 84338 ∷ 13022 ∷ 2 ∷ 2 ∷ [])
+          ++ (pos 100000 ∷ pos 84338 ∷ negsuc 15661 ∷ pos 83000 ∷ pos 84338 ∷ pos 1338 ∷ pos 60000 ∷ pos 73022 ∷ pos 13022 ∷ []);
     }
     ∷ record { number = 7; computed = sectorCharge (negsuc 2) 5000 ∷ []; printed = negsuc 1 ∷ [] }
     ∷ record {
