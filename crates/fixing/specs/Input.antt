@@ -9,7 +9,7 @@ use lib.ListN.{length}
 use Rattle.numbers.specs.declared.units.PesoPrice.{PesoPrice}
 use Rattle.numbers.specs.declared.units.Energy.{Energy}
 use Rattle.series.specs.Series.{wordCount, seriesTable, valuesInRange}
-use Rattle.supply.specs.Line.{lineWords, mostLines, WholeLines}
+use Rattle.supply.specs.Line.{lineWords, WholeLines}
 use Rattle.supply.specs.Range.{inputInRange}
 use Rattle.supply.specs.Months.{monthSearch}
 use Rattle.supply.specs.Price.{boundsSearch, referencePrices}

@@ -3,7 +3,7 @@
 -- the set before each round and the surcharge of each round have a name of their own.
 -- A difference below is never cut off at 0 and no divisor is 0: proofs/LimitLaws shows it for every input in range.
 -- Assumes nothing.
-use mathlib.Core.Bool.{Bool, true, false, cond, not, _&&_, _||_}
+use mathlib.Core.Bool.{Bool, cond, not, _&&_, _||_}
 use mathlib.Core.Option.{Option, none, some}
 use Prim.Native.Nat.{ℕ, zero, suc, _+_, _-_, _*_, _/_, _≤_, _<_}
 use lib.Dec.{ltb}

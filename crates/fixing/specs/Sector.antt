@@ -1,6 +1,6 @@
 -- Sector factors of document 01: "8n words, 0 (sector absent) or 1 to 50,000 ten-thousandths; each distributor has a
 -- sector". Assumes nothing.
-use mathlib.Core.Bool.{Bool, true, false, not, _&&_}
+use mathlib.Core.Bool.{Bool, false, not, _&&_}
 use mathlib.Core.Path.{_≡_}
 use mathlib.Core.List.{List, []}
 use Prim.Native.Nat.{ℕ, _+_, _*_, _/_, _≤_, _<_}

@@ -1,11 +1,11 @@
 // The fixing of input of right lengths: causes 6 to 11 in their order, then averages, prices and sector charges.
 ghost use mathlib.Core.Path.{_≡_};
 ghost use mathlib.Core.Bool.{true};
-ghost use Prim.Native.Nat.{_*_, _≤_};
+ghost use Prim.Native.Nat.{_*_};
 ghost use lib.ListN.{length};
 ghost use Rattle.fixing.specs.Average.{AcceptedLines, averageList, energyList};
 ghost use Rattle.fixing.specs.Sector.{sectorCount, sectorsAllowed};
-ghost use Rattle.fixing.specs.Input.{RightLengths, CheckedInput, inputOf, lineCount, inputEnergies};
+ghost use Rattle.fixing.specs.Input.{RightLengths, CheckedInput, inputOf, inputEnergies};
 ghost use Rattle.fixing.specs.Fixing.{refusedFixing, acceptedFixing, pricedFixing, fixingOf};
 use crate::average::averages;
 use crate::average::energies;

@@ -1,15 +1,14 @@
 // Sector factors: their test (cause 8), and the presences and charges that a fixing puts in force.
 ghost use mathlib.Core.Path.{_≡_};
-ghost use mathlib.Core.List.{List};
 ghost use mathlib.Core.Bool.{false};
-ghost use Prim.Native.Nat.{ℕ, _*_, _≤_, _<_};
+ghost use Prim.Native.Nat.{_*_, _≤_, _<_};
 ghost use lib.Dec.{leb};
-ghost use lib.ListN.{length, getD, replicate};
-ghost use lib.IntN.{pos, natAbs, subℕ};
+ghost use lib.ListN.{length, getD};
+ghost use lib.IntN.{natAbs, subℕ};
 ghost use Rattle.numbers.specs.Bounded.{allBelow};
 ghost use Rattle.numbers.specs.Units.{noPrice};
 ghost use Rattle.fixing.specs.Charge.{sectorCharge};
-ghost use Rattle.fixing.specs.Sector.{sectorCount, sectorPlaces, mostFactor, factorAt, hasSector, sectorsAllowed, sectorCharges, noCharges, ChargedSectors};
+ghost use Rattle.fixing.specs.Sector.{sectorCount, mostFactor, factorAt, hasSector, sectorsAllowed, sectorCharges, noCharges, ChargedSectors};
 use numbers::rounding::half_away;
 use numbers::signed::difference;
 use numbers::units::PesoPrice;

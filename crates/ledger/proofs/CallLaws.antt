@@ -115,14 +115,17 @@ right-lengths n call p q h =
     }
 
 -- so its distributors are in range of the limit, and the fixing is the accepted one
-pub passed-range : (n : ℕ) (call : FixingCall) → 1 ≤ n → n ≤ 40 → fixingLengths n call ≡ true → inputVerdict n (call .input) ≡ Passed → InRange (distributors n (inputAverages n (call .input)) (inputEnergies n (call .input)))
+pub input-range : (n : ℕ) (input : FixingInput) → RightLengths n input → inputVerdict n input ≡ Passed → InRange (distributors n (inputAverages n input) (inputEnergies n input))
 unfolding inputAverages inputEnergies
-passed-range n call p q h v =
-    let f = input-passed n (call .input) v in
-    let ok : CheckedInput n (call .input) =
-    record { lengths = right-lengths n call p q h; ranges = f .ranges; small = f .small; sectored = f .sectored; supplied = f .supplied } in
-    accepted-range n (inputReferences (call .input)) (call .input .lines) (lineCount (call .input))
-    (checked-accepted n (call .input) ok (f .within) (inputReferences (call .input)) refl)
+input-range n input right v =
+    let f = input-passed n input v in
+    let ok : CheckedInput n input =
+    record { lengths = right; ranges = f .ranges; small = f .small; sectored = f .sectored; supplied = f .supplied } in
+    accepted-range n (inputReferences input) (input .lines) (lineCount input)
+    (checked-accepted n input ok (f .within) (inputReferences input) refl)
+
+pub passed-range : (n : ℕ) (call : FixingCall) → 1 ≤ n → n ≤ 40 → fixingLengths n call ≡ true → inputVerdict n (call .input) ≡ Passed → InRange (distributors n (inputAverages n (call .input)) (inputEnergies n (call .input)))
+passed-range n call p q h = input-range n (call .input) (right-lengths n call p q h)
 
 pub passed-fixing : (n : ℕ) (input : FixingInput) → inputVerdict n input ≡ Passed → fixingOf n input ≡ acceptedFixing n (inputAverages n input) (inputEnergies n input) (input .sectors)
 unfolding fixingOf

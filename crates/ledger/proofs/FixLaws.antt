@@ -4,19 +4,15 @@ use mathlib.Core.Path.{_≡_, refl, sym, _∙_, ap}
 use mathlib.Core.Bool.{Bool, true, false, cond, _&&_, true≢false}
 use mathlib.Core.List.{List}
 use mathlib.Core.Option.{some}
-use Prim.Native.Nat.{ℕ, _*_, _/_, _%_, _≤_}
-use native.Mathlib.Omega.{arith}
+use Prim.Native.Nat.{_*_}
 use lib.Dec.{eqb}
 use lib.ListN.{length}
 use lib.IntN.{ℤ}
 use borrow.Author.Tests.{eqb-true}
-use Rattle.numbers.specs.Units.{between}
-use Rattle.numbers.proofs.BoolLaws.{and-left, and-right}
-use Rattle.numbers.proofs.UnitLaws.{between-low, between-high}
+use Rattle.numbers.proofs.BoolLaws.{and-right}
 use Rattle.series.specs.Series.{wordCount}
-use Rattle.supply.specs.Line.{lineWords, mostLines}
 use Rattle.fixing.specs.Sector.{sectorCount}
-use Rattle.fixing.specs.Input.{RightLengths, inputVerdict, lineCount}
+use Rattle.fixing.specs.Input.{inputVerdict}
 use Rattle.fixing.specs.Fixing.{fixingOf}
 use Rattle.fixing.specs.declared.fix.Fixing.{Fixing}
 use Rattle.fixing.specs.declared.verdict.Verdict.{Verdict}
@@ -29,7 +25,6 @@ use Rattle.ledger.specs.declared.book.Ledger.{Ledger}
 use Rattle.ledger.specs.declared.fix.FixingAnswer.{FixingAnswer}
 use Rattle.ledger.specs.declared.fix.FixingAnswer.the-variants.{Accepted, Unsound, WrongLength, OutOfTurn, Rejected}
 use Rattle.ledger.specs.declared.fix.FixingOutcome.{FixingOutcome}
-use Rattle.ledger.proofs.SoundLaws.{sound-some, sound-few}
 use Rattle.ledger.proofs.PassedLaws.{verdict-is}
 
 -- a verdict that is not Passed is the answer
@@ -43,49 +38,15 @@ rejected (MonthMissing line term) h = refl
 rejected (OutOfBounds line) h = refl
 
 module _ (book : Ledger) (call : FixingCall) where
-  -- lists of the lengths that cause 3 asks for
-  record Lengths : Type 0 where
-    series : length (call .input .series) ≡ wordCount
-    lines : linesWhole (call .input .lines) ≡ true
-    sectors : length (call .input .sectors) ≡ book .n * sectorCount
-    prices : length (call .prices) ≡ book .n * 3
-
-  lengths-told : fixingLengths (book .n) call ≡ true → Lengths
+  -- the price list's length by cause 3
+  pub prices-length : fixingLengths (book .n) call ≡ true → length (call .prices) ≡ book .n * 3
   unfolding fixingLengths
-  lengths-told h =
+  prices-length h =
       let series = eqb (length (call .input .series)) wordCount in
       let lines = linesWhole (call .input .lines) in
       let sectors = eqb (length (call .input .sectors)) (book .n * sectorCount) in
       let prices = eqb (length (call .prices)) (book .n * 3) in
-      let from-lines = and-right series (lines && (sectors && prices)) h in
-      let from-sectors = and-right lines (sectors && prices) from-lines in
-      record {
-        series = eqb-true _ _ (and-left series (lines && (sectors && prices)) h);
-        lines = and-left lines (sectors && prices) from-lines;
-        sectors = eqb-true _ _ (and-left sectors prices from-sectors);
-        prices = eqb-true _ _ (and-right sectors prices from-sectors);
-      }
-
-  module _ (whole : sound book ≡ true) (lengths : fixingLengths (book .n) call ≡ true) where
-    pub prices-length : length (call .prices) ≡ book .n * 3
-    prices-length = lengths-told lengths .prices
-
-    pub right-lengths : RightLengths (book .n) (call .input)
-    unfolding linesWhole
-    right-lengths =
-        let l = lengths-told lengths in
-        let count = lineCount (call .input) in
-        let rest = eqb (length (call .input .lines) % lineWords) 0 in
-        let even : length (call .input .lines) % lineWords ≡ 0 = eqb-true _ _ (and-left rest (between 1 mostLines count) (l .lines)) in
-        let few : between 1 mostLines count ≡ true = and-right rest (between 1 mostLines count) (l .lines) in
-        record {
-          some = sound-some book whole;
-          few = sound-few book whole;
-          values = l .series;
-          lent = record { whole = omega arith; few = between-high 1 mostLines count few };
-          line = between-low 1 mostLines count few;
-          factors = l .sectors;
-        }
+      eqb-true _ _ (and-right sectors prices (and-right lines (sectors && prices) (and-right series (lines && (sectors && prices)) h)))
 
   -- the answer by the first check that is met
   pub answer-two : sound book ≡ false → fixingAnswer book call ≡ Unsound

@@ -9,9 +9,10 @@ use Rattle.ledger.specs.Turn.{fixingTurn}
 use Rattle.ledger.specs.Fix.{FixingCall, callOf, fixingLengths, priceList}
 use Rattle.ledger.specs.declared.book.Ledger.{Ledger}
 use Rattle.ledger.specs.declared.fix.FixingAnswer.the-variants.{Unsound, WrongLength, OutOfTurn, Rejected}
-use Rattle.ledger.proofs.SoundLaws.{sound-few, sound-last}
+use Rattle.ledger.proofs.SoundLaws.{sound-some, sound-few, sound-last}
 use Rattle.ledger.proofs.PassedLaws.{is-passed, prices-small}
-use Rattle.ledger.proofs.FixLaws.{prices-length, right-lengths, answer-two, answer-three, answer-four, verdict-told, answer-rejected, fixed-accepted, fixed-refused}
+use Rattle.ledger.proofs.CallLaws.{right-lengths}
+use Rattle.ledger.proofs.FixLaws.{prices-length, answer-two, answer-three, answer-four, verdict-told, answer-rejected, fixed-accepted, fixed-refused}
 use borrow.Author.Needs.{needs}
 use Rattle.ledger.proofs.fix.fix.Statement.{statement}
 use Rattle.ledger.proofs.fix.fix.Tie as tie
@@ -59,7 +60,7 @@ module _ (c : tie.Else3) where
   passed-four = sym (c .before .in-turn .ensures) ∙ not-false _ (c .if3 .left)
 
   right : RightLengths (book from .n) (call from .input)
-  right = right-lengths (book from) (call from) whole (passed-three three)
+  right = right-lengths (book from .n) (call from) (sound-some _ whole) (sound-few _ whole) (passed-three three)
 
 module _ (c : tie.Else4) where
   abbrev four : tie.Else3
@@ -141,7 +142,7 @@ write-prices-requires c κs =
     let g = p .before .before in (
       sound-few _ (whole e),
       (
-        prices-length _ (call (from e)) (whole e) (passed-three (three e)),
+        prices-length (book (from e)) (call (from e)) (passed-three (three e)),
         prices-small _ _ (right e) (verdict-told _ _ (whole e) (passed-three (three e)) (passed-four e) _ (g .fix-input .ensures) ∙ passed p) _ (g .fix-input .ensures),
       ),
     )
