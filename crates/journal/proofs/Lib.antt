@@ -1,0 +1,3 @@
+pub mod TokenLaws
+pub mod NumberLaws
+pub mod SignedLaws

@@ -1,0 +1,3 @@
+pub mod Token
+pub mod Word
+pub mod Number

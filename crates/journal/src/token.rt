@@ -1,0 +1,67 @@
+// Where a journal's tokens start and end.
+ghost use mathlib.Core.Path.{_≡_};
+ghost use mathlib.Core.Bool.{_||_};
+ghost use Prim.Native.Nat.{_≤_};
+ghost use lib.ListN.{length};
+ghost use Rattle.journal.specs.Token.{isBlank, endsToken, commentAfter, tokenStart, tokenEnd};
+
+// Whether a byte is a blank.
+fn is_blank(byte: u8) -> bool
+    ensures { λ r. ⌜ r ≡ isBlank byte ⌝ }
+{
+    byte == 32 || (byte == 9 || (byte == 10 || byte == 13))
+}
+
+// Whether a byte ends a token.
+fn ends_token(byte: u8) -> bool
+    ensures { λ r. ⌜ r ≡ endsToken byte ⌝ }
+{
+    is_blank(byte) || byte == 35
+}
+
+// Whether a byte stands before a token: in a comment, a blank, or a comment's first.
+fn is_skipped(comment: bool, byte: u8) -> bool
+    ensures { λ r. ⌜ r ≡ (comment || endsToken byte) ⌝ }
+{
+    comment || ends_token(byte)
+}
+
+// Whether the byte after this one is in a comment.
+fn comment_after(comment: bool, byte: u8) -> bool
+    ensures { λ r. ⌜ r ≡ commentAfter comment byte ⌝ }
+{
+    byte != 10 && (comment || byte == 35)
+}
+
+// Where the next token starts; the text's length where there is none.
+pub fn token_start(text: &[u8], from: usize) -> usize
+    requires { ⌜ from ≤ length (now text) ⌝ }
+    ensures { λ r. ⌜ r ≡ tokenStart (now (text .entry)) from ⌝ }
+{
+    let mut comment = false;
+    let mut k = from;
+    while k < text.len() {
+        let byte = text[k];
+        if !is_skipped(comment, byte) {
+            return k;
+        }
+        comment = comment_after(comment, byte);
+        k += 1;
+    }
+    k
+}
+
+// Where the token that starts at a place ends.
+pub fn token_end(text: &[u8], start: usize) -> usize
+    requires { ⌜ start ≤ length (now text) ⌝ }
+    ensures { λ r. ⌜ r ≡ tokenEnd (now (text .entry)) start ⌝ }
+{
+    let mut k = start;
+    while k < text.len() {
+        if ends_token(text[k]) {
+            return k;
+        }
+        k += 1;
+    }
+    k
+}

@@ -1,0 +1,23 @@
+// Whether a token is a given word.
+ghost use mathlib.Core.Path.{_≡_};
+ghost use Prim.Native.Nat.{_≤_};
+ghost use lib.ListN.{length};
+ghost use Rattle.journal.specs.Word.{isWord};
+
+// Whether the bytes from start to before end are the word's.
+pub fn is_word(text: &[u8], start: usize, end: usize, word: &[u8]) -> bool
+    requires { ⌜ start ≤ end ⌝ ∗ ⌜ end ≤ length (now text) ⌝ }
+    ensures { λ r. ⌜ r ≡ isWord (now (text .entry)) start end (now (word .entry)) ⌝ }
+{
+    if end - start != word.len() {
+        return false;
+    }
+    let mut k: usize = 0;
+    while k < word.len() {
+        if text[start + k] != word[k] {
+            return false;
+        }
+        k += 1;
+    }
+    true
+}
