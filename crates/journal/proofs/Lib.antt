@@ -1,3 +1,5 @@
 pub mod TokenLaws
 pub mod NumberLaws
 pub mod SignedLaws
+pub mod CursorLaws
+pub mod ListLaws

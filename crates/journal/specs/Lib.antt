@@ -1,3 +1,5 @@
 pub mod Token
 pub mod Word
 pub mod Number
+pub mod Cursor
+pub mod List

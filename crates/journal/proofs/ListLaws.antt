@@ -1,0 +1,140 @@
+-- Laws of a list's reading: number by number, by its count, how far it reaches, and where its words stand.
+-- Assumes nothing.
+use mathlib.Core.Path.{_≡_, refl, _∙_, ap}
+use mathlib.Core.List.{List, _++_}
+use Prim.Native.Nat.{ℕ, zero, suc, _+_, _≤_}
+use native.Mathlib.Numerals.{add-one}
+use lib.ListN.{length, take}
+use lib.IntN.{ℤ}
+use lib.Seq.{take-at}
+use Rattle.numbers.specs.Bounded.{listBelow}
+use Rattle.numbers.proofs.ListLaws.{list-length}
+use Rattle.journal.specs.Cursor.{wordAfter, numberAfter, signedAfter, Onward}
+use Rattle.journal.specs.List.{cursorAfter, numberAt, signedCursorAfter, signedAt, countAfter, listAfter, listWords, signedListAfter, signedListWords}
+use Rattle.journal.specs.declared.cursor.Cursor.{Cursor}
+use Rattle.journal.specs.declared.cursor.NumberRead.{NumberRead}
+use Rattle.journal.specs.declared.cursor.SignedRead.{SignedRead}
+use Rattle.journal.specs.declared.list.ListRead.{ListRead}
+use Rattle.journal.proofs.CursorLaws.{onward-same, onward-join, onward-word, onward-number, onward-signed, number-most}
+
+abbrev listRead : ℕ → Cursor → ListRead
+listRead count next = record { count = count; next = next }
+
+-- nothing is read yet
+pub cursor-none : (text : List ℕ) (cursor : Cursor) (most : ℕ) → cursor ≡ cursorAfter 0 text cursor most
+unfolding cursorAfter
+cursor-none text cursor most = refl
+
+pub signed-cursor-none : (text : List ℕ) (cursor : Cursor) → cursor ≡ signedCursorAfter 0 text cursor
+unfolding signedCursorAfter
+signed-cursor-none text cursor = refl
+
+-- number k is read after the k before it
+module _ (text : List ℕ) (cursor next : Cursor) (k : ℕ) where
+  module _ (most : ℕ) (e : next ≡ cursorAfter k text cursor most) (read : NumberRead) (r : read ≡ numberAfter text next most) where
+    pub cursor-next : read .next ≡ cursorAfter (k + 1) text cursor most
+    unfolding cursorAfter
+    cursor-next = rw add-one (ap (λ x. x .next) (r ∙ ap (λ m. numberAfter text m most) e))
+
+    pub number-here : read .value ≡ numberAt text cursor most k
+    unfolding numberAt
+    number-here = ap (λ x. x .value) (r ∙ ap (λ m. numberAfter text m most) e)
+
+  module _ (e : next ≡ signedCursorAfter k text cursor) (read : SignedRead) (r : read ≡ signedAfter text next) where
+    pub signed-cursor-next : read .next ≡ signedCursorAfter (k + 1) text cursor
+    unfolding signedCursorAfter
+    signed-cursor-next = rw add-one (ap (λ x. x .next) (r ∙ ap (λ m. signedAfter text m) e))
+
+    pub signed-here : read .value ≡ signedAt text cursor k
+    unfolding signedAt
+    signed-here = ap (λ x. x .value) (r ∙ ap (λ m. signedAfter text m) e)
+
+-- the count is the number after the name
+module _ (text : List ℕ) (cursor : Cursor) (name : List ℕ) (longest : ℕ) where
+  pub count-read : (named : Cursor) (counted : NumberRead) → named ≡ wordAfter text cursor name → counted ≡ numberAfter text named longest → counted ≡ countAfter text cursor name longest
+  unfolding countAfter
+  count-read named counted w n = n ∙ ap (λ m. numberAfter text m longest) w
+
+  pub count-most : countAfter text cursor name longest .value ≤ longest
+  unfolding countAfter
+  count-most = number-most text (wordAfter text cursor name) longest
+
+  pub onward-count : cursor .at ≤ length text → Onward text cursor (countAfter text cursor name longest .next)
+  unfolding countAfter
+  onward-count p =
+      onward-join text cursor (wordAfter text cursor name) _
+      (onward-word text cursor p name)
+      (onward-number text (wordAfter text cursor name) (onward-word text cursor p name .within) longest)
+
+  -- a list is as many numbers as its count
+  module _ (counted : NumberRead) (e : counted ≡ countAfter text cursor name longest) (k : ℕ) (same : k ≡ counted .value) where
+    pub list-read : (most : ℕ) (next : Cursor) → next ≡ cursorAfter k text (counted .next) most → listRead (counted .value) next ≡ listAfter text cursor name longest most
+    unfolding listAfter
+    list-read most next q = rw (← e, q, same)
+
+    pub words-read : (most : ℕ) (words : List ℕ) → words ≡ listBelow k (numberAt text (counted .next) most) → words ≡ listWords text cursor name longest most
+    unfolding listWords
+    words-read most words q = rw (← e, q, same)
+
+    pub signed-list-read : (next : Cursor) → next ≡ signedCursorAfter k text (counted .next) → listRead (counted .value) next ≡ signedListAfter text cursor name longest
+    unfolding signedListAfter
+    signed-list-read next q = rw (← e, q, same)
+
+    pub signed-words-read : (words : List ℤ) → words ≡ listBelow k (signedAt text (counted .next)) → words ≡ signedListWords text cursor name longest
+    unfolding signedListWords
+    signed-words-read words q = rw (← e, q, same)
+
+-- what is read lies onward in the text
+module _ (text : List ℕ) (cursor : Cursor) (p : cursor .at ≤ length text) where
+  pub onward-cursor : (k most : ℕ) → Onward text cursor (cursorAfter k text cursor most)
+  unfolding cursorAfter
+  onward-cursor zero most = onward-same text cursor p
+  onward-cursor (suc k) most =
+      let before = onward-cursor k most in
+      onward-join text cursor (cursorAfter k text cursor most) _ before (onward-number text (cursorAfter k text cursor most) (before .within) most)
+
+  pub onward-signed-cursor : (k : ℕ) → Onward text cursor (signedCursorAfter k text cursor)
+  unfolding signedCursorAfter
+  onward-signed-cursor zero = onward-same text cursor p
+  onward-signed-cursor (suc k) =
+      let before = onward-signed-cursor k in
+      onward-join text cursor (signedCursorAfter k text cursor) _ before (onward-signed text (signedCursorAfter k text cursor) (before .within))
+
+module _ (text : List ℕ) (cursor : Cursor) (p : cursor .at ≤ length text) (name : List ℕ) (longest : ℕ) where
+  pub onward-list : (most : ℕ) → Onward text cursor (listAfter text cursor name longest most .next)
+  unfolding listAfter
+  onward-list most =
+      let count = countAfter text cursor name longest in
+      let before = onward-count text cursor name longest p in
+      onward-join text cursor (count .next) _ before (onward-cursor text (count .next) (before .within) (count .value) most)
+
+  pub onward-signed-list : Onward text cursor (signedListAfter text cursor name longest .next)
+  unfolding signedListAfter
+  onward-signed-list =
+      let count = countAfter text cursor name longest in
+      let before = onward-count text cursor name longest p in
+      onward-join text cursor (count .next) _ before (onward-signed-cursor text (count .next) (before .within) (count .value))
+
+-- a list's count is not above the longest, and its words stand first where it is read
+module _ (text : List ℕ) (cursor : Cursor) (name : List ℕ) (longest : ℕ) where
+  pub list-most : (most : ℕ) → listAfter text cursor name longest most .count ≤ longest
+  unfolding listAfter
+  list-most most = count-most text cursor name longest
+
+  pub signed-list-most : signedListAfter text cursor name longest .count ≤ longest
+  unfolding signedListAfter
+  signed-list-most = count-most text cursor name longest
+
+  pub words-length : (most : ℕ) → length (listWords text cursor name longest most) ≡ listAfter text cursor name longest most .count
+  unfolding listAfter listWords
+  words-length most = list-length _ (countAfter text cursor name longest .value)
+
+  pub signed-words-length : length (signedListWords text cursor name longest) ≡ signedListAfter text cursor name longest .count
+  unfolding signedListAfter signedListWords
+  signed-words-length = list-length _ (countAfter text cursor name longest .value)
+
+  pub words-first : (most : ℕ) (rest : List ℕ) → take (listAfter text cursor name longest most .count) (listWords text cursor name longest most ++ rest) ≡ listWords text cursor name longest most
+  words-first most rest = take-at _ rest _ (words-length most)
+
+  pub signed-words-first : (rest : List ℤ) → take (signedListAfter text cursor name longest .count) (signedListWords text cursor name longest ++ rest) ≡ signedListWords text cursor name longest
+  signed-words-first rest = take-at _ rest _ signed-words-length

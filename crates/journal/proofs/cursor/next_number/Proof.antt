@@ -1,0 +1,41 @@
+-- By the next token, unless something is broken before it.
+use mathlib.Core.Path.{_∙_, ap}
+use Rattle.journal.specs.Cursor.{numberFrom}
+use Rattle.journal.proofs.TokenLaws.{start-within, token-within}
+use Rattle.journal.proofs.CursorLaws.{number-after-broken, number-after-token}
+use borrow.Author.Needs.{needs}
+use Rattle.journal.proofs.cursor.next_number.Statement.{statement}
+use Rattle.journal.proofs.cursor.next_number.Tie as tie
+
+returns : tie.Need-returns
+returns c = number-after-broken _ _ (c .if1 .taken) _
+
+token-start-requires : tie.Need-token-start-requires
+token-start-requires c κs = search needs
+
+token-end-requires : tie.Need-token-end-requires
+token-end-requires c κs = start-within _ _ _ (c .before .before .before .pre) (c .token-start .ensures)
+
+read-number-requires : tie.Need-read-number-requires
+read-number-requires c κs = token-within _ _ _ (c .before .before .before .before .pre) (c .before .token-start .ensures) _ (c .token-end .ensures)
+
+number-from-requires : tie.Need-number-from-requires
+number-from-requires c κs = search needs
+
+returns-2 : tie.Need-returns-2
+returns-2 c =
+    let r = c .before in
+    let t = r .before in
+    let s = t .before in
+    c .number-from .ensures ∙ ap (λ m. numberFrom m (s .before .before .before .args .most) (s .token-start .result) (t .token-end .result)) (r .read-number .ensures) ∙ number-after-token _ _ (s .before .if1 .left) _ _ (s .token-start .ensures) (t .token-end .ensures) _
+
+pub next-number-spec : {M : Type 1} → statement M
+next-number-spec =
+    tie.close
+    (tie.spec
+    returns
+    token-start-requires
+    token-end-requires
+    read-number-requires
+    number-from-requires
+    returns-2)

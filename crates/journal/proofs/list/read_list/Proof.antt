@@ -1,0 +1,56 @@
+-- The name, the count, and as many numbers into the first places.
+use mathlib.Core.Path.{_≡_, sym, ap}
+use mathlib.Core.List.{_++_}
+use lib.ListN.{length, take, drop}
+use lib.Seq.{length-take-le}
+use Rattle.journal.proofs.CursorLaws.{word-within, number-within, number-most}
+use Rattle.journal.proofs.ListLaws.{count-read, list-read, words-read}
+use borrow.Author.Needs.{needs}
+use Rattle.journal.proofs.list.read_list.Statement.{statement}
+use Rattle.journal.proofs.list.read_list.Tie as tie
+
+next-word-requires : tie.Need-next-word-requires
+next-word-requires c κs = search needs
+
+next-number-requires : tie.Need-next-number-requires
+next-number-requires c κs = word-within _ _ (c .before .before .before .before .pre) _ _ (c .next-word .ensures)
+
+slice-relend-prefix-fill-numbers : tie.Need-slice-relend-prefix-fill-numbers
+slice-relend-prefix-fill-numbers c = rw (c .next-number .ensures) (number-most _ _ _)
+
+slice-aggregate-fill-numbers : tie.Need-slice-aggregate-fill-numbers
+slice-aggregate-fill-numbers c = sym (length-take-le _ _ (rw (c .before .next-number .ensures) (number-most _ _ _)))
+
+fill-numbers-requires : tie.Need-fill-numbers-requires
+fill-numbers-requires c κs =
+    let n = c .before in
+    let w = n .before in
+    number-within _ _ (word-within _ _ (w .before .before .before .before .pre) _ _ (w .next-word .ensures)) _ _ (n .next-number .ensures)
+
+same-length : tie.Need-same-length
+same-length c = search needs
+
+returns : tie.Need-returns
+returns c =
+    let f = c .before .before in
+    let n = f .before .before in
+    let w = n .before in
+    let s = w .before .before .before .before in
+    let counted = count-read _ _ _ _ _ _ (w .next-word .ensures) (n .next-number .ensures) in
+    let same : length (take (n .next-number .result .value) (s .args .into .now)) ≡ n .next-number .result .value =
+    length-take-le _ _ (rw (n .next-number .ensures) (number-most _ _ _)) in (
+      list-read _ _ _ _ _ counted _ same _ _ (f .fill-numbers .ensures .0),
+      ap (λ words. words ++ drop (n .next-number .result .value) (s .args .into .now)) (words-read _ _ _ _ _ counted _ same _ _ (f .fill-numbers .ensures .1)),
+    )
+
+pub read-list-spec : {M : Type 1} → statement M
+read-list-spec =
+    tie.close
+    (tie.spec
+    next-word-requires
+    next-number-requires
+    slice-relend-prefix-fill-numbers
+    slice-aggregate-fill-numbers
+    fill-numbers-requires
+    same-length
+    returns)
