@@ -3,3 +3,5 @@ pub mod NumberLaws
 pub mod SignedLaws
 pub mod CursorLaws
 pub mod ListLaws
+pub mod CommandLaws
+pub mod ReadLaws

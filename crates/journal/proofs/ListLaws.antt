@@ -2,13 +2,13 @@
 -- Assumes nothing.
 use mathlib.Core.Path.{_≡_, refl, _∙_, ap}
 use mathlib.Core.List.{List, _++_}
-use Prim.Native.Nat.{ℕ, zero, suc, _+_, _≤_}
+use Prim.Native.Nat.{ℕ, zero, suc, _+_, _≤_, _<_}
 use native.Mathlib.Numerals.{add-one}
-use lib.ListN.{length, take}
+use lib.ListN.{length, getD, take}
 use lib.IntN.{ℤ}
 use lib.Seq.{take-at}
 use Rattle.numbers.specs.Bounded.{listBelow}
-use Rattle.numbers.proofs.ListLaws.{list-length}
+use Rattle.numbers.proofs.ListLaws.{list-length, list-at}
 use Rattle.journal.specs.Cursor.{wordAfter, numberAfter, signedAfter, Onward}
 use Rattle.journal.specs.List.{cursorAfter, numberAt, signedCursorAfter, signedAt, countAfter, listAfter, listWords, signedListAfter, signedListWords}
 use Rattle.journal.specs.declared.cursor.Cursor.{Cursor}
@@ -115,6 +115,19 @@ module _ (text : List ℕ) (cursor : Cursor) (p : cursor .at ≤ length text) (n
       let before = onward-count text cursor name longest p in
       onward-join text cursor (count .next) _ before (onward-signed-cursor text (count .next) (before .within) (count .value))
 
+-- a cursor that the code read a list to lies within the text
+module _ (text : List ℕ) (cursor : Cursor) (p : cursor .at ≤ length text) (name : List ℕ) (longest : ℕ) (read : ListRead) where
+  pub list-within : (most : ℕ) → read ≡ listAfter text cursor name longest most → read .next .at ≤ length text
+  list-within most e = rw e (onward-list text cursor p name longest most .within)
+
+  pub signed-list-within : read ≡ signedListAfter text cursor name longest → read .next .at ≤ length text
+  signed-list-within e = rw e (onward-signed-list text cursor p name longest .within)
+
+-- number k of a list is not above the most
+pub number-at-most : (text : List ℕ) (cursor : Cursor) (most k : ℕ) → numberAt text cursor most k ≤ most
+unfolding numberAt
+number-at-most text cursor most k = number-most text (cursorAfter k text cursor most) most
+
 -- a list's count is not above the longest, and its words stand first where it is read
 module _ (text : List ℕ) (cursor : Cursor) (name : List ℕ) (longest : ℕ) where
   pub list-most : (most : ℕ) → listAfter text cursor name longest most .count ≤ longest
@@ -132,6 +145,12 @@ module _ (text : List ℕ) (cursor : Cursor) (name : List ℕ) (longest : ℕ) w
   pub signed-words-length : length (signedListWords text cursor name longest) ≡ signedListAfter text cursor name longest .count
   unfolding signedListAfter signedListWords
   signed-words-length = list-length _ (countAfter text cursor name longest .value)
+
+  pub words-most : (most k : ℕ) → k < listAfter text cursor name longest most .count → getD (listWords text cursor name longest most) k 0 ≤ most
+  unfolding listAfter listWords
+  words-most most k p =
+      let count = countAfter text cursor name longest in
+      rw (list-at (numberAt text (count .next) most) (count .value) 0 k p) (number-at-most text (count .next) most k)
 
   pub words-first : (most : ℕ) (rest : List ℕ) → take (listAfter text cursor name longest most .count) (listWords text cursor name longest most ++ rest) ≡ listWords text cursor name longest most
   words-first most rest = take-at _ rest _ (words-length most)

@@ -3,3 +3,4 @@ pub mod Word
 pub mod Number
 pub mod Cursor
 pub mod List
+pub mod Command

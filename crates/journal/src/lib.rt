@@ -1,4 +1,5 @@
-// The text form of calls: tokens, words, numbers and lists.
+// The text form of calls: tokens, words, numbers, lists and commands.
+pub mod command;
 pub mod cursor;
 pub mod list;
 pub mod number;

@@ -1,0 +1,238 @@
+-- Laws of the commands' text: a command by its word, how far a command reaches, and how long its lists are.
+-- Assumes nothing.
+use mathlib.Core.Path.{_≡_, refl, _∙_, ap}
+use mathlib.Core.Bool.{Bool, true, false, cond, false≢true}
+use mathlib.Core.List.{List}
+use Prim.Native.Nat.{ℕ, _≤_, _<_}
+use native.Mathlib.Omega.{arith}
+use lib.ListN.{length}
+use borrow.Author.Tests.{eq-eqb, ne-eqb}
+use Rattle.journal.specs.Token.{tokenStart, tokenEnd}
+use Rattle.journal.specs.Word.{isWord}
+use Rattle.journal.specs.Cursor.{readTo, brokenAt, numberAfter, mostWord, Onward}
+use Rattle.journal.specs.List.{countAfter, listAfter, signedListAfter}
+use Rattle.journal.specs.Command.{longestList, mostPlaces, mostBalances, openName, fixName, settleName, saveName, loadName, seriesName, linesName, sectorsName, pricesName, readingsName, lossesName, transfersName, presentName, chargesName, balancesName, commandIn, isUnknown, commandAfter, fixSeriesFrom, fixLinesFrom, fixSectorsFrom, fixPricesFrom, fixAfter, settleReadingsFrom, settleLossesFrom, settleTransfersFrom, settleAfter, loadFixedFrom, loadMonthFrom, loadPresentFrom, loadChargesFrom, loadBalancesFrom, loadAfter}
+use Rattle.journal.specs.declared.cursor.Cursor.{Cursor}
+use Rattle.journal.specs.declared.command.Command.{Command}
+use Rattle.journal.specs.declared.command.Command.the-variants.{Open, Fix, Settle, Save, Load, Unknown, End}
+use Rattle.journal.specs.declared.command.CommandRead.{CommandRead}
+use Rattle.journal.proofs.TokenLaws.{token-start-least, token-start-most, token-end-most, token-some}
+use Rattle.journal.proofs.CursorLaws.{onward-join, onward-number, number-most}
+use Rattle.journal.proofs.ListLaws.{count-most, onward-cursor, onward-count, onward-list, onward-signed-list, list-most, signed-list-most}
+
+-- a token's command, word by word
+module _ (text : List ℕ) (start end : ℕ) where
+  pub command-end : start ≡ length text → End ≡ commandIn text start end
+  unfolding commandIn
+  command-end h = rw (eq-eqb start (length text) h)
+
+  module _ (some : start ≡ length text → ⊥) where
+    pub command-open : isWord text start end openName ≡ true → Open ≡ commandIn text start end
+    unfolding commandIn
+    command-open h = rw (ne-eqb start (length text) some, h)
+
+    module _ (a : isWord text start end openName ≡ false) where
+      pub command-fix : isWord text start end fixName ≡ true → Fix ≡ commandIn text start end
+      unfolding commandIn
+      command-fix h = rw (ne-eqb start (length text) some, a, h)
+
+      module _ (b : isWord text start end fixName ≡ false) where
+        pub command-settle : isWord text start end settleName ≡ true → Settle ≡ commandIn text start end
+        unfolding commandIn
+        command-settle h = rw (ne-eqb start (length text) some, a, b, h)
+
+        module _ (d : isWord text start end settleName ≡ false) where
+          pub command-save : isWord text start end saveName ≡ true → Save ≡ commandIn text start end
+          unfolding commandIn
+          command-save h = rw (ne-eqb start (length text) some, a, b, d, h)
+
+          module _ (e : isWord text start end saveName ≡ false) where
+            pub command-load : isWord text start end loadName ≡ true → Load ≡ commandIn text start end
+            unfolding commandIn
+            command-load h = rw (ne-eqb start (length text) some, a, b, d, e, h)
+
+            pub command-unknown : isWord text start end loadName ≡ false → Unknown ≡ commandIn text start end
+            unfolding commandIn
+            command-unknown h = rw (ne-eqb start (length text) some, a, b, d, e, h)
+
+abbrev commandRead : Command → Cursor → CommandRead
+commandRead command next = record { command = command; next = next }
+
+-- the next command is that of the next token
+module _ (text : List ℕ) (at start end : ℕ) (s : start ≡ tokenStart text at) (e : end ≡ tokenEnd text start) (command : Command) (c : command ≡ commandIn text start end) where
+  pub command-broken : isUnknown command ≡ true → commandRead command (brokenAt start) ≡ commandAfter text at
+  unfolding commandAfter
+  command-broken h = rw (← s, ← e, ← c, h)
+
+  pub command-read : isUnknown command ≡ false → commandRead command (readTo end) ≡ commandAfter text at
+  unfolding commandAfter
+  command-read h = rw (← s, ← e, ← c, h)
+
+-- a command is a call's or the ledger's, where it is none of an unknown word and the text's end
+abbrev pub isCommand : Command → Bool
+isCommand Open = true
+isCommand Fix = true
+isCommand Settle = true
+isCommand Save = true
+isCommand Load = true
+isCommand Unknown = false
+isCommand End = false
+
+known : (command : Command) → isCommand command ≡ true → isUnknown command ≡ false
+known Open h = refl
+known Fix h = refl
+known Settle h = refl
+known Save h = refl
+known Load h = refl
+known Unknown h = absurd (false≢true h)
+known End h = refl
+
+module _ (text : List ℕ) (at : ℕ) (p : at ≤ length text) where
+  abbrev start : ℕ
+  start = tokenStart text at
+
+  abbrev end : ℕ
+  end = tokenEnd text start
+
+  -- the next command's cursor lies within the text
+  pub command-within : commandAfter text at .next .at ≤ length text
+  unfolding commandAfter
+  command-within = go (isUnknown (commandIn text start end))
+    where
+      go : (b : Bool) → cond b (brokenAt start) (readTo end) .at ≤ length text
+      go true = token-start-most text at p
+      go false = token-end-most text start (token-start-most text at p)
+
+  some-token : isCommand (commandIn text start end) ≡ true → start ≡ length text → ⊥
+  some-token h q = false≢true (ap isCommand (command-end text start end q) ∙ h)
+
+  -- and past where it was sought, so that reading command after command ends
+  pub command-on : (command : Command) → commandAfter text at .command ≡ command → isCommand command ≡ true → (commandAfter text at .next .broken ≡ false) × (at < commandAfter text at .next .at)
+  unfolding commandAfter
+  command-on command e h =
+      let found : isCommand (commandIn text start end) ≡ true = ap isCommand e ∙ h in
+      let past : start ≡ length text → ⊥ = some-token found in
+      let within : start ≤ length text = token-start-most text at p in
+      rw (known (commandIn text start end) found)
+      (refl, omega (arith, token-start-least text at, token-some text at (omega arith)))
+
+-- onward by one more thing read
+module _ (text : List ℕ) (cursor middle : Cursor) (o : Onward text cursor middle) where
+  then-number : (most : ℕ) → Onward text cursor (numberAfter text middle most .next)
+  then-number most = onward-join text cursor middle _ o (onward-number text middle (o .within) most)
+
+  then-count : (name : List ℕ) (longest : ℕ) → Onward text cursor (countAfter text middle name longest .next)
+  then-count name longest = onward-join text cursor middle _ o (onward-count text middle name longest (o .within))
+
+  then-list : (name : List ℕ) (longest most : ℕ) → Onward text cursor (listAfter text middle name longest most .next)
+  then-list name longest most = onward-join text cursor middle _ o (onward-list text middle (o .within) name longest most)
+
+  then-signed-list : (name : List ℕ) (longest : ℕ) → Onward text cursor (signedListAfter text middle name longest .next)
+  then-signed-list name longest = onward-join text cursor middle _ o (onward-signed-list text middle (o .within) name longest)
+
+module _ (text : List ℕ) (cursor : Cursor) (p : cursor .at ≤ length text) where
+  to-series : Onward text cursor (fixSeriesFrom text cursor)
+  unfolding fixSeriesFrom
+  to-series = onward-cursor text cursor p 4 mostWord
+
+  to-lines : Onward text cursor (fixLinesFrom text cursor)
+  unfolding fixLinesFrom
+  to-lines = then-list text cursor _ to-series seriesName longestList mostWord
+
+  to-sectors : Onward text cursor (fixSectorsFrom text cursor)
+  unfolding fixSectorsFrom
+  to-sectors = then-list text cursor _ to-lines linesName longestList mostWord
+
+  to-prices : Onward text cursor (fixPricesFrom text cursor)
+  unfolding fixPricesFrom
+  to-prices = then-list text cursor _ to-sectors sectorsName longestList mostWord
+
+  pub onward-fix : Onward text cursor (fixAfter text cursor .next)
+  unfolding fixAfter
+  onward-fix = then-count text cursor _ to-prices pricesName longestList
+
+  to-readings : Onward text cursor (settleReadingsFrom text cursor)
+  unfolding settleReadingsFrom
+  to-readings = onward-cursor text cursor p 1 mostWord
+
+  to-losses : Onward text cursor (settleLossesFrom text cursor)
+  unfolding settleLossesFrom
+  to-losses = then-list text cursor _ to-readings readingsName longestList mostWord
+
+  to-transfers : Onward text cursor (settleTransfersFrom text cursor)
+  unfolding settleTransfersFrom
+  to-transfers = then-list text cursor _ to-losses lossesName longestList mostWord
+
+  pub onward-settle : Onward text cursor (settleAfter text cursor .next)
+  unfolding settleAfter
+  onward-settle = then-count text cursor _ to-transfers transfersName longestList
+
+  to-fixed : Onward text cursor (loadFixedFrom text cursor)
+  unfolding loadFixedFrom
+  to-fixed = onward-cursor text cursor p 3 mostWord
+
+  to-month : Onward text cursor (loadMonthFrom text cursor)
+  unfolding loadMonthFrom
+  to-month = then-number text cursor _ to-fixed 1
+
+  to-present : Onward text cursor (loadPresentFrom text cursor)
+  unfolding loadPresentFrom
+  to-present = then-number text cursor _ to-month mostWord
+
+  to-charges : Onward text cursor (loadChargesFrom text cursor)
+  unfolding loadChargesFrom
+  to-charges = then-list text cursor _ to-present presentName mostPlaces 1
+
+  to-balances : Onward text cursor (loadBalancesFrom text cursor)
+  unfolding loadBalancesFrom
+  to-balances = then-signed-list text cursor _ to-charges chargesName mostPlaces
+
+  pub onward-load : Onward text cursor (loadAfter text cursor .next)
+  unfolding loadAfter
+  onward-load = then-signed-list text cursor _ to-balances balancesName mostBalances
+
+-- no list is longer than it may be
+module _ (text : List ℕ) (cursor : Cursor) where
+  pub fix-series-most : fixAfter text cursor .series ≤ longestList
+  unfolding fixAfter
+  fix-series-most = list-most text _ seriesName longestList mostWord
+
+  pub fix-lines-most : fixAfter text cursor .lines ≤ longestList
+  unfolding fixAfter
+  fix-lines-most = list-most text _ linesName longestList mostWord
+
+  pub fix-sectors-most : fixAfter text cursor .sectors ≤ longestList
+  unfolding fixAfter
+  fix-sectors-most = list-most text _ sectorsName longestList mostWord
+
+  pub fix-prices-most : fixAfter text cursor .prices ≤ longestList
+  unfolding fixAfter
+  fix-prices-most = count-most text _ pricesName longestList
+
+  pub settle-readings-most : settleAfter text cursor .readings ≤ longestList
+  unfolding settleAfter
+  settle-readings-most = list-most text _ readingsName longestList mostWord
+
+  pub settle-losses-most : settleAfter text cursor .losses ≤ longestList
+  unfolding settleAfter
+  settle-losses-most = list-most text _ lossesName longestList mostWord
+
+  pub settle-transfers-most : settleAfter text cursor .transfers ≤ longestList
+  unfolding settleAfter
+  settle-transfers-most = count-most text _ transfersName longestList
+
+  pub load-fixed-most : loadAfter text cursor .fixed ≤ 1
+  unfolding loadAfter
+  load-fixed-most = number-most text _ 1
+
+  pub load-present-most : loadAfter text cursor .present ≤ mostPlaces
+  unfolding loadAfter
+  load-present-most = list-most text _ presentName mostPlaces 1
+
+  pub load-charges-most : loadAfter text cursor .charges ≤ mostPlaces
+  unfolding loadAfter
+  load-charges-most = signed-list-most text _ chargesName mostPlaces
+
+  pub load-balances-most : loadAfter text cursor .balances ≤ mostBalances
+  unfolding loadAfter
+  load-balances-most = signed-list-most text _ balancesName mostBalances

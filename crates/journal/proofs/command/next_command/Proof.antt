@@ -1,0 +1,44 @@
+-- By the next token's command.
+use mathlib.Core.Path.{sym, _∙_}
+use Rattle.journal.proofs.TokenLaws.{start-within, token-within}
+use Rattle.journal.proofs.CommandLaws.{command-broken, command-read}
+use borrow.Author.Needs.{needs}
+use Rattle.journal.proofs.command.next_command.Statement.{statement}
+use Rattle.journal.proofs.command.next_command.Tie as tie
+
+token-start-requires : tie.Need-token-start-requires
+token-start-requires c κs = search needs
+
+token-end-requires : tie.Need-token-end-requires
+token-end-requires c κs = start-within _ _ _ (c .before .before .pre) (c .token-start .ensures)
+
+command-in-requires : tie.Need-command-in-requires
+command-in-requires c κs = token-within _ _ _ (c .before .before .before .pre) (c .before .token-start .ensures) _ (c .token-end .ensures)
+
+is-unknown-requires : tie.Need-is-unknown-requires
+is-unknown-requires c κs = search needs
+
+returns : tie.Need-returns
+returns c =
+    let u = c .before in
+    let i = u .before in
+    let t = i .before in
+    command-broken _ _ _ _ (t .before .token-start .ensures) (t .token-end .ensures) _ (i .command-in .ensures) (sym (u .is-unknown .ensures) ∙ c .if1 .taken)
+
+returns-2 : tie.Need-returns-2
+returns-2 c =
+    let u = c .before in
+    let i = u .before in
+    let t = i .before in
+    command-read _ _ _ _ (t .before .token-start .ensures) (t .token-end .ensures) _ (i .command-in .ensures) (sym (u .is-unknown .ensures) ∙ c .if1 .left)
+
+pub next-command-spec : {M : Type 1} → statement M
+next-command-spec =
+    tie.close
+    (tie.spec
+    token-start-requires
+    token-end-requires
+    command-in-requires
+    is-unknown-requires
+    returns
+    returns-2)

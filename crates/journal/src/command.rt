@@ -1,0 +1,237 @@
+// The commands of a journal: which one stands next, and what its text holds. A command is read whole before it is made.
+ghost use mathlib.Core.Path.{_≡_};
+ghost use mathlib.Core.List.{_++_};
+ghost use Prim.Native.Nat.{_≤_};
+ghost use lib.ListN.{length, drop};
+ghost use Rattle.journal.specs.Cursor.{mostWord};
+ghost use Rattle.journal.specs.List.{listWords, signedListWords};
+ghost use Rattle.journal.specs.Command.{longestList, mostPlaces, mostBalances, isUnknown, commandIn, commandAfter, seriesName, linesName, sectorsName, readingsName, lossesName, presentName, chargesName, balancesName};
+ghost use Rattle.journal.specs.Command.{fixSeriesFrom, fixLinesFrom, fixSectorsFrom, fixAfter, settleReadingsFrom, settleLossesFrom, settleAfter, loadPresentFrom, loadChargesFrom, loadBalancesFrom, loadAfter};
+use crate::cursor::Cursor;
+use crate::cursor::next_number;
+use crate::cursor::next_word;
+use crate::list::read_list;
+use crate::list::read_signed_list;
+use crate::token::token_end;
+use crate::token::token_start;
+use crate::word::is_word;
+
+// The longest list that a call is ever lent.
+pub const LONGEST_LIST: u64 = 8192;
+
+// The largest number of 64 bits.
+const MOST_WORD: u64 = 18446744073709551615;
+
+pub enum Command {
+    Open,
+    Fix,
+    Settle,
+    Save,
+    Load,
+    Unknown,
+    // No token is left.
+    End,
+}
+
+pub struct CommandRead {
+    pub command: Command,
+    pub next: Cursor,
+}
+
+// A fixing's numbers, the lengths of its lists, and how far the text is read.
+pub struct FixRead {
+    pub month: u64,
+    pub dollar: u64,
+    pub factor: u64,
+    pub first: u64,
+    pub series: usize,
+    pub lines: usize,
+    pub sectors: usize,
+    pub prices: usize,
+    pub next: Cursor,
+}
+
+// A settlement's month, the lengths of its lists, and how far the text is read.
+pub struct SettleRead {
+    pub month: u64,
+    pub readings: usize,
+    pub losses: usize,
+    pub transfers: usize,
+    pub next: Cursor,
+}
+
+// A kept ledger's numbers, the lengths of its lists, and how far the text is read.
+pub struct LoadRead {
+    pub n: usize,
+    pub months: u64,
+    pub last: u64,
+    pub fixed: u64,
+    pub month: u64,
+    pub present: usize,
+    pub charges: usize,
+    pub balances: usize,
+    pub next: Cursor,
+}
+
+// The command of a token.
+fn command_in(text: &[u8], start: usize, end: usize) -> Command
+    requires { ⌜ start ≤ end ⌝ ∗ ⌜ end ≤ length (now text) ⌝ }
+    ensures { λ r. ⌜ r ≡ commandIn (now (text .entry)) start end ⌝ }
+{
+    if start == text.len() {
+        return Command::End;
+    }
+    if is_word(text, start, end, b"open") {
+        return Command::Open;
+    }
+    if is_word(text, start, end, b"fix") {
+        return Command::Fix;
+    }
+    if is_word(text, start, end, b"settle") {
+        return Command::Settle;
+    }
+    if is_word(text, start, end, b"save") {
+        return Command::Save;
+    }
+    if is_word(text, start, end, b"load") {
+        return Command::Load;
+    }
+    Command::Unknown
+}
+
+// Whether a token is no command's word.
+fn is_unknown(command: Command) -> bool
+    ensures { λ r. ⌜ r ≡ isUnknown command ⌝ }
+{
+    match command {
+        Command::Unknown => true,
+        Command::Open => false,
+        Command::Fix => false,
+        Command::Settle => false,
+        Command::Save => false,
+        Command::Load => false,
+        Command::End => false,
+    }
+}
+
+// Reads the next command's word.
+pub fn next_command(text: &[u8], at: usize) -> CommandRead
+    requires { ⌜ at ≤ length (now text) ⌝ }
+    ensures { λ r. ⌜ r ≡ commandAfter (now (text .entry)) at ⌝ }
+{
+    let start = token_start(text, at);
+    let end = token_end(text, start);
+    let command = command_in(text, start, end);
+    if is_unknown(command) {
+        let next = Cursor {
+            at: start,
+            broken: true,
+        };
+        return CommandRead { command, next };
+    }
+    let next = Cursor {
+        at: end,
+        broken: false,
+    };
+    CommandRead { command, next }
+}
+
+// Reads what follows the word `fix`.
+pub fn read_fix(
+    text: &[u8],
+    cursor: Cursor,
+    series: &mut [u64],
+    lines: &mut [u64],
+    sectors: &mut [u64],
+) -> FixRead
+    requires { ⌜ cursor .at ≤ length (now text) ⌝ ∗ ⌜ length (now series) ≡ longestList ⌝ ∗ ⌜ length (now lines) ≡ longestList ⌝ ∗ ⌜ length (now sectors) ≡ longestList ⌝ }
+    ensures { λ r. ⌜ r ≡ fixAfter (now (text .entry)) cursor ⌝ }
+    ensures { λ r. ⌜ now (series .exit) ≡ listWords (now (text .entry)) (fixSeriesFrom (now (text .entry)) cursor) seriesName longestList mostWord ++ drop (r .series) (now (series .entry)) ⌝ }
+    ensures { λ r. ⌜ now (lines .exit) ≡ listWords (now (text .entry)) (fixLinesFrom (now (text .entry)) cursor) linesName longestList mostWord ++ drop (r .lines) (now (lines .entry)) ⌝ }
+    ensures { λ r. ⌜ now (sectors .exit) ≡ listWords (now (text .entry)) (fixSectorsFrom (now (text .entry)) cursor) sectorsName longestList mostWord ++ drop (r .sectors) (now (sectors .entry)) ⌝ }
+{
+    let month = next_number(text, cursor, MOST_WORD);
+    let dollar = next_number(text, month.next, MOST_WORD);
+    let factor = next_number(text, dollar.next, MOST_WORD);
+    let first = next_number(text, factor.next, MOST_WORD);
+    let serial = read_list(text, first.next, b"series", MOST_WORD, series);
+    let lined = read_list(text, serial.next, b"lines", MOST_WORD, lines);
+    let sectored = read_list(text, lined.next, b"sectors", MOST_WORD, sectors);
+    let named = next_word(text, sectored.next, b"prices");
+    let prices = next_number(text, named, LONGEST_LIST);
+    let next = prices.next;
+    FixRead {
+        month: month.value,
+        dollar: dollar.value,
+        factor: factor.value,
+        first: first.value,
+        series: serial.count,
+        lines: lined.count,
+        sectors: sectored.count,
+        prices: prices.value as usize,
+        next,
+    }
+}
+
+// Reads what follows the word `settle`.
+pub fn read_settle(
+    text: &[u8],
+    cursor: Cursor,
+    readings: &mut [u64],
+    losses: &mut [u64],
+) -> SettleRead
+    requires { ⌜ cursor .at ≤ length (now text) ⌝ ∗ ⌜ length (now readings) ≡ longestList ⌝ ∗ ⌜ length (now losses) ≡ longestList ⌝ }
+    ensures { λ r. ⌜ r ≡ settleAfter (now (text .entry)) cursor ⌝ }
+    ensures { λ r. ⌜ now (readings .exit) ≡ listWords (now (text .entry)) (settleReadingsFrom (now (text .entry)) cursor) readingsName longestList mostWord ++ drop (r .readings) (now (readings .entry)) ⌝ }
+    ensures { λ r. ⌜ now (losses .exit) ≡ listWords (now (text .entry)) (settleLossesFrom (now (text .entry)) cursor) lossesName longestList mostWord ++ drop (r .losses) (now (losses .entry)) ⌝ }
+{
+    let month = next_number(text, cursor, MOST_WORD);
+    let read = read_list(text, month.next, b"readings", MOST_WORD, readings);
+    let lost = read_list(text, read.next, b"losses", MOST_WORD, losses);
+    let named = next_word(text, lost.next, b"transfers");
+    let transfers = next_number(text, named, LONGEST_LIST);
+    let next = transfers.next;
+    SettleRead {
+        month: month.value,
+        readings: read.count,
+        losses: lost.count,
+        transfers: transfers.value as usize,
+        next,
+    }
+}
+
+// Reads what follows the word `load`.
+pub fn read_load(
+    text: &[u8],
+    cursor: Cursor,
+    present: &mut [u64],
+    charges: &mut [i64],
+    balances: &mut [i64],
+) -> LoadRead
+    requires { ⌜ cursor .at ≤ length (now text) ⌝ ∗ ⌜ length (now present) ≡ mostPlaces ⌝ ∗ ⌜ length (now charges) ≡ mostPlaces ⌝ ∗ ⌜ length (now balances) ≡ mostBalances ⌝ }
+    ensures { λ r. ⌜ r ≡ loadAfter (now (text .entry)) cursor ⌝ }
+    ensures { λ r. ⌜ now (present .exit) ≡ listWords (now (text .entry)) (loadPresentFrom (now (text .entry)) cursor) presentName mostPlaces 1 ++ drop (r .present) (now (present .entry)) ⌝ }
+    ensures { λ r. ⌜ now (charges .exit) ≡ signedListWords (now (text .entry)) (loadChargesFrom (now (text .entry)) cursor) chargesName mostPlaces ++ drop (r .charges) (now (charges .entry)) ⌝ }
+    ensures { λ r. ⌜ now (balances .exit) ≡ signedListWords (now (text .entry)) (loadBalancesFrom (now (text .entry)) cursor) balancesName mostBalances ++ drop (r .balances) (now (balances .entry)) ⌝ }
+{
+    let n = next_number(text, cursor, MOST_WORD);
+    let months = next_number(text, n.next, MOST_WORD);
+    let last = next_number(text, months.next, MOST_WORD);
+    let fixed = next_number(text, last.next, 1);
+    let month = next_number(text, fixed.next, MOST_WORD);
+    let placed = read_list(text, month.next, b"present", 1, present);
+    let charged = read_signed_list(text, placed.next, b"charges", charges);
+    let balanced = read_signed_list(text, charged.next, b"balances", balances);
+    let next = balanced.next;
+    LoadRead {
+        n: n.value as usize,
+        months: months.value,
+        last: last.value,
+        fixed: fixed.value,
+        month: month.value,
+        present: placed.count,
+        charges: charged.count,
+        balances: balanced.count,
+        next,
+    }
+}
