@@ -1,6 +1,7 @@
 -- The name, the count, and as many numbers into the first places.
 use mathlib.Core.Path.{_≡_, sym, ap}
 use mathlib.Core.List.{_++_}
+use native.Mathlib.Omega.{arith}
 use lib.ListN.{length, take, drop}
 use lib.Seq.{length-take-le}
 use Rattle.journal.proofs.CursorLaws.{word-within, number-within, number-most}
@@ -25,7 +26,8 @@ fill-numbers-requires : tie.Need-fill-numbers-requires
 fill-numbers-requires c κs =
     let n = c .before in
     let w = n .before in
-    number-within _ _ (word-within _ _ (w .before .before .before .before .pre) _ _ (w .next-word .ensures)) _ _ (n .next-number .ensures)
+    let named = word-within _ _ (w .before .before .before .before .pre) _ _ (w .next-word .ensures) in
+    omega (arith, number-within _ _ named _ _ (n .next-number .ensures))
 
 same-length : tie.Need-same-length
 same-length c = search needs
