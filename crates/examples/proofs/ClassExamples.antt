@@ -12,7 +12,7 @@ use Rattle.supply.specs.Months.{lacksMonth, missingTerm, missingInLine, monthSe
 use Rattle.supply.specs.Price.{ratioOf, indexedOf, purchaseOf, pesoOf, referenceOf, termRatio, factorOf, lineIndexed, linePurchase, lineReference, indexedAnswer, referenceAnswer, priceAnswer, beyondIn, boundsSearch, referencePrice, referencePrices}
 use Rattle.fixing.specs.Limit.{contractTotal, totalEnergy, limit, sumInside, sumOutside, roundSurcharge, aboveLimit, cappedAfter, joinsAfter, anyJoinsAfter, anyAbove, roundsBeforeLast, rounds, capped, surcharge, finalPrice, charge, collected, residue}
 use Rattle.fixing.specs.Charge.{sectorCharge}
-use Rattle.fixing.specs.Prices.{finalPrices, fixedPrices}
+use Rattle.fixing.specs.Prices.{finalPrices, fixedPrices, chargeList}
 use Rattle.fixing.specs.Average.{lineAmount, linesAmount, suppliedEnergy, averagePrice, hasLine, everyoneSupplied, energyList, averageList}
 use Rattle.fixing.specs.Sector.{sectorPresent, hasSector, sectorsAllowed, noCharges, chargedPlaces, sectorCharges}
 use Rattle.fixing.specs.Input.{rangeCheck, valueCheck, sectorCheck, lineCheck, monthCheck, boundsCheck, inputChecks, firstVerdict, inputVerdict, inputReferences, inputAverages, inputEnergies}
@@ -29,5 +29,5 @@ use Rattle.examples.specs.Table.{sameNumber, sameNumbers, allHold, whole
 use Rattle.examples.specs.ClassExamples.{monthValue, plainLine, oneMonth, indexedLine, plainNumber, pair, printLines, inSectorZero, printCall, printAnswer, billed, billedReadings, printMonth, firstMonth, secondMonth, firstMoney, classExamples}
 
 pub class-examples : allHold classExamples ≡ true
-unfolding sumBelow allBelow anyBelow firstBelow listBelow filledBelow halfUp halfAway divideUp signedSumBelow withinSize between checkedPrice seriesRow seriesTable valuesInRange valueIn termMonth termValue termMissing meanOf termMean headInRange windowAllowed termInRange termUnused termAllowed weightTotal weightsAllowed lineInRange linesInRange marketInRange inputInRange lacksMonth missingTerm missingInLine monthSearch ratioOf indexedOf purchaseOf pesoOf referenceOf termRatio factorOf lineIndexed linePurchase lineReference indexedAnswer referenceAnswer priceAnswer beyondIn boundsSearch referencePrice referencePrices contractTotal totalEnergy limit sumInside sumOutside roundSurcharge aboveLimit cappedAfter joinsAfter anyJoinsAfter anyAbove roundsBeforeLast rounds capped surcharge finalPrice charge collected residue sectorCharge finalPrices fixedPrices lineAmount linesAmount suppliedEnergy averagePrice hasLine everyoneSupplied energyList averageList sectorPresent hasSector sectorsAllowed noCharges chargedPlaces sectorCharges rangeCheck valueCheck sectorCheck lineCheck monthCheck boundsCheck inputChecks firstVerdict inputVerdict inputReferences inputAverages inputEnergies acceptedFixing fixingOf highNet lowNet energyWithLosses collectedAmount sideTotal sharedBefore share positionOf owing owed transferred paid received transfer newBalance moneyBelow positionList settledMonth oneSign noBalances emptyLedger anySettled isZero placeTest placeSound forceSound nothingPresent unsetZero monthsSound balanceTest balanceSound balancesSound sound fixingTurn linesWhole fixingLengths fixingChecks firstAnswer acceptedAnswer fixingAnswer priceWord priceList fixingList sameNumber sameNumbers allHold whole monthValue plainLine oneMonth indexedLine plainNumber pair printLines inSectorZero printCall printAnswer billed billedReadings printMonth firstMonth secondMonth firstMoney classExamples
+unfolding sumBelow allBelow anyBelow firstBelow listBelow filledBelow halfUp halfAway divideUp signedSumBelow withinSize between checkedPrice seriesRow seriesTable valuesInRange valueIn termMonth termValue termMissing meanOf termMean headInRange windowAllowed termInRange termUnused termAllowed weightTotal weightsAllowed lineInRange linesInRange marketInRange inputInRange lacksMonth missingTerm missingInLine monthSearch ratioOf indexedOf purchaseOf pesoOf referenceOf termRatio factorOf lineIndexed linePurchase lineReference indexedAnswer referenceAnswer priceAnswer beyondIn boundsSearch referencePrice referencePrices contractTotal totalEnergy limit sumInside sumOutside roundSurcharge aboveLimit cappedAfter joinsAfter anyJoinsAfter anyAbove roundsBeforeLast rounds capped surcharge finalPrice charge collected residue sectorCharge finalPrices fixedPrices chargeList lineAmount linesAmount suppliedEnergy averagePrice hasLine everyoneSupplied energyList averageList sectorPresent hasSector sectorsAllowed noCharges chargedPlaces sectorCharges rangeCheck valueCheck sectorCheck lineCheck monthCheck boundsCheck inputChecks firstVerdict inputVerdict inputReferences inputAverages inputEnergies acceptedFixing fixingOf highNet lowNet energyWithLosses collectedAmount sideTotal sharedBefore share positionOf owing owed transferred paid received transfer newBalance moneyBelow positionList settledMonth oneSign noBalances emptyLedger anySettled isZero placeTest placeSound forceSound nothingPresent unsetZero monthsSound balanceTest balanceSound balancesSound sound fixingTurn linesWhole fixingLengths fixingChecks firstAnswer acceptedAnswer fixingAnswer priceWord priceList fixingList sameNumber sameNumbers allHold whole monthValue plainLine oneMonth indexedLine plainNumber pair printLines inSectorZero printCall printAnswer billed billedReadings printMonth firstMonth secondMonth firstMoney classExamples
 class-examples = refl

@@ -11,7 +11,9 @@ use crate::average::averages;
 use crate::average::energies;
 use crate::average::everyone_supplied;
 use crate::prices::FixedPrices;
+use crate::prices::charges;
 use crate::prices::fix_prices;
+use crate::prices::no_charge_list;
 use crate::prices::no_prices;
 use crate::sector::SectorCharges;
 use crate::sector::no_charges;
@@ -35,6 +37,8 @@ pub struct Fixing {
     pub verdict: Verdict,
     pub averages: [PesoPrice; 40],
     pub prices: FixedPrices,
+    // Final price less average, signed, in 0.001 $/kWh.
+    pub charges: [i64; 40],
     pub sectors: SectorCharges,
 }
 
@@ -50,11 +54,13 @@ fn refused(verdict: Verdict) -> Fixing
         residue: Pesos(0),
         finals: none,
     };
+    let charges = no_charge_list();
     let sectors = no_charges();
     Fixing {
         verdict,
         averages: none,
         prices,
+        charges,
         sectors,
     }
 }
@@ -74,11 +80,13 @@ fn accepted(
     let averages = averages(n, references, lines, count, energies);
     let prices = fix_prices(n, averages, energies);
     let finals = prices.finals;
-    let sectors = sector_charges(n, averages, finals, sectors);
+    let charges = charges(n, averages, finals);
+    let sectors = sector_charges(n, charges, sectors);
     Fixing {
         verdict: Verdict::Passed,
         averages,
         prices,
+        charges,
         sectors,
     }
 }

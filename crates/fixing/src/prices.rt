@@ -3,7 +3,7 @@
 ghost use mathlib.Core.Path.{_≡_};
 ghost use Prim.Native.Nat.{ℕ, _+_, _*_, _<_, _≤_, min};
 ghost use lib.ListN.{getD, replicate};
-ghost use lib.IntN.{pos};
+ghost use lib.IntN.{pos, subℕ};
 ghost use Rattle.numbers.specs.Bounded.{sumBelow, filledBelow};
 ghost use Rattle.numbers.specs.Units.{noPrice, noEnergy};
 ghost use Rattle.fixing.specs.Limit.{InRange, contractTotal, sumInside, sumOutside, aboveLimit};
@@ -169,6 +169,27 @@ fn final_prices(
         i += 1;
     }
     finals
+}
+
+// The places of the charges, empty, for the same reason as those of the prices.
+pub fn no_charge_list() -> [i64; 40]
+    ensures { λ r. ⌜ r ≡ replicate mostDistributors (pos 0) ⌝ }
+{
+    [0i64; 40]
+}
+
+// The charge of each distributor: final price less average, signed, in 0.001 $/kWh.
+pub fn charges(n: usize, averages: [PesoPrice; 40], finals: [PesoPrice; 40]) -> [i64; 40]
+    requires { ⌜ n ≤ mostDistributors ⌝ ∗ ⌜ ((i : ℕ) → i < n → getD averages i noPrice .0 ≤ 2000000) ⌝ ∗ ⌜ ((i : ℕ) → i < n → getD finals i noPrice .0 ≤ 2000000) ⌝ }
+    ensures { λ r. ⌜ r ≡ filledBelow mostDistributors (pos 0) n (λ i. subℕ (getD finals i noPrice .0) (getD averages i noPrice .0)) ⌝ }
+{
+    let mut charges = no_charge_list();
+    let mut i: usize = 0;
+    while i < n {
+        charges[i] = difference(finals[i].0, averages[i].0);
+        i += 1;
+    }
+    charges
 }
 
 // The limit and the rounds of document 01.

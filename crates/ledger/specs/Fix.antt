@@ -7,7 +7,7 @@ use mathlib.Core.Option.{Option, none, some}
 use Prim.Native.Nat.{ℕ, zero, suc, _*_, _/_, _%_, _^_, _<_}
 use lib.Dec.{eqb}
 use lib.ListN.{length, getD}
-use lib.IntN.{ℤ, pos, natAbs, subℕ}
+use lib.IntN.{ℤ, pos, natAbs}
 use Rattle.numbers.specs.Bounded.{listBelow}
 use Rattle.numbers.specs.Units.{between, noPrice}
 use Rattle.numbers.specs.declared.units.PesoPrice.{PesoPrice}
@@ -131,14 +131,15 @@ third zero average final charge = average
 third (suc zero) average final charge = final
 third (suc (suc k)) average final charge = charge
 
-unfoldable pub priceWord : List PesoPrice → List PesoPrice → ℕ → ℤ
-priceWord averages finals k =
+unfoldable pub priceWord : List PesoPrice → List PesoPrice → List ℤ → ℕ → ℤ
+priceWord averages finals charges k =
     let average = getD averages (k / 3) noPrice .0 in
     let final = getD finals (k / 3) noPrice .0 in
-    third (k % 3) (pos average) (pos final) (subℕ final average)
+    third (k % 3) (pos average) (pos final) (getD charges (k / 3) (pos 0))
 
 unfoldable pub priceList : ℕ → Fixing → List ℤ
-priceList n fixing = listBelow (n * 3) (priceWord (fixing .averages) (fixing .prices .finals))
+priceList n fixing =
+    listBelow (n * 3) (priceWord (fixing .averages) (fixing .prices .finals) (fixing .charges))
 
 unfoldable pub fixingList : Ledger → FixingCall → List ℤ
 fixingList book call =
