@@ -8,12 +8,13 @@ use lib.ListN.{getD, length}
 use lib.IntN.{ℤ, pos, subℕ}
 use Rattle.numbers.specs.Bounded.{filledBelow}
 use Rattle.numbers.specs.Units.{noPrice, mostPrice}
+use Rattle.numbers.specs.Sizes.{sectorCount}
 use Rattle.numbers.specs.declared.units.PesoPrice.{PesoPrice}
 use Rattle.numbers.specs.declared.units.Energy.{Energy}
 use Rattle.numbers.proofs.ListLaws.{filled-at, filled-same}
 use Rattle.fixing.specs.Limit.{InRange, finalPrice, charge}
 use Rattle.fixing.specs.Prices.{distributors, finalPrices, fixedPrices, chargeList}
-use Rattle.fixing.specs.Sector.{sectorCount, sectorsAllowed, sectorCharges, ChargedSectors}
+use Rattle.fixing.specs.Sector.{sectorsAllowed, sectorCharges, ChargedSectors}
 use Rattle.fixing.specs.Fixing.{acceptedFixing}
 use Rattle.fixing.specs.declared.prices.FixedPrices.{FixedPrices}
 use Rattle.fixing.specs.declared.sector.SectorCharges.{SectorCharges}

@@ -4,13 +4,15 @@ use mathlib.Core.List.{List, [], _∷_}
 use Prim.Native.Nat.{ℕ}
 use lib.IntN.{pos}
 use Rattle.numbers.specs.Bounded.{filledBelow}
+use Rattle.numbers.specs.Checks.{firstOf}
 use Rattle.numbers.specs.Units.{noPrice, noMoney}
+use Rattle.numbers.specs.Sizes.{mostDistributors}
 use Rattle.numbers.specs.declared.units.PesoPrice.{PesoPrice}
 use Rattle.numbers.specs.declared.units.Energy.{Energy}
 use Rattle.fixing.specs.Limit.{charge}
-use Rattle.fixing.specs.Prices.{mostDistributors, distributors, fixedPrices, chargeList}
+use Rattle.fixing.specs.Prices.{distributors, fixedPrices, chargeList}
 use Rattle.fixing.specs.Sector.{sectorCharges, noCharges}
-use Rattle.fixing.specs.Input.{FixingInput, monthCheck, boundsCheck, firstVerdict, inputVerdict, inputAverages, inputEnergies}
+use Rattle.fixing.specs.Input.{FixingInput, monthCheck, boundsCheck, inputVerdict, inputAverages, inputEnergies}
 use Rattle.fixing.specs.declared.prices.FixedPrices.{FixedPrices}
 use Rattle.fixing.specs.declared.fix.Fixing.{Fixing}
 use Rattle.fixing.specs.declared.verdict.Verdict.{Verdict}
@@ -59,7 +61,7 @@ fixingBy (OutOfBounds line) accepted = refusedFixing (OutOfBounds line)
 -- the fixing of input that passed causes 6 to 9
 unfoldable pub pricedFixing : ℕ → FixingInput → Fixing
 pricedFixing n input =
-    fixingBy (firstVerdict (monthCheck input ∷ boundsCheck input ∷ []))
+    fixingBy (firstOf (monthCheck input ∷ boundsCheck input ∷ []) Passed)
     (acceptedFixing n (inputAverages n input) (inputEnergies n input) (input .sectors))
 
 unfoldable pub fixingOf : ℕ → FixingInput → Fixing

@@ -6,14 +6,11 @@ use lib.ListN.{getD}
 use lib.IntN.{ℤ, pos}
 use Rattle.numbers.specs.Bounded.{filledBelow}
 use Rattle.numbers.specs.Units.{noPrice, noEnergy}
+use Rattle.numbers.specs.Sizes.{mostDistributors}
 use Rattle.numbers.specs.declared.units.PesoPrice.{PesoPrice}
 use Rattle.numbers.specs.declared.units.Energy.{Energy}
 use Rattle.fixing.specs.Limit.{Distributors, limit, rounds, surcharge, residue, finalPrice, charge}
 use Rattle.fixing.specs.declared.prices.FixedPrices.{FixedPrices}
-
--- "n (1 to 40)"
-abbrev pub mostDistributors : ℕ
-mostDistributors = 40
 
 -- the distributors of a list of averages and one of energies
 abbrev pub distributors : ℕ → List PesoPrice → List Energy → Distributors

@@ -6,9 +6,10 @@ ghost use lib.ListN.{getD, replicate};
 ghost use lib.IntN.{pos, subℕ};
 ghost use Rattle.numbers.specs.Bounded.{sumBelow, filledBelow};
 ghost use Rattle.numbers.specs.Units.{noPrice, noEnergy};
+ghost use Rattle.numbers.specs.Sizes.{mostDistributors};
 ghost use Rattle.fixing.specs.Limit.{InRange, contractTotal, sumInside, sumOutside, aboveLimit};
 ghost use Rattle.fixing.specs.Limit.{limit as limitOf, surcharge as surchargeOf, rounds as roundsOf};
-ghost use Rattle.fixing.specs.Prices.{mostDistributors, distributors, Fixed};
+ghost use Rattle.fixing.specs.Prices.{distributors, Fixed};
 use numbers::rounding::divide_up;
 use numbers::signed::difference;
 use numbers::signed::magnitude;
@@ -186,7 +187,9 @@ pub fn charges(n: usize, averages: [PesoPrice; 40], finals: [PesoPrice; 40]) -> 
     let mut charges = no_charge_list();
     let mut i: usize = 0;
     while i < n {
-        charges[i] = difference(finals[i].0, averages[i].0);
+        let average = averages[i].0;
+        let price = finals[i].0;
+        charges[i] = difference(price, average);
         i += 1;
     }
     charges

@@ -6,8 +6,9 @@ ghost use lib.Dec.{leb};
 ghost use lib.ListN.{length, getD};
 ghost use lib.IntN.{pos, natAbs};
 ghost use Rattle.numbers.specs.Bounded.{allBelow};
+ghost use Rattle.numbers.specs.Sizes.{sectorCount};
 ghost use Rattle.fixing.specs.Charge.{sectorCharge};
-ghost use Rattle.fixing.specs.Sector.{sectorCount, mostFactor, factorAt, hasSector, sectorsAllowed, sectorCharges, noCharges, ChargedSectors};
+ghost use Rattle.fixing.specs.Sector.{mostFactor, factorAt, hasSector, sectorsAllowed, sectorCharges, noCharges, ChargedSectors};
 use numbers::rounding::half_away;
 use numbers::signed::difference;
 

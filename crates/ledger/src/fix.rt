@@ -1,11 +1,9 @@
 // The open call of fixing: no requires. Causes 2, 3 and 4 are the ledger's, the others the fixing's; the prices are
 // written only when all of them are passed.
 ghost use mathlib.Core.Path.{_≡_};
-ghost use mathlib.Core.List.{List};
 ghost use Prim.Native.Nat.{_*_, _≤_, _<_};
 ghost use lib.ListN.{length};
 ghost use Rattle.numbers.specs.Bounded.{listBelow};
-ghost use Rattle.fixing.specs.Input.{inputOf};
 ghost use Rattle.ledger.specs.Ledger.{fixedLedger};
 ghost use Rattle.ledger.specs.Turn.{fixingTurn};
 ghost use Rattle.ledger.specs.Fix.{callOf, linesWhole, fixingLengths, priceWord, PricesSmall, answerNumber, isPassed, acceptedAnswer, Fixed};

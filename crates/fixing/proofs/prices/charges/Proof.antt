@@ -30,17 +30,17 @@ no-charge-list-requires c κs = tt
 loop-holds : tie.Need-loop-holds Inv-loop μ-loop
 loop-holds c = (omega arith, c .no-charge-list .ensures ∙ filled-none 40 (pos 0) _)
 
-mul-difference : tie.Need-mul-difference Inv-loop μ-loop
-mul-difference c = omega arith
+mul-average : tie.Need-mul-average Inv-loop μ-loop
+mul-average c = omega arith
 
-element-copy-out-difference : tie.Need-element-copy-out-difference Inv-loop μ-loop
-element-copy-out-difference c = omega arith
+element-copy-out-average : tie.Need-element-copy-out-average Inv-loop μ-loop
+element-copy-out-average c = omega arith
 
-mul-difference-2 : tie.Need-mul-difference-2 Inv-loop μ-loop
-mul-difference-2 c = omega arith
+mul-price : tie.Need-mul-price Inv-loop μ-loop
+mul-price c = omega arith
 
-element-copy-out-difference-2 : tie.Need-element-copy-out-difference-2 Inv-loop μ-loop
-element-copy-out-difference-2 c = omega arith
+element-copy-out-price : tie.Need-element-copy-out-price Inv-loop μ-loop
+element-copy-out-price c = omega arith
 
 difference-requires : tie.Need-difference-requires Inv-loop μ-loop
 difference-requires c κs =
@@ -83,10 +83,10 @@ charges-spec =
     μ-loop
     no-charge-list-requires
     loop-holds
-    mul-difference
-    element-copy-out-difference
-    mul-difference-2
-    element-copy-out-difference-2
+    mul-average
+    element-copy-out-average
+    mul-price
+    element-copy-out-price
     difference-requires
     mul-charges
     array-set-from-charges
