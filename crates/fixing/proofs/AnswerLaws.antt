@@ -1,20 +1,17 @@
 -- What the call works is what the definitions say: the limit, the final prices as they are stored, what they collect,
 -- and the whole answer. Assumes nothing.
-use mathlib.Core.Path.{_≡_, refl, _∙_, ap}
-use mathlib.Core.Bool.{Bool, true, false, cond}
+use mathlib.Core.Path.{_≡_, _∙_, ap}
 use mathlib.Core.List.{List}
 use Prim.Native.Nat.{ℕ, _+_, _*_, _/_, _≤_, _<_, min}
 use native.Mathlib.Omega.{arith}
-use lib.Dec.{ltb}
 use lib.ListN.{getD}
 use lib.IntN.{ℤ, pos, subℕ}
-use borrow.Author.Tests.{ltb-true}
-use Rattle.numbers.specs.Bounded.{sumBelow, filledBelow}
+use Rattle.numbers.specs.Bounded.{filledBelow}
 use Rattle.numbers.specs.Units.{noPrice}
 use Rattle.numbers.specs.declared.units.PesoPrice.{PesoPrice}
 use Rattle.numbers.specs.declared.units.Energy.{Energy}
 use Rattle.numbers.proofs.SumLaws.{sum-same}
-use Rattle.numbers.proofs.ListLaws.{list-same, filled-at}
+use Rattle.numbers.proofs.ListLaws.{filled-at, filled-same}
 use Rattle.numbers.proofs.SignedLaws.{sub-ge}
 use Rattle.fixing.specs.Limit.{Distributors, InRange, contractTotal, totalEnergy, limit, rounds, surcharge, finalPrice, collected, residue}
 use Rattle.fixing.specs.Prices.{distributors, finalPrices, fixedPrices, Fixed}
@@ -22,31 +19,22 @@ use Rattle.fixing.specs.declared.prices.LastRound.{LastRound}
 use Rattle.fixing.proofs.LoopLaws.{lastRound}
 use Rattle.fixing.proofs.LimitLaws.{limit-most, surcharge-most, rounds-few, final-min, final-least, final-most, collects}
 
--- two fillings that agree below k
-filled-same : {A : Type 0} (size k : ℕ) (empty : A) (f g : ℕ → A) → ((j : ℕ) → j < k → f j ≡ g j) → filledBelow size empty k f ≡ filledBelow size empty k g
-unfolding filledBelow
-filled-same size k empty f g h = list-same size _ _ (λ j p. go j (ltb j k) refl)
-  where
-    go : (j : ℕ) (t : Bool) → ltb j k ≡ t → cond t (f j) empty ≡ cond t (g j) empty
-    go j true e = h j (ltb-true j k e)
-    go j false e = refl
-
-pub limit-is : (d : Distributors) (total energy : ℕ) → total ≡ contractTotal d → energy ≡ sumBelow (d .count) (d .energy) → 105 * total / (100 * energy) ≡ limit d
-unfolding limit totalEnergy
+pub limit-is : (d : Distributors) (total energy : ℕ) → total ≡ contractTotal d → energy ≡ totalEnergy d → 105 * total / (100 * energy) ≡ limit d
+unfolding limit
 limit-is d total energy e f = rw (e, f)
 
 -- the surcharge of the last round
-pub last-most : (d : Distributors) → InRange d → (last : LastRound) → last ≡ lastRound d → last .surcharge ≤ 2100000
+pub last-most : (d : Distributors) → InRange d → (last : LastRound) → last ≡ lastRound d → last .surcharge .0 ≤ 2100000
 last-most d r last h =
-    omega (arith, ap (λ (x : LastRound). x .surcharge) h, surcharge-most d r, limit-most d r)
+    omega (arith, ap (λ (x : LastRound). x .surcharge .0) h, surcharge-most d r, limit-most d r)
 
 module _ (n : ℕ) (averages : List PesoPrice) (energies : List Energy) (r : InRange (distributors n averages energies)) where
   abbrev d : Distributors
   d = distributors n averages energies
 
-  module _ (top : ℕ) (topped : top ≡ limit d) (last : LastRound) (made : last ≡ lastRound d) (finals : List PesoPrice) (stored : finals ≡ filledBelow 40 noPrice n (λ i. record { 0 = min top (getD averages i noPrice .0 + last .surcharge) })) where
-    surcharge-is : last .surcharge ≡ surcharge d
-    surcharge-is = ap (λ (x : LastRound). x .surcharge) made
+  module _ (top : ℕ) (topped : top ≡ limit d) (last : LastRound) (made : last ≡ lastRound d) (finals : List PesoPrice) (stored : finals ≡ filledBelow 40 noPrice n (λ i. record { 0 = min top (getD averages i noPrice .0 + last .surcharge .0) })) where
+    surcharge-is : last .surcharge .0 ≡ surcharge d
+    surcharge-is = ap (λ (x : LastRound). x .surcharge .0) made
 
     rounds-is : last .rounds ≡ rounds d
     rounds-is = ap (λ (x : LastRound). x .rounds) made
@@ -55,7 +43,7 @@ module _ (n : ℕ) (averages : List PesoPrice) (energies : List Energy) (r : InR
     unfolding finalPrices
     finals-are =
         stored
-        ∙ filled-same 40 n noPrice _ _ (λ i p. ap (λ (m : ℕ). record { 0 = m }) (omega (arith, final-min d r i p, topped, surcharge-is)))
+        ∙ filled-same 40 noPrice n _ _ (λ i p. ap (λ (m : ℕ). record { 0 = m }) (omega (arith, final-min d r i p, topped, surcharge-is)))
 
     final-at : (i : ℕ) → i < n → getD finals i noPrice .0 ≡ finalPrice d i
     unfolding finalPrices
@@ -80,9 +68,9 @@ module _ (n : ℕ) (averages : List PesoPrice) (energies : List Energy) (r : InR
     unfolding contractTotal collected
     finals-collect = sum-same n _ _ (λ i p. rw (final-at i p))
 
-    pub fixed : (total again : ℕ) (rest : ℤ) → total ≡ contractTotal d → again ≡ contractTotal (distributors n finals energies) → rest ≡ subℕ again total → Fixed d (record { limit = record { 0 = top }; surcharge = record { 0 = last .surcharge }; rounds = last .rounds; residue = record { 0 = rest }; finals = finals })
+    pub fixed : (rest : ℤ) → rest ≡ subℕ (contractTotal (distributors n finals energies)) (contractTotal d) → Fixed d (record { limit = record { 0 = top }; surcharge = last .surcharge; rounds = last .rounds; residue = record { 0 = rest }; finals = finals })
     unfolding fixedPrices residue
-    fixed total again rest e f g =
-        let over : total ≤ again = omega (arith, finals-collect, collects d r) in
-        let rest-is : rest ≡ pos (residue d) = g ∙ sub-ge again total over ∙ ap pos (omega (arith, finals-collect)) in
-        record { answered = rw (topped, surcharge-is, rounds-is, rest-is, finals-are); few = rw rounds-is (rounds-few d r) }
+    fixed rest g =
+        let over : contractTotal d ≤ contractTotal (distributors n finals energies) = omega (arith, finals-collect, collects d r) in
+        let rest-is : rest ≡ pos (residue d) = g ∙ sub-ge _ _ over ∙ ap pos (omega (arith, finals-collect)) in
+        record { answered = rw (topped, made, rest-is, finals-are); few = rw rounds-is (rounds-few d r) }

@@ -1,24 +1,26 @@
--- Laws of an accepted fixing: its final prices can be charged, and its parts are the definition's. Assumes nothing.
-use mathlib.Core.Path.{_≡_, refl, sym, _∙_, ap, ap₂}
+-- Laws of an accepted fixing: its sectors can be charged, and its parts are the definition's. Assumes nothing.
+use mathlib.Core.Path.{_≡_, _∙_, ap}
 use mathlib.Core.Bool.{true}
 use mathlib.Core.List.{List}
 use Prim.Native.Nat.{ℕ, _*_, _≤_, _<_}
 use native.Mathlib.Omega.{arith}
 use lib.ListN.{getD, length}
-use lib.IntN.{ℤ, subℕ}
+use lib.IntN.{ℤ, pos, subℕ}
+use Rattle.numbers.specs.Bounded.{filledBelow}
 use Rattle.numbers.specs.Units.{noPrice, mostPrice}
+use Rattle.numbers.specs.Sizes.{sectorCount}
 use Rattle.numbers.specs.declared.units.PesoPrice.{PesoPrice}
 use Rattle.numbers.specs.declared.units.Energy.{Energy}
-use Rattle.numbers.proofs.ListLaws.{filled-at}
+use Rattle.numbers.proofs.ListLaws.{filled-at, filled-same}
 use Rattle.fixing.specs.Limit.{InRange, finalPrice, charge}
-use Rattle.fixing.specs.Prices.{distributors, finalPrices, fixedPrices}
-use Rattle.fixing.specs.Sector.{sectorCount, sectorsAllowed, sectorCharges, ChargedSectors}
+use Rattle.fixing.specs.Prices.{distributors, finalPrices, fixedPrices, chargeList}
+use Rattle.fixing.specs.Sector.{sectorsAllowed, sectorCharges, ChargedSectors}
 use Rattle.fixing.specs.Fixing.{acceptedFixing}
 use Rattle.fixing.specs.declared.prices.FixedPrices.{FixedPrices}
 use Rattle.fixing.specs.declared.sector.SectorCharges.{SectorCharges}
 use Rattle.fixing.specs.declared.fix.Fixing.{Fixing}
 use Rattle.fixing.specs.declared.verdict.Verdict.the-variants.{Passed}
-use Rattle.fixing.proofs.LimitLaws.{final-most}
+use Rattle.fixing.proofs.LimitLaws.{final-most, charge-size}
 use Rattle.fixing.proofs.SectorLaws.{allowed-factor, sectors-same}
 
 module _ (n : ℕ) (averages : List PesoPrice) (energies : List Energy) (r : InRange (distributors n averages energies)) where
@@ -27,19 +29,35 @@ module _ (n : ℕ) (averages : List PesoPrice) (energies : List Energy) (r : InR
   unfolding fixedPrices finalPrices
   final-at i p = ap (λ x. x .0) (filled-at 40 noPrice (λ k. record { 0 = finalPrice (distributors n averages energies) k }) n i p (omega (arith, r .few)))
 
-  pub fixing-charged : (sectors : List ℕ) → length sectors ≡ n * sectorCount → sectorsAllowed n sectors ≡ true → ChargedSectors n averages (fixedPrices (distributors n averages energies) .finals) sectors
-  fixing-charged sectors e h =
-      record {
-        few = r .few;
-        lent = e;
-        factors = allowed-factor n sectors h;
-        average = r .most;
-        final = λ i p. omega (arith, final-at i p, final-most (distributors n averages energies) r i p);
-      }
+  -- what stands at i of the charges
+  pub charge-at : (i : ℕ) → i < n → getD (chargeList (distributors n averages energies)) i (pos 0) ≡ charge (distributors n averages energies) i
+  unfolding chargeList
+  charge-at i p = filled-at 40 (pos 0) (charge (distributors n averages energies)) n i p (omega (arith, r .few))
 
-  -- the charges of the written prices are the definition's
-  pub fixing-is : (sectors : List ℕ) (answer : FixedPrices) (force : SectorCharges) → answer ≡ fixedPrices (distributors n averages energies) → force ≡ sectorCharges n (λ i. subℕ (getD (answer .finals) i noPrice .0) (getD averages i noPrice .0)) sectors → _≡_ {A = Fixing} (record { verdict = Passed; averages = averages; prices = answer; sectors = force }) (acceptedFixing n averages energies sectors)
-  unfolding acceptedFixing charge
-  fixing-is sectors answer force e f =
-      ap₂ {C = Fixing} (λ x y. record { verdict = Passed; averages = averages; prices = x; sectors = y }) e
-      (f ∙ sectors-same n _ _ sectors (λ i p. ap (λ x. subℕ x (getD averages i noPrice .0)) (ap (λ (a : FixedPrices). getD (a .finals) i noPrice .0) e ∙ final-at i p)))
+  pub finals-most : (answer : FixedPrices) → answer ≡ fixedPrices (distributors n averages energies) → (i : ℕ) → i < n → getD (answer .finals) i noPrice .0 ≤ mostPrice
+  finals-most answer e i p =
+      rw e (omega (arith, final-at i p, final-most (distributors n averages energies) r i p))
+
+  -- final prices less averages are the charges of the definition
+  module _ (answer : FixedPrices) (e : answer ≡ fixedPrices (distributors n averages energies)) (list : List ℤ) (l : list ≡ filledBelow 40 (pos 0) n (λ i. subℕ (getD (answer .finals) i noPrice .0) (getD averages i noPrice .0))) where
+    charges-are : list ≡ chargeList (distributors n averages energies)
+    unfolding chargeList charge
+    charges-are =
+        l
+        ∙ filled-same 40 (pos 0) n _ _ (λ i p. ap (λ x. subℕ x (getD averages i noPrice .0)) (ap (λ (a : FixedPrices). getD (a .finals) i noPrice .0) e ∙ final-at i p))
+
+    charges-at : (i : ℕ) → i < n → getD list i (pos 0) ≡ charge (distributors n averages energies) i
+    charges-at i p = ap (λ (m : List ℤ). getD m i (pos 0)) charges-are ∙ charge-at i p
+
+    pub fixing-charged : (sectors : List ℕ) → length sectors ≡ n * sectorCount → sectorsAllowed n sectors ≡ true → ChargedSectors n list sectors
+    fixing-charged sectors f h =
+        record {
+          few = r .few;
+          lent = f;
+          factors = allowed-factor n sectors h;
+          charge = λ i p. rw (charges-at i p) (charge-size (distributors n averages energies) r i p);
+        }
+
+    pub fixing-is : (sectors : List ℕ) (force : SectorCharges) → force ≡ sectorCharges n (λ i. getD list i (pos 0)) sectors → _≡_ {A = Fixing} (record { verdict = Passed; averages = averages; prices = answer; charges = list; sectors = force }) (acceptedFixing n averages energies sectors)
+    unfolding acceptedFixing
+    fixing-is sectors force f = rw (e, charges-are, f ∙ sectors-same n _ _ sectors charges-at)

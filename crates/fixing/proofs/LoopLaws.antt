@@ -6,8 +6,10 @@ use Prim.Native.Nat.{ℕ, suc, _+_, _-_, _*_, _≤_, _<_}
 use native.Mathlib.Numerals.{add-one}
 use native.Mathlib.Omega.{arith}
 use lib.Dec.{eqb}
+use lib.IntN.{natAbs}
 use borrow.Author.Tests.{eq-eqb, ne-eqb}
 use Rattle.numbers.specs.Rounding.{divideUp}
+use Rattle.numbers.specs.Units.{noPrice}
 use Rattle.numbers.proofs.BoolLaws.{by-last}
 use Rattle.fixing.specs.Limit.{Distributors, InRange, contractTotal, totalEnergy, limit, roundSurcharge, aboveLimit, cappedAfter, anyJoinsAfter, anyAbove, rounds, capped, surcharge}
 use Rattle.fixing.specs.declared.prices.RoundSums.{RoundSums}
@@ -18,7 +20,7 @@ use Rattle.fixing.proofs.LimitLaws.{surchargeBefore, outside-some, capp
 
 -- what the rounds answer
 abbrev pub lastRound : Distributors → LastRound
-lastRound d = record { surcharge = surcharge d; rounds = rounds d }
+lastRound d = record { surcharge = record { 0 = surcharge d }; rounds = rounds d }
 
 -- what is known before a round of the code: `made` rounds were made, and somebody joined in each
 pub record Round (d : Distributors) (top : ℕ) (sums : RoundSums) (made : ℕ) : Type 0 where
@@ -34,19 +36,19 @@ module _ {d : Distributors} {top : ℕ} {sums : RoundSums} (range : InRange d) (
   unfolding cappedAfter
   summed = passed
 
-  above-is : anyAbove d ≡ not (eqb (sums .inside) 0)
+  above-is : anyAbove d ≡ not (eqb (sums .inside .0) 0)
   above-is = rw summed (above-energy d range)
 
-  pub none-above : sums .inside ≡ 0 → record { surcharge = 0; rounds = 0 } ≡ lastRound d
+  pub none-above : sums .inside .0 ≡ 0 → record { surcharge = noPrice; rounds = 0 } ≡ lastRound d
   unfolding surcharge rounds
-  none-above h = rw (above-is, eq-eqb (sums .inside) 0 h)
+  none-above h = rw (above-is, eq-eqb (sums .inside .0) 0 h)
 
-  pub round-first : (sums .inside ≡ 0 → ⊥) → Round d top sums 0
+  pub round-first : (sums .inside .0 ≡ 0 → ⊥) → Round d top sums 0
   round-first h =
       record {
         range = range;
         topped = topped;
-        above = rw (above-is, ne-eqb (sums .inside) 0 h);
+        above = rw (above-is, ne-eqb (sums .inside .0) 0 h);
         joined = λ j p. absurd (omega arith);
         summed = summed;
       }
@@ -56,25 +58,25 @@ module _ {d : Distributors} {top : ℕ} {sums : RoundSums} {made : ℕ} (at : Ro
   made-few = joined-below d (at .range) made (at .joined)
 
   -- the sums of the round
-  pub pays-more : top * sums .inside ≤ sums .paid
+  pub pays-more : top * sums .inside .0 ≤ natAbs (sums .paid .0)
   pays-more = rw (at .summed, at .topped) (omega (arith, inside-over d (at .range) (at .above) made))
 
-  pub pays-most : sums .paid ≤ 5120000000000000
+  pub pays-most : natAbs (sums .paid .0) ≤ 5120000000000000
   unfolding contractTotal
   pays-most =
       rw (at .summed)
       (omega (arith, inside-outside d (cappedAfter d made) (λ i. d .average i * d .energy i), total-fits d (at .range)))
 
-  pub outside-least : 0 < sums .outside
+  pub outside-least : 0 < sums .outside .0
   outside-least = rw (at .summed) (outside-some d (at .range) made)
 
-  pub outside-most : sums .outside ≤ 2560000000
+  pub outside-most : sums .outside .0 ≤ 2560000000
   unfolding totalEnergy
   outside-most =
       rw (at .summed) (omega (arith, inside-outside d (cappedAfter d made) (d .energy), at .range .total))
 
   -- the surcharge of the round
-  module _ {raise : ℕ} (worked : raise ≡ divideUp (sums .paid - top * sums .inside) (sums .outside)) where
+  module _ {raise : ℕ} (worked : raise ≡ divideUp (natAbs (sums .paid .0) - top * sums .inside .0) (sums .outside .0)) where
     raise-is : raise ≡ roundSurcharge d (cappedAfter d made)
     unfolding roundSurcharge
     raise-is = worked ∙ rw (at .summed, at .topped)
@@ -88,20 +90,20 @@ module _ {d : Distributors} {top : ℕ} {sums : RoundSums} {made : ℕ} (at : Ro
       unfolding surchargeBefore
       next-is = passed ∙ rw raise-is (sums-same d _ _ (λ i p. sym (capped-above d (at .range) (suc made) i p)))
 
-      joins-is : anyJoinsAfter d made ≡ not (eqb (next .inside) (sums .inside))
+      joins-is : anyJoinsAfter d made ≡ not (eqb (next .inside .0) (sums .inside .0))
       joins-is = rw (next-is, at .summed) (joins-energy d (at .range) made)
 
-      pub round-more : (next .inside ≡ sums .inside → ⊥) → Round d top next (made + 1)
+      pub round-more : (next .inside .0 ≡ sums .inside .0 → ⊥) → Round d top next (made + 1)
       round-more h =
           record {
             range = at .range;
             topped = at .topped;
             above = at .above;
-            joined = rw add-one (by-last made (λ j. anyJoinsAfter d j ≡ true) (at .joined) (rw (joins-is, ne-eqb (next .inside) (sums .inside) h)));
+            joined = rw add-one (by-last made (λ j. anyJoinsAfter d j ≡ true) (at .joined) (rw (joins-is, ne-eqb (next .inside .0) (sums .inside .0) h)));
             summed = rw add-one next-is;
           }
 
-      pub round-last : next .inside ≡ sums .inside → record { surcharge = raise; rounds = made + 1 } ≡ lastRound d
+      pub round-last : next .inside .0 ≡ sums .inside .0 → record { surcharge = record { 0 = raise }; rounds = made + 1 } ≡ lastRound d
       unfolding surcharge rounds capped
       round-last h =
-          rw (at .above, last-is d (at .range) made (at .joined) (rw (joins-is, eq-eqb (next .inside) (sums .inside) h)), raise-is)
+          rw (at .above, last-is d (at .range) made (at .joined) (rw (joins-is, eq-eqb (next .inside .0) (sums .inside .0) h)), raise-is)

@@ -2,7 +2,7 @@
 -- Assumes nothing.
 use mathlib.Core.Path.{_≡_, sym, _∙_, ap, ap₂}
 use native.Mathlib.Omega.{arith}
-use mathlib.Core.Bool.{Bool, true, false, _&&_}
+use mathlib.Core.Bool.{Bool, true, false}
 use mathlib.Core.List.{List}
 use Prim.Native.Nat.{ℕ, _+_, _*_, _/_, _≤_, _<_}
 use lib.Dec.{leb}
@@ -10,11 +10,12 @@ use lib.ListN.{set}
 use lib.IntN.{ℤ, pos}
 use borrow.Author.Tests.{leb-true}
 use Rattle.numbers.specs.Bounded.{allBelow, filledBelow}
+use Rattle.numbers.specs.Sizes.{sectorCount}
 use Rattle.numbers.proofs.BoolLaws.{and-left}
 use Rattle.numbers.proofs.TestLaws.{all-at}
 use Rattle.numbers.proofs.ListLaws.{filled-none, filled-more, filled-same}
 use Rattle.fixing.specs.Charge.{sectorCharge}
-use Rattle.fixing.specs.Sector.{sectorCount, mostFactor, factorAt, sectorPresent, hasSector, sectorsAllowed, chargedPlaces, sectorCharges, noCharges}
+use Rattle.fixing.specs.Sector.{mostFactor, factorAt, sectorPresent, hasSector, sectorsAllowed, chargedPlaces, sectorCharges, noCharges}
 use Rattle.fixing.specs.declared.sector.SectorCharges.{SectorCharges}
 
 module _ (charge : ℕ → ℤ) (sectors : List ℕ) where

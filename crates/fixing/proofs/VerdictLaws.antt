@@ -6,6 +6,7 @@ use mathlib.Core.List.{List}
 use Prim.Native.Nat.{ℕ, _≤_, _<_}
 use native.Mathlib.Omega.{arith}
 use lib.ListN.{getD}
+use Rattle.numbers.specs.Checks.{firstOf}
 use Rattle.numbers.specs.Units.{noPrice, leastPrice, mostPrice}
 use Rattle.numbers.specs.declared.units.PesoPrice.{PesoPrice}
 use Rattle.numbers.proofs.ListLaws.{filled-at}
@@ -24,7 +25,7 @@ use Rattle.supply.proofs.RangeLaws.{input-market, input-lines}
 use Rattle.supply.proofs.PriceLaws.{search-within}
 use Rattle.fixing.specs.Average.{everyoneSupplied, energyList, averageList, OwnLines, AcceptedLines}
 use Rattle.fixing.specs.Sector.{sectorsAllowed}
-use Rattle.fixing.specs.Input.{FixingInput, RightLengths, CheckedInput, lineCount, indexTable, rangeCheck, valueCheck, sectorCheck, lineCheck, monthCheck, boundsCheck, inputChecks, firstVerdict, inputVerdict, inputReferences, inputAverages, inputEnergies}
+use Rattle.fixing.specs.Input.{FixingInput, RightLengths, CheckedInput, lineCount, indexTable, rangeCheck, valueCheck, sectorCheck, lineCheck, monthCheck, boundsCheck, inputChecks, inputVerdict, inputReferences, inputAverages, inputEnergies}
 use Rattle.fixing.specs.Fixing.{refusedFixing, acceptedFixing, pricedFixing, fixingOf}
 use Rattle.fixing.specs.declared.verdict.Verdict.the-variants.{OutOfRange, ValueTooLarge, WrongSector, NoLine, MonthMissing, OutOfBounds}
 use Rattle.fixing.proofs.InputLaws.{own-lines}
@@ -105,35 +106,35 @@ module _ (input : FixingInput) (table : List (List ℕ)) (e : table ≡ indexTab
 -- what input that passed causes 6 to 9 comes to: 10, 11, or the prices
 module _ (n : ℕ) (input : FixingInput) where
   pub priced-missing : (line term : ℕ) → monthsAt input (indexTable input) ≡ MissingAt line term → refusedFixing (MonthMissing line term) ≡ pricedFixing n input
-  unfolding pricedFixing monthCheck firstVerdict
+  unfolding pricedFixing monthCheck firstOf
   priced-missing line term h = rw h
 
   module _ (h : monthsAt input (indexTable input) ≡ AllPublished) where
     pub priced-beyond : (line : ℕ) → boundsAt input (indexTable input) ≡ BeyondAt line → refusedFixing (OutOfBounds line) ≡ pricedFixing n input
-    unfolding pricedFixing monthCheck boundsCheck firstVerdict
+    unfolding pricedFixing monthCheck boundsCheck firstOf
     priced-beyond line b = rw (h, b)
 
     pub priced-within : (prices : List PesoPrice) → prices ≡ inputReferences input → boundsAt input (indexTable input) ≡ AllWithin → acceptedFixing n (averageList n prices (lineCount input) (input .lines)) (energyList n (lineCount input) (input .lines)) (input .sectors) ≡ pricedFixing n input
-    unfolding pricedFixing monthCheck boundsCheck firstVerdict inputAverages inputEnergies
+    unfolding pricedFixing monthCheck boundsCheck firstOf inputAverages inputEnergies
     priced-within prices e b = rw (h, b, e)
 
   -- what the whole comes to: 6, 7, 8, 9, or what passed them
   pub fixing-six : ranged n input ≡ false → refusedFixing OutOfRange ≡ fixingOf n input
-  unfolding fixingOf inputVerdict inputChecks rangeCheck firstVerdict
+  unfolding fixingOf inputVerdict inputChecks rangeCheck firstOf
   fixing-six a = rw a
 
   pub fixing-seven : ranged n input ≡ true → valuesInRange (input .series) ≡ false → refusedFixing ValueTooLarge ≡ fixingOf n input
-  unfolding fixingOf inputVerdict inputChecks rangeCheck valueCheck firstVerdict
+  unfolding fixingOf inputVerdict inputChecks rangeCheck valueCheck firstOf
   fixing-seven a b = rw (a, b)
 
   pub fixing-eight : ranged n input ≡ true → valuesInRange (input .series) ≡ true → sectorsAllowed n (input .sectors) ≡ false → refusedFixing WrongSector ≡ fixingOf n input
-  unfolding fixingOf inputVerdict inputChecks rangeCheck valueCheck sectorCheck firstVerdict
+  unfolding fixingOf inputVerdict inputChecks rangeCheck valueCheck sectorCheck firstOf
   fixing-eight a b c = rw (a, b, c)
 
   pub fixing-nine : ranged n input ≡ true → valuesInRange (input .series) ≡ true → sectorsAllowed n (input .sectors) ≡ true → supplied n input ≡ false → refusedFixing NoLine ≡ fixingOf n input
-  unfolding fixingOf inputVerdict inputChecks rangeCheck valueCheck sectorCheck lineCheck firstVerdict
+  unfolding fixingOf inputVerdict inputChecks rangeCheck valueCheck sectorCheck lineCheck firstOf
   fixing-nine a b c d = rw (a, b, c, d)
 
   pub fixing-priced : CheckedInput n input → pricedFixing n input ≡ fixingOf n input
-  unfolding pricedFixing fixingOf inputVerdict inputChecks rangeCheck valueCheck sectorCheck lineCheck firstVerdict
+  unfolding pricedFixing fixingOf inputVerdict inputChecks rangeCheck valueCheck sectorCheck lineCheck firstOf
   fixing-priced ok = rw (ok .ranges, ok .small, ok .sectored, ok .supplied)

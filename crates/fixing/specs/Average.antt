@@ -9,11 +9,11 @@ use lib.Dec.{eqb}
 use Rattle.numbers.specs.Bounded.{sumBelow, allBelow, anyBelow, filledBelow}
 use Rattle.numbers.specs.Rounding.{halfUp}
 use Rattle.numbers.specs.Units.{noPrice, noEnergy, leastPrice, mostPrice}
+use Rattle.numbers.specs.Sizes.{mostDistributors}
 use Rattle.numbers.specs.declared.units.PesoPrice.{PesoPrice}
 use Rattle.numbers.specs.declared.units.Energy.{Energy}
 use Rattle.supply.specs.Line.{distributorOf, energyOf}
 use Rattle.supply.specs.Range.{CheckedLines}
-use Rattle.fixing.specs.Prices.{mostDistributors}
 
 -- what line j adds to distributor i at a price for each line: price * energy of its own lines, 0 of the others'
 unfoldable pub lineAmount : (ℕ → ℕ) → List ℕ → ℕ → ℕ → ℕ

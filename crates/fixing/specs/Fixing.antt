@@ -1,15 +1,18 @@
--- What a fixing of input of right lengths comes to: its verdict, and, where it is accepted, averages, prices and sector
--- charges; empty where it is refused. Assumes nothing.
+-- What a fixing of input of right lengths comes to: its verdict, and, where it is accepted, averages, prices, charges and
+-- sector charges; empty where it is refused. Assumes nothing.
 use mathlib.Core.List.{List, [], _∷_}
 use Prim.Native.Nat.{ℕ}
+use lib.IntN.{pos}
 use Rattle.numbers.specs.Bounded.{filledBelow}
+use Rattle.numbers.specs.Checks.{firstOf}
 use Rattle.numbers.specs.Units.{noPrice, noMoney}
+use Rattle.numbers.specs.Sizes.{mostDistributors}
 use Rattle.numbers.specs.declared.units.PesoPrice.{PesoPrice}
 use Rattle.numbers.specs.declared.units.Energy.{Energy}
 use Rattle.fixing.specs.Limit.{charge}
-use Rattle.fixing.specs.Prices.{mostDistributors, distributors, fixedPrices}
+use Rattle.fixing.specs.Prices.{distributors, fixedPrices, chargeList}
 use Rattle.fixing.specs.Sector.{sectorCharges, noCharges}
-use Rattle.fixing.specs.Input.{FixingInput, monthCheck, boundsCheck, firstVerdict, inputVerdict, inputAverages, inputEnergies}
+use Rattle.fixing.specs.Input.{FixingInput, monthCheck, boundsCheck, inputVerdict, inputAverages, inputEnergies}
 use Rattle.fixing.specs.declared.prices.FixedPrices.{FixedPrices}
 use Rattle.fixing.specs.declared.fix.Fixing.{Fixing}
 use Rattle.fixing.specs.declared.verdict.Verdict.{Verdict}
@@ -31,16 +34,18 @@ refusedFixing verdict =
       verdict = verdict;
       averages = filledBelow mostDistributors noPrice 0 (λ i. noPrice);
       prices = noPrices;
+      charges = filledBelow mostDistributors (pos 0) 0 (λ i. pos 0);
       sectors = noCharges;
     }
 
--- averages and energies give the prices, and these the charges of the sectors
+-- averages and energies give the prices, these the charges, and these the charges of the sectors
 unfoldable pub acceptedFixing : ℕ → List PesoPrice → List Energy → List ℕ → Fixing
 acceptedFixing n averages energies sectors =
     record {
       verdict = Passed;
       averages = averages;
       prices = fixedPrices (distributors n averages energies);
+      charges = chargeList (distributors n averages energies);
       sectors = sectorCharges n (charge (distributors n averages energies)) sectors;
     }
 
@@ -56,7 +61,7 @@ fixingBy (OutOfBounds line) accepted = refusedFixing (OutOfBounds line)
 -- the fixing of input that passed causes 6 to 9
 unfoldable pub pricedFixing : ℕ → FixingInput → Fixing
 pricedFixing n input =
-    fixingBy (firstVerdict (monthCheck input ∷ boundsCheck input ∷ []))
+    fixingBy (firstOf (monthCheck input ∷ boundsCheck input ∷ []) Passed)
     (acceptedFixing n (inputAverages n input) (inputEnergies n input) (input .sectors))
 
 unfoldable pub fixingOf : ℕ → FixingInput → Fixing

@@ -1,11 +1,13 @@
 -- What a fixing is given beside the ledger, and the checks that it makes of it, causes 6 to 11 of document 01, each over
 -- the whole input. Their order is the list `inputChecks`. Assumes nothing.
 use mathlib.Core.Path.{_≡_}
-use mathlib.Core.Bool.{Bool, true, false}
+use mathlib.Core.Bool.{true}
 use mathlib.Core.List.{List, [], _∷_}
 use mathlib.Core.Option.{Option, none, some}
 use Prim.Native.Nat.{ℕ, _*_, _/_, _≤_}
 use lib.ListN.{length}
+use Rattle.numbers.specs.Checks.{refusedUnless, firstOf}
+use Rattle.numbers.specs.Sizes.{sectorCount}
 use Rattle.numbers.specs.declared.units.PesoPrice.{PesoPrice}
 use Rattle.numbers.specs.declared.units.Energy.{Energy}
 use Rattle.series.specs.Series.{wordCount, seriesTable, valuesInRange}
@@ -18,7 +20,7 @@ use Rattle.supply.specs.declared.months.MonthSearch.the-variants.{AllPublished,
 use Rattle.supply.specs.declared.price.BoundsSearch.{BoundsSearch}
 use Rattle.supply.specs.declared.price.BoundsSearch.the-variants.{AllWithin, BeyondAt}
 use Rattle.fixing.specs.Average.{everyoneSupplied, energyList, averageList}
-use Rattle.fixing.specs.Sector.{sectorCount, sectorsAllowed}
+use Rattle.fixing.specs.Sector.{sectorsAllowed}
 use Rattle.fixing.specs.declared.verdict.Verdict.{Verdict}
 use Rattle.fixing.specs.declared.verdict.Verdict.the-variants.{Passed, OutOfRange, ValueTooLarge, WrongSector, NoLine, MonthMissing, OutOfBounds}
 
@@ -51,10 +53,6 @@ pub record RightLengths (n : ℕ) (input : FixingInput) : Type 0 where
   pub lent : WholeLines (input .lines) (lineCount input)
   pub line : 1 ≤ lineCount input
   pub factors : length (input .sectors) ≡ n * sectorCount
-
-abbrev pub refusedUnless : Bool → Verdict → Option Verdict
-refusedUnless true verdict = none
-refusedUnless false verdict = some verdict
 
 -- 6: D, F, first month or a line's word
 unfoldable pub rangeCheck : ℕ → FixingInput → Option Verdict
@@ -96,14 +94,8 @@ unfoldable pub inputChecks : ℕ → FixingInput → List (Option Verdict)
 inputChecks n input =
     rangeCheck n input ∷ valueCheck input ∷ sectorCheck n input ∷ lineCheck n input ∷ monthCheck input ∷ boundsCheck input ∷ []
 
--- the first check that is met gives the verdict
-unfoldable pub firstVerdict : List (Option Verdict) → Verdict
-firstVerdict [] = Passed
-firstVerdict (none ∷ rest) = firstVerdict rest
-firstVerdict (some verdict ∷ rest) = verdict
-
 unfoldable pub inputVerdict : ℕ → FixingInput → Verdict
-inputVerdict n input = firstVerdict (inputChecks n input)
+inputVerdict n input = firstOf (inputChecks n input) Passed
 
 -- 01's number for each verdict (0: accepted), and the values returned with it
 abbrev pub verdictNumber : Verdict → ℕ

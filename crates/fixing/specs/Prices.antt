@@ -3,17 +3,14 @@ use mathlib.Core.Path.{_≡_}
 use mathlib.Core.List.{List}
 use Prim.Native.Nat.{ℕ, _<_}
 use lib.ListN.{getD}
-use lib.IntN.{pos}
+use lib.IntN.{ℤ, pos}
 use Rattle.numbers.specs.Bounded.{filledBelow}
 use Rattle.numbers.specs.Units.{noPrice, noEnergy}
+use Rattle.numbers.specs.Sizes.{mostDistributors}
 use Rattle.numbers.specs.declared.units.PesoPrice.{PesoPrice}
 use Rattle.numbers.specs.declared.units.Energy.{Energy}
-use Rattle.fixing.specs.Limit.{Distributors, limit, rounds, surcharge, residue, finalPrice}
+use Rattle.fixing.specs.Limit.{Distributors, limit, rounds, surcharge, residue, finalPrice, charge}
 use Rattle.fixing.specs.declared.prices.FixedPrices.{FixedPrices}
-
--- "n (1 to 40)"
-abbrev pub mostDistributors : ℕ
-mostDistributors = 40
 
 -- the distributors of a list of averages and one of energies
 abbrev pub distributors : ℕ → List PesoPrice → List Energy → Distributors
@@ -23,6 +20,10 @@ distributors n averages energies =
 -- the final prices, distributor by distributor; the places past n are empty
 unfoldable pub finalPrices : Distributors → List PesoPrice
 finalPrices d = filledBelow mostDistributors noPrice (d .count) (λ i. record { 0 = finalPrice d i })
+
+-- the charges, distributor by distributor; the places past n are empty
+unfoldable pub chargeList : Distributors → List ℤ
+chargeList d = filledBelow mostDistributors (pos 0) (d .count) (charge d)
 
 -- "Fixing .. returns L, r (0 if none), rounds, residue", beside the final prices
 unfoldable pub fixedPrices : Distributors → FixedPrices

@@ -6,15 +6,12 @@ use mathlib.Core.List.{List, []}
 use Prim.Native.Nat.{ℕ, _+_, _*_, _/_, _≤_, _<_}
 use lib.Dec.{leb, eqb}
 use lib.ListN.{getD, length}
-use lib.IntN.{ℤ, pos}
+use lib.IntN.{ℤ, pos, natAbs}
 use Rattle.numbers.specs.Bounded.{allBelow, anyBelow, filledBelow}
-use Rattle.numbers.specs.Units.{noPrice, mostPrice}
-use Rattle.numbers.specs.declared.units.PesoPrice.{PesoPrice}
+use Rattle.numbers.specs.Units.{mostPrice}
+use Rattle.numbers.specs.Sizes.{sectorCount}
 use Rattle.fixing.specs.Charge.{sectorCharge}
 use Rattle.fixing.specs.declared.sector.SectorCharges.{SectorCharges}
-
-abbrev pub sectorCount : ℕ
-sectorCount = 8
 
 -- 40 distributors of 8 sectors
 abbrev pub sectorPlaces : ℕ
@@ -57,10 +54,9 @@ sectorCharges n charge sectors = chargedPlaces (n * sectorCount) charge sectors
 unfoldable pub noCharges : SectorCharges
 noCharges = chargedPlaces 0 (λ i. pos 0) []
 
--- what the charges are worked from: checked sector factors, averages and final prices of at most 2,000,000
-pub record ChargedSectors (n : ℕ) (averages finals : List PesoPrice) (sectors : List ℕ) : Type 0 where
+-- what the charges of sectors are worked from: checked factors, and charges of at most 2,000,000 in size
+pub record ChargedSectors (n : ℕ) (charges : List ℤ) (sectors : List ℕ) : Type 0 where
   pub few : n ≤ 40
   pub lent : length sectors ≡ n * sectorCount
   pub factors : (k : ℕ) → k < n * sectorCount → factorAt sectors k ≤ mostFactor
-  pub average : (i : ℕ) → i < n → getD averages i noPrice .0 ≤ mostPrice
-  pub final : (i : ℕ) → i < n → getD finals i noPrice .0 ≤ mostPrice
+  pub charge : (i : ℕ) → i < n → natAbs (getD charges i (pos 0)) ≤ mostPrice

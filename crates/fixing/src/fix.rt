@@ -3,15 +3,18 @@ ghost use mathlib.Core.Path.{_≡_};
 ghost use mathlib.Core.Bool.{true};
 ghost use Prim.Native.Nat.{_*_};
 ghost use lib.ListN.{length};
+ghost use Rattle.numbers.specs.Sizes.{sectorCount};
 ghost use Rattle.fixing.specs.Average.{AcceptedLines, averageList, energyList};
-ghost use Rattle.fixing.specs.Sector.{sectorCount, sectorsAllowed};
+ghost use Rattle.fixing.specs.Sector.{sectorsAllowed};
 ghost use Rattle.fixing.specs.Input.{RightLengths, CheckedInput, inputOf, inputEnergies};
 ghost use Rattle.fixing.specs.Fixing.{refusedFixing, acceptedFixing, pricedFixing, fixingOf};
 use crate::average::averages;
 use crate::average::energies;
 use crate::average::everyone_supplied;
 use crate::prices::FixedPrices;
+use crate::prices::charges;
 use crate::prices::fix_prices;
+use crate::prices::no_charge_list;
 use crate::prices::no_prices;
 use crate::sector::SectorCharges;
 use crate::sector::no_charges;
@@ -35,6 +38,8 @@ pub struct Fixing {
     pub verdict: Verdict,
     pub averages: [PesoPrice; 40],
     pub prices: FixedPrices,
+    // Final price less average, signed, in 0.001 $/kWh.
+    pub charges: [i64; 40],
     pub sectors: SectorCharges,
 }
 
@@ -50,11 +55,13 @@ fn refused(verdict: Verdict) -> Fixing
         residue: Pesos(0),
         finals: none,
     };
+    let charges = no_charge_list();
     let sectors = no_charges();
     Fixing {
         verdict,
         averages: none,
         prices,
+        charges,
         sectors,
     }
 }
@@ -74,11 +81,13 @@ fn accepted(
     let averages = averages(n, references, lines, count, energies);
     let prices = fix_prices(n, averages, energies);
     let finals = prices.finals;
-    let sectors = sector_charges(n, averages, finals, sectors);
+    let charges = charges(n, averages, finals);
+    let sectors = sector_charges(n, charges, sectors);
     Fixing {
         verdict: Verdict::Passed,
         averages,
         prices,
+        charges,
         sectors,
     }
 }

@@ -3,13 +3,16 @@
 ghost use mathlib.Core.Path.{_≡_};
 ghost use Prim.Native.Nat.{ℕ, _+_, _*_, _<_, _≤_, min};
 ghost use lib.ListN.{getD, replicate};
+ghost use lib.IntN.{pos, subℕ};
 ghost use Rattle.numbers.specs.Bounded.{sumBelow, filledBelow};
 ghost use Rattle.numbers.specs.Units.{noPrice, noEnergy};
+ghost use Rattle.numbers.specs.Sizes.{mostDistributors};
 ghost use Rattle.fixing.specs.Limit.{InRange, contractTotal, sumInside, sumOutside, aboveLimit};
 ghost use Rattle.fixing.specs.Limit.{limit as limitOf, surcharge as surchargeOf, rounds as roundsOf};
-ghost use Rattle.fixing.specs.Prices.{mostDistributors, distributors, Fixed};
+ghost use Rattle.fixing.specs.Prices.{distributors, Fixed};
 use numbers::rounding::divide_up;
 use numbers::signed::difference;
+use numbers::signed::magnitude;
 use numbers::units::Energy;
 use numbers::units::PesoPrice;
 use numbers::units::Pesos;
@@ -25,21 +28,21 @@ pub struct FixedPrices {
 
 // What a round sums: what its set pays at the averages, the set's energy and the energy outside the set.
 struct RoundSums {
-    paid: u64,
-    inside: u64,
-    outside: u64,
+    paid: Pesos,
+    inside: Energy,
+    outside: Energy,
 }
 
 // The last round: its surcharge, and the count of the rounds with it.
 struct LastRound {
-    surcharge: u64,
+    surcharge: PesoPrice,
     rounds: u64,
 }
 
 // What prices collect: of the averages the contract total, of the final prices what the residue is taken from.
-fn collects(n: usize, prices: [PesoPrice; 40], energies: [Energy; 40]) -> u64
+fn collects(n: usize, prices: [PesoPrice; 40], energies: [Energy; 40]) -> Pesos
     requires { ⌜ InRange (distributors n prices energies) ⌝ }
-    ensures { λ r. ⌜ r ≡ contractTotal (distributors n prices energies) ⌝ }
+    ensures { λ r. ⌜ r ≡ record { 0 = pos (contractTotal (distributors n prices energies)) } ⌝ }
 {
     let mut total: u64 = 0;
     let mut i: usize = 0;
@@ -47,13 +50,13 @@ fn collects(n: usize, prices: [PesoPrice; 40], energies: [Energy; 40]) -> u64
         total += prices[i].0 * energies[i].0;
         i += 1;
     }
-    total
+    Pesos(difference(total, 0))
 }
 
 // The energy of all distributors.
-fn energy_total(n: usize, energies: [Energy; 40]) -> u64
+fn energy_total(n: usize, energies: [Energy; 40]) -> Energy
     requires { ⌜ n ≤ mostDistributors ⌝ ∗ ⌜ sumBelow n (λ i. getD energies i noEnergy .0) ≤ 2560000000 ⌝ }
-    ensures { λ r. ⌜ r ≡ sumBelow n (λ i. getD energies i noEnergy .0) ⌝ }
+    ensures { λ r. ⌜ r ≡ record { 0 = sumBelow n (λ i. getD energies i noEnergy .0) } ⌝ }
 {
     let mut total: u64 = 0;
     let mut i: usize = 0;
@@ -61,7 +64,7 @@ fn energy_total(n: usize, energies: [Energy; 40]) -> u64
         total += energies[i].0;
         i += 1;
     }
-    total
+    Energy(total)
 }
 
 // The sums of a round, whose set is those whom the surcharge of the round before, `raise`, puts above the limit.
@@ -69,11 +72,11 @@ fn round_sums(
     n: usize,
     averages: [PesoPrice; 40],
     energies: [Energy; 40],
-    limit: u64,
-    raise: u64,
+    limit: PesoPrice,
+    raise: PesoPrice,
 ) -> RoundSums
-    requires { ⌜ InRange (distributors n averages energies) ⌝ ∗ ⌜ limit ≡ limitOf (distributors n averages energies) ⌝ ∗ ⌜ raise ≤ limit ⌝ }
-    ensures { λ r. ⌜ r ≡ (let d = distributors n averages energies in let set = aboveLimit d raise in record { paid = sumInside d set (λ i. d .average i * d .energy i); inside = sumInside d set (d .energy); outside = sumOutside d set (d .energy) }) ⌝ }
+    requires { ⌜ InRange (distributors n averages energies) ⌝ ∗ ⌜ limit .0 ≡ limitOf (distributors n averages energies) ⌝ ∗ ⌜ raise .0 ≤ limit .0 ⌝ }
+    ensures { λ r. ⌜ r ≡ (let d = distributors n averages energies in let set = aboveLimit d (raise .0) in record { paid = record { 0 = pos (sumInside d set (λ i. d .average i * d .energy i)) }; inside = record { 0 = sumInside d set (d .energy) }; outside = record { 0 = sumOutside d set (d .energy) } }) ⌝ }
 {
     let mut paid: u64 = 0;
     let mut inside: u64 = 0;
@@ -82,7 +85,7 @@ fn round_sums(
     while i < n {
         let average = averages[i].0;
         let energy = energies[i].0;
-        if limit < average + raise {
+        if limit.0 < average + raise.0 {
             paid += average * energy;
             inside += energy;
         } else {
@@ -91,32 +94,38 @@ fn round_sums(
         i += 1;
     }
     RoundSums {
-        paid,
-        inside,
-        outside,
+        paid: Pesos(difference(paid, 0)),
+        inside: Energy(inside),
+        outside: Energy(outside),
     }
 }
 
 // The rounds, until one in which nobody joins. The set before a round is those whom the surcharge of the round before
 // puts above the limit, so that this one number tells it. The set only grows and each energy is at least 1, so that its
 // energy tells whether somebody joined: one pass before the first round and one in each, at most n in all.
-fn last_round(n: usize, averages: [PesoPrice; 40], energies: [Energy; 40], limit: u64) -> LastRound
-    requires { ⌜ InRange (distributors n averages energies) ⌝ ∗ ⌜ limit ≡ limitOf (distributors n averages energies) ⌝ }
-    ensures { λ r. ⌜ r ≡ (let d = distributors n averages energies in record { surcharge = surchargeOf d; rounds = roundsOf d }) ⌝ }
+fn last_round(
+    n: usize,
+    averages: [PesoPrice; 40],
+    energies: [Energy; 40],
+    limit: PesoPrice,
+) -> LastRound
+    requires { ⌜ InRange (distributors n averages energies) ⌝ ∗ ⌜ limit .0 ≡ limitOf (distributors n averages energies) ⌝ }
+    ensures { λ r. ⌜ r ≡ (let d = distributors n averages energies in record { surcharge = record { 0 = surchargeOf d }; rounds = roundsOf d }) ⌝ }
 {
-    let mut sums = round_sums(n, averages, energies, limit, 0);
-    if sums.inside == 0 {
+    let mut sums = round_sums(n, averages, energies, limit, PesoPrice(0));
+    if sums.inside.0 == 0 {
         return LastRound {
-            surcharge: 0,
+            surcharge: PesoPrice(0),
             rounds: 0,
         };
     }
     let mut rounds: u64 = 0;
     loop {
-        let surcharge = divide_up(sums.paid - limit * sums.inside, sums.outside);
+        let excess = magnitude(sums.paid.0) - limit.0 * sums.inside.0;
+        let surcharge = PesoPrice(divide_up(excess, sums.outside.0));
         rounds += 1;
         let next = round_sums(n, averages, energies, limit, surcharge);
-        if next.inside == sums.inside {
+        if next.inside.0 == sums.inside.0 {
             return LastRound { surcharge, rounds };
         }
         sums = next;
@@ -131,27 +140,59 @@ pub fn no_prices() -> [PesoPrice; 40]
 }
 
 // The limit for the capped, whom the surcharge puts above it, and the raised average for others: the lesser of the two.
-fn final_price(average: u64, limit: u64, surcharge: u64) -> u64
-    requires { ⌜ average ≤ 2000000 ⌝ ∗ ⌜ surcharge ≤ 2100000 ⌝ }
-    ensures { λ r. ⌜ r ≡ min limit (average + surcharge) ⌝ }
+fn final_price(average: PesoPrice, limit: PesoPrice, surcharge: PesoPrice) -> PesoPrice
+    requires { ⌜ average .0 ≤ 2000000 ⌝ ∗ ⌜ surcharge .0 ≤ 2100000 ⌝ }
+    ensures { λ r. ⌜ r ≡ record { 0 = min (limit .0) (average .0 + surcharge .0) } ⌝ }
 {
-    let raised = average + surcharge;
-    if limit < raised { limit } else { raised }
+    let raised = average.0 + surcharge.0;
+    if limit.0 < raised {
+        limit
+    } else {
+        PesoPrice(raised)
+    }
 }
 
 // The final price of each distributor.
-fn final_prices(n: usize, averages: [PesoPrice; 40], limit: u64, surcharge: u64) -> [PesoPrice; 40]
-    requires { ⌜ n ≤ mostDistributors ⌝ ∗ ⌜ surcharge ≤ 2100000 ⌝ ∗ ⌜ ((i : ℕ) → i < n → getD averages i noPrice .0 ≤ 2000000) ⌝ }
-    ensures { λ r. ⌜ r ≡ filledBelow mostDistributors noPrice n (λ i. record { 0 = min limit (getD averages i noPrice .0 + surcharge) }) ⌝ }
+fn final_prices(
+    n: usize,
+    averages: [PesoPrice; 40],
+    limit: PesoPrice,
+    surcharge: PesoPrice,
+) -> [PesoPrice; 40]
+    requires { ⌜ n ≤ mostDistributors ⌝ ∗ ⌜ surcharge .0 ≤ 2100000 ⌝ ∗ ⌜ ((i : ℕ) → i < n → getD averages i noPrice .0 ≤ 2000000) ⌝ }
+    ensures { λ r. ⌜ r ≡ filledBelow mostDistributors noPrice n (λ i. record { 0 = min (limit .0) (getD averages i noPrice .0 + surcharge .0) }) ⌝ }
 {
     let mut finals = no_prices();
     let mut i: usize = 0;
     while i < n {
-        let average = averages[i].0;
-        finals[i] = PesoPrice(final_price(average, limit, surcharge));
+        let average = averages[i];
+        finals[i] = final_price(average, limit, surcharge);
         i += 1;
     }
     finals
+}
+
+// The places of the charges, empty, for the same reason as those of the prices.
+pub fn no_charge_list() -> [i64; 40]
+    ensures { λ r. ⌜ r ≡ replicate mostDistributors (pos 0) ⌝ }
+{
+    [0i64; 40]
+}
+
+// The charge of each distributor: final price less average, signed, in 0.001 $/kWh.
+pub fn charges(n: usize, averages: [PesoPrice; 40], finals: [PesoPrice; 40]) -> [i64; 40]
+    requires { ⌜ n ≤ mostDistributors ⌝ ∗ ⌜ ((i : ℕ) → i < n → getD averages i noPrice .0 ≤ 2000000) ⌝ ∗ ⌜ ((i : ℕ) → i < n → getD finals i noPrice .0 ≤ 2000000) ⌝ }
+    ensures { λ r. ⌜ r ≡ filledBelow mostDistributors (pos 0) n (λ i. subℕ (getD finals i noPrice .0) (getD averages i noPrice .0)) ⌝ }
+{
+    let mut charges = no_charge_list();
+    let mut i: usize = 0;
+    while i < n {
+        let average = averages[i].0;
+        let price = finals[i].0;
+        charges[i] = difference(price, average);
+        i += 1;
+    }
+    charges
 }
 
 // The limit and the rounds of document 01.
@@ -160,13 +201,17 @@ pub fn fix_prices(n: usize, averages: [PesoPrice; 40], energies: [Energy; 40]) -
     ensures { λ r. ⌜ Fixed (distributors n averages energies) r ⌝ }
 {
     let total = collects(n, averages, energies);
-    let limit = 105 * total / (100 * energy_total(n, energies));
+    let energy = energy_total(n, energies);
+    let floor = 105 * magnitude(total.0) / (100 * energy.0);
+    let limit = PesoPrice(floor);
     let last = last_round(n, averages, energies, limit);
-    let finals = final_prices(n, averages, limit, last.surcharge);
-    let residue = difference(collects(n, finals, energies), total);
+    let surcharge = last.surcharge;
+    let finals = final_prices(n, averages, limit, surcharge);
+    let collected = collects(n, finals, energies);
+    let residue = collected.0 - total.0;
     FixedPrices {
-        limit: PesoPrice(limit),
-        surcharge: PesoPrice(last.surcharge),
+        limit,
+        surcharge,
         rounds: last.rounds,
         residue: Pesos(residue),
         finals,

@@ -4,14 +4,13 @@ ghost use mathlib.Core.Bool.{false};
 ghost use Prim.Native.Nat.{_*_, _≤_, _<_};
 ghost use lib.Dec.{leb};
 ghost use lib.ListN.{length, getD};
-ghost use lib.IntN.{natAbs, subℕ};
+ghost use lib.IntN.{pos, natAbs};
 ghost use Rattle.numbers.specs.Bounded.{allBelow};
-ghost use Rattle.numbers.specs.Units.{noPrice};
+ghost use Rattle.numbers.specs.Sizes.{sectorCount};
 ghost use Rattle.fixing.specs.Charge.{sectorCharge};
-ghost use Rattle.fixing.specs.Sector.{sectorCount, mostFactor, factorAt, hasSector, sectorsAllowed, sectorCharges, noCharges, ChargedSectors};
+ghost use Rattle.fixing.specs.Sector.{mostFactor, factorAt, hasSector, sectorsAllowed, sectorCharges, noCharges, ChargedSectors};
 use numbers::rounding::half_away;
 use numbers::signed::difference;
-use numbers::units::PesoPrice;
 
 // Presence and charge of 8 sectors of 40 distributors: what a fixing puts in force, without its month.
 pub struct SectorCharges {
@@ -94,21 +93,16 @@ pub fn no_charges() -> SectorCharges
     }
 }
 
-// Presences and charges of the sectors of n distributors, from their averages and final prices.
-pub fn sector_charges(
-    n: usize,
-    averages: [PesoPrice; 40],
-    finals: [PesoPrice; 40],
-    sectors: &[u64],
-) -> SectorCharges
-    requires { ⌜ ChargedSectors n averages finals (now sectors) ⌝ }
-    ensures { λ r. ⌜ r ≡ sectorCharges n (λ i. subℕ (getD finals i noPrice .0) (getD averages i noPrice .0)) (now (sectors .entry)) ⌝ }
+// Presences and charges of the sectors of n distributors, from their charges.
+pub fn sector_charges(n: usize, charges: [i64; 40], sectors: &[u64]) -> SectorCharges
+    requires { ⌜ ChargedSectors n charges (now sectors) ⌝ }
+    ensures { λ r. ⌜ r ≡ sectorCharges n (λ i. getD charges i (pos 0)) (now (sectors .entry)) ⌝ }
 {
     let mut force = no_charges();
     let mut k: usize = 0;
     while k < sectors.len() {
         let i = k / SECTORS;
-        let charge = difference(finals[i].0, averages[i].0);
+        let charge = charges[i];
         let factor = sectors[k];
         force.present[k] = factor != 0;
         force.charges[k] = sector_charge(charge, factor);

@@ -8,13 +8,13 @@ use native.Mathlib.Omega.{arith}
 use lib.IntN.{ℤ, pos, _+ℤ_, +ℤ-idl, +ℤ-idr, +ℤ-assoc}
 use Rattle.numbers.specs.Signed.{signedSumBelow}
 use Rattle.numbers.specs.Units.{noMoney}
+use Rattle.numbers.specs.Sizes.{mostDistributors}
 use Rattle.numbers.proofs.UnitLaws.{between-yes}
 use Rattle.numbers.proofs.ListLaws.{filled-empty}
-use Rattle.settlement.specs.Month.{mostDistributors, moneyAt, moneyBelow}
+use Rattle.settlement.specs.Month.{moneyAt, moneyBelow}
 use Rattle.settlement.proofs.MonthLaws.{money-none}
 use Rattle.fixing.specs.Sector.{noCharges}
-use Rattle.ledger.specs.Ledger.{noBalances, emptyLedger, pickOpening, openingOf}
-use Rattle.ledger.specs.declared.open.OpeningAnswer.the-variants.{Opened, WrongCount}
+use Rattle.ledger.specs.Ledger.{noBalances, emptyLedger, openingOf}
 use Rattle.ledger.specs.Sound.{sound}
 use Rattle.ledger.specs.Fix.{FixingCall, fixingList}
 use Rattle.ledger.specs.Settle.{SettlementCall}
@@ -23,7 +23,7 @@ use Rattle.ledger.proofs.SoundFacts.{sound-facts}
 use Rattle.ledger.proofs.MoneyLaws.{money-sum}
 use Rattle.ledger.proofs.KeptLaws.{opened-sound, fixing-keeps, settlement-keeps, settlement-adds}
 use Rattle.history.specs.Run.{Call, fixing, settlement, Answered, opened, step, answer, after, answers}
-use Rattle.history.specs.Plain.{Plain, inputDistributors, plainOpened, image, plainAnswer, plainAmount, plainAccepts, plainChange, pickPlain, plainStep, plainAfter, plainAnswers, callCollects, plainCollected}
+use Rattle.history.specs.Plain.{Plain, inputDistributors, plainOpened, image, plainAnswer, plainAmount, plainAccepts, plainChange, plainStep, plainAfter, plainAnswers, callCollects, plainCollected}
 use Rattle.history.specs.History.{WrittenPrices, History}
 use Rattle.history.proofs.CallLaws.{fixing-same, fixing-step, settlement-same, settlement-step}
 use Rattle.history.proofs.WrittenLaws.{written}
@@ -56,14 +56,14 @@ module _ (plain : Plain) where
   unfolding plainStep plainChange
   step-count call = go call (plainAccepts plain call)
     where
-      go : (c : Call) (b : Bool) → pickPlain b (plainChange plain c) plain .count ≡ plain .count
+      go : (c : Call) (b : Bool) → cond b (plainChange plain c) plain .count ≡ plain .count
       go (fixing c) true = refl
       go (fixing c) false = refl
       go (settlement c) true = refl
       go (settlement c) false = refl
 
   -- a fixing moves no balance, an accepted settlement moves them by the collected amounts
-  fixing-adds : (call : FixingCall) (b : Bool) → total (image (pickPlain b (plainChange plain (fixing call)) plain)) ≡ total (image plain) +ℤ cond b (pos 0) (pos 0)
+  fixing-adds : (call : FixingCall) (b : Bool) → total (image (cond b (plainChange plain (fixing call)) plain)) ≡ total (image plain) +ℤ cond b (pos 0) (pos 0)
   unfolding image plainChange
   fixing-adds call true = sym (+ℤ-idr (total (image plain)))
   fixing-adds call false = sym (+ℤ-idr (total (image plain)))
@@ -74,7 +74,7 @@ module _ (plain : Plain) where
       ap total (sym (settlement-step plain call h))
       ∙ settlement-adds (image plain) call h (settlement-same plain call h .accepts ∙ e)
   settled-adds call h false e =
-      ap (λ c. total (image (pickPlain c (plainChange plain (settlement call)) plain))) e ∙ sym (+ℤ-idr (total (image plain)))
+      ap (λ c. total (image (cond c (plainChange plain (settlement call)) plain))) e ∙ sym (+ℤ-idr (total (image plain)))
 
   step-adds : (call : Call) → sound (image plain) ≡ true → total (image (plainStep plain call)) ≡ total (image plain) +ℤ cond (plainAccepts plain call) (callCollects plain call) (pos 0)
   unfolding plainStep callCollects
@@ -116,9 +116,7 @@ module _ (n : ℕ) (p : 1 ≤ n) (q : n ≤ 40) where
 
   opened-is : opened n ≡ emptyLedger n
   unfolding opened openingOf
-  opened-is =
-      ap (λ b. pickOpening b (record { answer = Opened; ledger = emptyLedger n }) (record { answer = WrongCount; ledger = emptyLedger 0 }) .ledger)
-      (between-yes 1 40 n p q)
+  opened-is = rw (between-yes 1 40 n p q, opened)
 
   opened-same : opened n ≡ image (plainOpened n)
   unfolding emptyLedger noBalances image plainOpened

@@ -6,7 +6,7 @@ use Prim.Native.Nat.{ℕ, zero, suc, _+_, _-_, _*_, _/_, _%_, _≤_, _<_}
 use native.Mathlib.Omega.{arith}
 use lib.Dec.{le→leb}
 use lib.ListN.{length, getD}
-use lib.IntN.{ℤ, pos, subℕ, _-ℤ_, _*ℤ_}
+use lib.IntN.{ℤ, pos, _-ℤ_, _*ℤ_}
 use lib.Signed.{_≤ℤ_}
 use Rattle.numbers.specs.Bounded.{listBelow}
 use Rattle.numbers.specs.Units.{noPrice}
@@ -14,12 +14,12 @@ use Rattle.numbers.specs.declared.units.PesoPrice.{PesoPrice}
 use Rattle.numbers.proofs.ListLaws.{list-length, list-at}
 use Rattle.fixing.specs.Limit.{Distributors, InRange, contractTotal, limit, finalPrice, charge, collected}
 use Rattle.fixing.specs.Charge.{greater, greatestUpTo, pricesCollect, largestCharge}
-use Rattle.fixing.specs.Prices.{fixedPrices}
+use Rattle.fixing.specs.Prices.{fixedPrices, chargeList}
 use Rattle.fixing.specs.Input.{inputAverages, inputEnergies}
 use Rattle.fixing.specs.Fixing.{acceptedFixing}
 use Rattle.fixing.specs.declared.fix.Fixing.{Fixing}
 use Rattle.fixing.proofs.LimitLaws.{final-limit, collects, smallest-largest, collect-whole}
-use Rattle.fixing.proofs.FixingLaws.{final-at}
+use Rattle.fixing.proofs.FixingLaws.{final-at, charge-at}
 use Rattle.ledger.specs.Sound.{sound}
 use Rattle.ledger.specs.Fix.{FixingCall, fixingAnswer, fixingList, isAccepted, priceList, priceWord, third}
 use Rattle.ledger.specs.declared.book.Ledger.{Ledger}
@@ -53,13 +53,13 @@ module _ (d : Distributors) (f g : ℕ → ℤ) (h : (i : ℕ) → i < d .count 
       (λ i p. ap (λ (z : ℤ). z -ℤ pos (d .average i)) (h i (omega arith)))
 
 -- the three words of distributor i
-module _ (n : ℕ) (averages finals : List PesoPrice) (i : ℕ) (p : i < n) where
-  word-at : (j k : ℕ) → j ≡ i * 3 + k → k < 3 → getD (listBelow (n * 3) (priceWord averages finals)) j (pos 0) ≡ third k (pos (getD averages i noPrice .0)) (pos (getD finals i noPrice .0)) (subℕ (getD finals i noPrice .0) (getD averages i noPrice .0))
+module _ (n : ℕ) (averages finals : List PesoPrice) (charges : List ℤ) (i : ℕ) (p : i < n) where
+  word-at : (j k : ℕ) → j ≡ i * 3 + k → k < 3 → getD (listBelow (n * 3) (priceWord averages finals charges)) j (pos 0) ≡ third k (pos (getD averages i noPrice .0)) (pos (getD finals i noPrice .0)) (getD charges i (pos 0))
   unfolding priceWord
   word-at j k e q =
       let whole : j / 3 ≡ i = omega arith in
       let part : j % 3 ≡ k = omega arith in
-      list-at (priceWord averages finals) (n * 3) (pos 0) j (omega arith) ∙ rw (whole, part)
+      list-at (priceWord averages finals charges) (n * 3) (pos 0) j (omega arith) ∙ rw (whole, part)
 
 -- a fixing that was accepted
 module _ (book : Ledger) (call : FixingCall) (h : sound book ≡ true) (e : isAccepted (fixingAnswer book call) ≡ true) where
@@ -72,6 +72,9 @@ module _ (book : Ledger) (call : FixingCall) (h : sound book ≡ true) (e : isAc
   abbrev finals : List PesoPrice
   finals = fixedPrices d .finals
 
+  abbrev charges : List ℤ
+  charges = chargeList d
+
   range : InRange d
   unfolding inputDistributors
   range =
@@ -79,37 +82,41 @@ module _ (book : Ledger) (call : FixingCall) (h : sound book ≡ true) (e : isAc
       let f = fixing-passed book call e in
       passed-range (book .n) call (g .some) (g .few) (f .lengths) (f .passed)
 
-  list-is : fixingList book call ≡ listBelow (book .n * 3) (priceWord averages finals)
+  list-is : fixingList book call ≡ listBelow (book .n * 3) (priceWord averages finals charges)
   unfolding fixingList priceList acceptedFixing inputDistributors
   list-is =
       rw e
-      (ap (λ (x : Fixing). listBelow (book .n * 3) (priceWord (x .averages) (x .prices .finals)))
+      (ap (λ (x : Fixing). listBelow (book .n * 3) (priceWord (x .averages) (x .prices .finals) (x .charges)))
       (passed-fixing (book .n) (call .input) (fixing-passed book call e .passed)))
 
   final-is : (i : ℕ) → i < book .n → getD finals i noPrice .0 ≡ finalPrice d i
   unfolding inputDistributors
   final-is i p = final-at (book .n) averages (inputEnergies (book .n) (call .input)) range i p
 
+  charge-is : (i : ℕ) → i < book .n → getD charges i (pos 0) ≡ charge d i
+  unfolding inputDistributors
+  charge-is i p = charge-at (book .n) averages (inputEnergies (book .n) (call .input)) range i p
+
   final-written : (i : ℕ) → i < book .n → writtenFinal (fixingList book call) i ≡ pos (finalPrice d i)
   final-written i p =
       ap (λ l. writtenFinal l i) list-is
-      ∙ word-at (book .n) averages finals i p (i * 3 + 1) 1 refl (omega arith)
+      ∙ word-at (book .n) averages finals charges i p (i * 3 + 1) 1 refl (omega arith)
       ∙ ap pos (final-is i p)
 
   pub written : WrittenPrices (book .n) d (fixingList book call)
-  unfolding inputDistributors charge collected
+  unfolding inputDistributors collected
   written =
       let same = final-written in
       record {
-        words = ap length list-is ∙ list-length (priceWord averages finals) (book .n * 3);
+        words = ap length list-is ∙ list-length (priceWord averages finals charges) (book .n * 3);
         average = λ i p.
             ap (λ l. getD l (i * 3) (pos 0)) list-is
-            ∙ word-at (book .n) averages finals i p (i * 3) 0 (omega arith) (omega arith);
+            ∙ word-at (book .n) averages finals charges i p (i * 3) 0 (omega arith) (omega arith);
         final = same;
         charged = λ i p.
             ap (λ l. getD l (i * 3 + 2) (pos 0)) list-is
-            ∙ word-at (book .n) averages finals i p (i * 3 + 2) 2 refl (omega arith)
-            ∙ ap (λ x. subℕ x (getD averages i noPrice .0)) (final-is i p);
+            ∙ word-at (book .n) averages finals charges i p (i * 3 + 2) 2 refl (omega arith)
+            ∙ charge-is i p;
         limited = λ i p. rw (same i p) (pos-le (finalPrice d i) (limit d) (final-limit d range i p));
         collects =
             rw (collect-same d (writtenFinal (fixingList book call)) (λ i. pos (finalPrice d i)) same, collect-whole d (finalPrice d))

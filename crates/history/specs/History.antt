@@ -7,11 +7,11 @@ use lib.ListN.{length, getD}
 use lib.IntN.{ℤ, pos}
 use lib.Signed.{_≤ℤ_}
 use Rattle.numbers.specs.Signed.{signedSumBelow}
+use Rattle.numbers.specs.Sizes.{mostDistributors}
 use Rattle.fixing.specs.Limit.{Distributors, contractTotal, limit, finalPrice, charge}
 use Rattle.fixing.specs.Charge.{pricesCollect, largestCharge}
-use Rattle.fixing.specs.Input.{FixingInput}
 use Rattle.settlement.specs.Settlement.{oneSign}
-use Rattle.settlement.specs.Month.{mostDistributors, moneyAt}
+use Rattle.settlement.specs.Month.{moneyAt}
 use Rattle.ledger.specs.Sound.{sound}
 use Rattle.ledger.specs.Fix.{FixingCall, fixingAnswer, fixingList, isAccepted}
 use Rattle.history.specs.Run.{Call, fixing, opened, after, answers}

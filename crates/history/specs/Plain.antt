@@ -7,6 +7,7 @@ use mathlib.Core.Option.{Option, none, some}
 use Prim.Native.Nat.{ℕ, _+_}
 use lib.Dec.{eqb}
 use lib.IntN.{ℤ, pos, _+ℤ_}
+use Rattle.numbers.specs.Checks.{refusedUnless, firstOf}
 use Rattle.numbers.specs.Signed.{signedSumBelow}
 use Rattle.fixing.specs.Limit.{Distributors, limit, surcharge, rounds, residue, charge}
 use Rattle.fixing.specs.Prices.{distributors}
@@ -65,18 +66,13 @@ image plain =
       balances = moneyBelow (plain .count) (plain .balance);
     }
 
-abbrev pub refusedUnless : Bool → ℕ → Option Answered
-refusedUnless true number = none
-refusedUnless false number = some (record { number = number; values = [] })
+-- a number without values
+abbrev pub refusal : ℕ → Answered
+refusal number = record { number = number; values = [] }
 
 -- the fixing's causes 6 to 11, by their numbers
 abbrev pub refusedAt : ℕ → List ℕ → Option Answered
 refusedAt number values = cond (eqb number 0) none (some (record { number = number; values = values }))
-
-abbrev pub firstRefusal : List (Option Answered) → Answered → Answered
-firstRefusal [] accepted = accepted
-firstRefusal (none ∷ rest) accepted = firstRefusal rest accepted
-firstRefusal (some refusal ∷ rest) accepted = refusal
 
 -- "Each call is put to the checks below, in their order, on the plain ledger": a fixing
 unfoldable pub plainFixing : Plain → FixingCall → Answered
@@ -84,10 +80,10 @@ plainFixing plain call =
     let n = plain .count in
     let verdict = inputVerdict n (call .input) in
     let d = inputDistributors n (call .input) in
-    firstRefusal
-    (refusedUnless (sound (image plain)) 2
-    ∷ refusedUnless (fixingLengths n call) 3
-    ∷ refusedUnless (fixingTurn (plain .months) (plain .last) (call .input .month)) 4
+    firstOf
+    (refusedUnless (sound (image plain)) (refusal 2)
+    ∷ refusedUnless (fixingLengths n call) (refusal 3)
+    ∷ refusedUnless (fixingTurn (plain .months) (plain .last) (call .input .month)) (refusal 4)
     ∷ refusedAt (verdictNumber verdict) (verdictValues verdict)
     ∷ [])
     (record { number = 0; values = limit d ∷ surcharge d ∷ rounds d ∷ residue d ∷ [] })
@@ -105,13 +101,13 @@ unfoldable pub plainSettlement : Plain → SettlementCall → Answered
 plainSettlement plain call =
     let n = plain .count in
     let force = heldForce n (plain .held) in
-    firstRefusal
-    (refusedUnless (sound (image plain)) 2
-    ∷ refusedUnless (settlementLengths n call) 3
-    ∷ refusedUnless (settlementTurn (plain .months) (plain .last) (isHeld (plain .held)) (heldMonth (plain .held)) (call .month)) 4
-    ∷ refusedUnless (isHeld (plain .held)) 5
-    ∷ refusedUnless (billingInRange n (force .present) (call .readings) (call .losses)) 12
-    ∷ refusedUnless (positionsInRange n (plainPosition plain call)) 13
+    firstOf
+    (refusedUnless (sound (image plain)) (refusal 2)
+    ∷ refusedUnless (settlementLengths n call) (refusal 3)
+    ∷ refusedUnless (settlementTurn (plain .months) (plain .last) (isHeld (plain .held)) (heldMonth (plain .held)) (call .month)) (refusal 4)
+    ∷ refusedUnless (isHeld (plain .held)) (refusal 5)
+    ∷ refusedUnless (billingInRange n (force .present) (call .readings) (call .losses)) (refusal 12)
+    ∷ refusedUnless (positionsInRange n (plainPosition plain call)) (refusal 13)
     ∷ [])
     (record { number = 0; values = [] })
 
@@ -143,12 +139,8 @@ plainChange plain (settlement call) =
       balance = newBalance (plain .count) (plainPosition plain call);
     }
 
-abbrev pub pickPlain : Bool → Plain → Plain → Plain
-pickPlain true a b = a
-pickPlain false a b = b
-
 unfoldable pub plainStep : Plain → Call → Plain
-plainStep plain call = pickPlain (plainAccepts plain call) (plainChange plain call) plain
+plainStep plain call = cond (plainAccepts plain call) (plainChange plain call) plain
 
 unfoldable pub plainAfter : Plain → List Call → Plain
 plainAfter plain [] = plain

@@ -7,7 +7,9 @@ use native.Mathlib.Omega.{arith}
 use lib.Dec.{eqb}
 use lib.ListN.{length}
 use borrow.Author.Tests.{eqb-true}
+use Rattle.numbers.specs.Checks.{refusedUnless, firstOf}
 use Rattle.numbers.specs.Units.{between}
+use Rattle.numbers.specs.Sizes.{sectorCount}
 use Rattle.numbers.proofs.BoolLaws.{and-left, and-right}
 use Rattle.numbers.proofs.UnitLaws.{between-low, between-high}
 use Rattle.series.specs.Series.{wordCount, valuesInRange}
@@ -19,9 +21,8 @@ use Rattle.supply.specs.declared.price.BoundsSearch.the-variants.{AllWithin, Be
 use Rattle.fixing.specs.Average.{everyoneSupplied}
 use Rattle.fixing.specs.Limit.{InRange}
 use Rattle.fixing.specs.Prices.{distributors}
-use Rattle.fixing.specs.Sector.{sectorCount, sectorsAllowed}
-use Rattle.fixing.specs.Input.{FixingInput, RightLengths, CheckedInput, lineCount, indexTable, rangeCheck, valueCheck, sectorCheck, lineCheck, monthCheck, boundsCheck, fromMonths, fromBounds, inputChecks, firstVerdict, inputVerdict, inputReferences, inputAverages, inputEnergies}
-use Rattle.fixing.specs.Input.{refusedUnless as verdictUnless}
+use Rattle.fixing.specs.Sector.{sectorsAllowed}
+use Rattle.fixing.specs.Input.{FixingInput, RightLengths, CheckedInput, lineCount, indexTable, rangeCheck, valueCheck, sectorCheck, lineCheck, monthCheck, boundsCheck, fromMonths, fromBounds, inputChecks, inputVerdict, inputReferences, inputAverages, inputEnergies}
 use Rattle.fixing.specs.Fixing.{acceptedFixing, fixingOf}
 use Rattle.fixing.specs.declared.verdict.Verdict.{Verdict}
 use Rattle.fixing.specs.declared.verdict.Verdict.the-variants.{Passed, OutOfRange, ValueTooLarge, WrongSector, NoLine, MonthMissing, OutOfBounds}
@@ -33,12 +34,10 @@ use Rattle.settlement.specs.Month.{moneyAt}
 use Rattle.ledger.specs.Sound.{sound}
 use Rattle.ledger.specs.Turn.{fixingTurn, settlementTurn}
 use Rattle.ledger.specs.Fix.{FixingCall, linesWhole, fixingLengths, fromVerdict, fixingChecks, fixingAnswer, isAccepted, isPassed, acceptedAnswer}
-use Rattle.ledger.specs.Fix.{refusedUnless as fixingUnless, firstAnswer as firstFixing}
 use Rattle.ledger.specs.Settle.{SettlementCall, settlementLengths, settlementChecks, settlementAnswer, isSettled, positionsOf, Due}
-use Rattle.ledger.specs.Settle.{refusedUnless as settlementUnless, firstAnswer as firstSettlement}
 use Rattle.ledger.specs.declared.book.Ledger.{Ledger}
 use Rattle.ledger.specs.declared.fix.FixingAnswer.the-variants.{Unsound, WrongLength, OutOfTurn}
-use Rattle.ledger.specs.declared.settle.SettlementAnswer.the-variants.{NoFixing, WrongReading, PositionBeyond}
+use Rattle.ledger.specs.declared.settle.SettlementAnswer.the-variants.{Settled, NoFixing, WrongReading, PositionBeyond}
 use Rattle.ledger.specs.declared.settle.SettlementAnswer.the-variants.{Unsound as NotSound, WrongLength as NotWhole, OutOfTurn as NotDue}
 
 -- a fixing
@@ -49,10 +48,10 @@ pub record FixingPassed (book : Ledger) (call : FixingCall) : Type 0 where
   pub passed : inputVerdict (book .n) (call .input) ≡ Passed
 
 pub fixing-passed : (book : Ledger) (call : FixingCall) → isAccepted (fixingAnswer book call) ≡ true → FixingPassed book call
-unfolding fixingAnswer fixingChecks firstFixing
+unfolding fixingAnswer fixingChecks firstOf
 fixing-passed book call h = go (sound book) refl (fixingLengths (book .n) call) refl (fixingTurn (book .months) (book .last) (call .input .month)) refl (inputVerdict (book .n) (call .input)) refl h
   where
-    go : (a : Bool) → sound book ≡ a → (b : Bool) → fixingLengths (book .n) call ≡ b → (c : Bool) → fixingTurn (book .months) (book .last) (call .input .month) ≡ c → (v : Verdict) → inputVerdict (book .n) (call .input) ≡ v → isAccepted (firstFixing (fixingUnless a Unsound ∷ fixingUnless b WrongLength ∷ fixingUnless c OutOfTurn ∷ fromVerdict v ∷ []) (acceptedAnswer (fixingOf (book .n) (call .input) .prices))) ≡ true → FixingPassed book call
+    go : (a : Bool) → sound book ≡ a → (b : Bool) → fixingLengths (book .n) call ≡ b → (c : Bool) → fixingTurn (book .months) (book .last) (call .input .month) ≡ c → (v : Verdict) → inputVerdict (book .n) (call .input) ≡ v → isAccepted (firstOf (refusedUnless a Unsound ∷ refusedUnless b WrongLength ∷ refusedUnless c OutOfTurn ∷ fromVerdict v ∷ []) (acceptedAnswer (fixingOf (book .n) (call .input) .prices))) ≡ true → FixingPassed book call
     go false p b q c r v s k = absurd (false≢true k)
     go true p false q c r v s k = absurd (false≢true k)
     go true p true q false r v s k = absurd (false≢true k)
@@ -73,13 +72,13 @@ pub record InputPassed (n : ℕ) (input : FixingInput) : Type 0 where
   pub within : boundsAt input (indexTable input) ≡ AllWithin
 
 pub input-passed : (n : ℕ) (input : FixingInput) → inputVerdict n input ≡ Passed → InputPassed n input
-unfolding inputVerdict inputChecks rangeCheck valueCheck sectorCheck lineCheck monthCheck boundsCheck firstVerdict
+unfolding inputVerdict inputChecks rangeCheck valueCheck sectorCheck lineCheck monthCheck boundsCheck firstOf
 input-passed n input h =
     go (ranged n input) refl (valuesInRange (input .series)) refl (sectorsAllowed n (input .sectors)) refl
     (everyoneSupplied n (lineCount input) (input .lines)) refl (monthsAt input (indexTable input)) (boundsAt input (indexTable input)) refl
     (ap isPassed h)
   where
-    go : (a : Bool) → ranged n input ≡ a → (b : Bool) → valuesInRange (input .series) ≡ b → (c : Bool) → sectorsAllowed n (input .sectors) ≡ c → (d : Bool) → everyoneSupplied n (lineCount input) (input .lines) ≡ d → (m : MonthSearch) (s : BoundsSearch) → boundsAt input (indexTable input) ≡ s → isPassed (firstVerdict (verdictUnless a OutOfRange ∷ verdictUnless b ValueTooLarge ∷ verdictUnless c WrongSector ∷ verdictUnless d NoLine ∷ fromMonths m ∷ fromBounds s ∷ [])) ≡ true → InputPassed n input
+    go : (a : Bool) → ranged n input ≡ a → (b : Bool) → valuesInRange (input .series) ≡ b → (c : Bool) → sectorsAllowed n (input .sectors) ≡ c → (d : Bool) → everyoneSupplied n (lineCount input) (input .lines) ≡ d → (m : MonthSearch) (s : BoundsSearch) → boundsAt input (indexTable input) ≡ s → isPassed (firstOf (refusedUnless a OutOfRange ∷ refusedUnless b ValueTooLarge ∷ refusedUnless c WrongSector ∷ refusedUnless d NoLine ∷ fromMonths m ∷ fromBounds s ∷ []) Passed) ≡ true → InputPassed n input
     go false p b q c r d s m x y k = absurd (false≢true k)
     go true p false q c r d s m x y k = absurd (false≢true k)
     go true p true q false r d s m x y k = absurd (false≢true k)
@@ -138,14 +137,14 @@ pub record SettlementPassed (book : Ledger) (call : SettlementCall) : Type 0 whe
   pub within : positionsInRange (book .n) (moneyAt (positionsOf book call)) ≡ true
 
 pub settlement-passed : (book : Ledger) (call : SettlementCall) → isSettled (settlementAnswer book call) ≡ true → SettlementPassed book call
-unfolding settlementAnswer settlementChecks firstSettlement
+unfolding settlementAnswer settlementChecks firstOf
 settlement-passed book call h =
     go (sound book) refl (settlementLengths (book .n) call) refl
     (settlementTurn (book .months) (book .last) (book .fixed) (book .month) (call .month)) refl (book .fixed) refl
     (billingInRange (book .n) (book .force .present) (call .readings) (call .losses)) refl
     (positionsInRange (book .n) (moneyAt (positionsOf book call))) refl h
   where
-    go : (a : Bool) → sound book ≡ a → (b : Bool) → settlementLengths (book .n) call ≡ b → (c : Bool) → settlementTurn (book .months) (book .last) (book .fixed) (book .month) (call .month) ≡ c → (d : Bool) → book .fixed ≡ d → (e : Bool) → billingInRange (book .n) (book .force .present) (call .readings) (call .losses) ≡ e → (f : Bool) → positionsInRange (book .n) (moneyAt (positionsOf book call)) ≡ f → isSettled (firstSettlement (settlementUnless a NotSound ∷ settlementUnless b NotWhole ∷ settlementUnless c NotDue ∷ settlementUnless d NoFixing ∷ settlementUnless e WrongReading ∷ settlementUnless f PositionBeyond ∷ [])) ≡ true → SettlementPassed book call
+    go : (a : Bool) → sound book ≡ a → (b : Bool) → settlementLengths (book .n) call ≡ b → (c : Bool) → settlementTurn (book .months) (book .last) (book .fixed) (book .month) (call .month) ≡ c → (d : Bool) → book .fixed ≡ d → (e : Bool) → billingInRange (book .n) (book .force .present) (call .readings) (call .losses) ≡ e → (f : Bool) → positionsInRange (book .n) (moneyAt (positionsOf book call)) ≡ f → isSettled (firstOf (refusedUnless a NotSound ∷ refusedUnless b NotWhole ∷ refusedUnless c NotDue ∷ refusedUnless d NoFixing ∷ refusedUnless e WrongReading ∷ refusedUnless f PositionBeyond ∷ []) Settled) ≡ true → SettlementPassed book call
     go false p b q c r d s e t f u k = absurd (false≢true k)
     go true p false q c r d s e t f u k = absurd (false≢true k)
     go true p true q false r d s e t f u k = absurd (false≢true k)

@@ -13,6 +13,7 @@ use borrow.Author.Tests.{leb-true, eqb-true, not-false}
 use Rattle.numbers.specs.Bounded.{anyBelow}
 use Rattle.numbers.specs.Signed.{signedSumBelow}
 use Rattle.numbers.specs.Rounding.{halfUp}
+use Rattle.numbers.specs.Sizes.{mostDistributors, sectorCount}
 use Rattle.numbers.proofs.BoolLaws.{and-left, and-right}
 use Rattle.numbers.proofs.ListLaws.{filled-at, filled-past}
 use Rattle.numbers.proofs.RoundingLaws.{away-size}
@@ -21,7 +22,7 @@ use Rattle.series.specs.Series.{lastMonth}
 use Rattle.fixing.specs.Limit.{Distributors, InRange, charge}
 use Rattle.fixing.specs.Charge.{sectorCharge}
 use Rattle.fixing.specs.Prices.{distributors}
-use Rattle.fixing.specs.Sector.{sectorCount, sectorPlaces, mostFactor, factorAt, sectorPresent, chargedPlaces, sectorCharges, noCharges}
+use Rattle.fixing.specs.Sector.{sectorPlaces, mostFactor, factorAt, sectorPresent, chargedPlaces, sectorCharges, noCharges}
 use Rattle.fixing.specs.Input.{inputAverages, inputEnergies}
 use Rattle.fixing.specs.Fixing.{acceptedFixing, fixingOf}
 use Rattle.fixing.specs.declared.fix.Fixing.{Fixing}
@@ -29,13 +30,13 @@ use Rattle.fixing.proofs.LimitLaws.{charge-size, sector-size}
 use Rattle.fixing.proofs.SectorLaws.{allowed-factor}
 use Rattle.settlement.specs.Amount.{collectedAmount}
 use Rattle.settlement.specs.Settlement.{positionOf, newBalance, oneSign}
-use Rattle.settlement.specs.Month.{mostDistributors, moneyAt, moneyBelow, positionList, settledMonth}
+use Rattle.settlement.specs.Month.{moneyAt, moneyBelow, positionList, settledMonth}
 use Rattle.settlement.proofs.SettlementLaws.{balances-sign, balances-total}
 use Rattle.settlement.proofs.MonthLaws.{money-at, positions-within, balances-within}
 use Rattle.ledger.specs.Ledger.{anySettled, noBalances, emptyLedger, fixedLedger, settledLedger}
 use Rattle.ledger.specs.Sound.{presentIn, chargeIn, sound}
 use Rattle.ledger.specs.Turn.{fixingTurn, settlementTurn}
-use Rattle.ledger.specs.Fix.{FixingCall, fixingAnswer, fixingLedger, isAccepted, pickLedger}
+use Rattle.ledger.specs.Fix.{FixingCall, fixingAnswer, fixingLedger, isAccepted}
 use Rattle.ledger.specs.Settle.{SettlementCall, settlementAnswer, settlementLedger, isSettled, positionsOf}
 use Rattle.ledger.specs.declared.book.Ledger.{Ledger}
 use Rattle.ledger.proofs.SoundFacts.{or-else, zero-size, some-settled, none-settled, PlaceFacts, BalanceFacts, sound-facts, sound-test}
@@ -177,7 +178,7 @@ fixing-keeps book call h = go (isAccepted (fixingAnswer book call)) refl
           signs = g .signs;
         }))
 
-    go : (b : Bool) → isAccepted (fixingAnswer book call) ≡ b → sound (pickLedger b (fixedLedger book (call .input .month) (fixingOf (book .n) (call .input) .sectors)) book) ≡ true
+    go : (b : Bool) → isAccepted (fixingAnswer book call) ≡ b → sound (cond b (fixedLedger book (call .input .month) (fixingOf (book .n) (call .input) .sectors)) book) ≡ true
     go true e = accepted (fixing-passed book call e)
     go false e = h
 
@@ -257,6 +258,6 @@ settlement-keeps book call h = go (isSettled (settlementAnswer book call)) refl
           signs = money-sign (book .n) (g .few) balance (balances-sign (book .n) (moneyAt (positionsOf book call)));
         })
 
-    go : (b : Bool) → isSettled (settlementAnswer book call) ≡ b → sound (pickLedger b (settledLedger book (call .month) (settledMonth (book .n) (positionsOf book call) .balances)) book) ≡ true
+    go : (b : Bool) → isSettled (settlementAnswer book call) ≡ b → sound (cond b (settledLedger book (call .month) (settledMonth (book .n) (positionsOf book call) .balances)) book) ≡ true
     go true e = accepted (settlement-passed book call e)
     go false e = h

@@ -11,13 +11,14 @@ use lib.Signed.{ltZ}
 use Rattle.numbers.specs.Bounded.{allBelow, anyBelow}
 use Rattle.numbers.specs.Signed.{signedSumBelow, positivePart, negativePart, withinSize, isNegative}
 use Rattle.numbers.specs.Units.{noMoney}
+use Rattle.numbers.specs.Sizes.{mostDistributors}
 use Rattle.numbers.specs.declared.units.Pesos.{Pesos}
 use Rattle.numbers.proofs.TestLaws.{any-none, any-never}
 use Rattle.numbers.proofs.SumLaws.{sum-same}
 use Rattle.numbers.proofs.ListLaws.{filled-past}
 use Rattle.settlement.specs.Share.{sideTotal}
 use Rattle.settlement.specs.Settlement.{mostPosition, positionsInRange, owing, owed, transferred, paid, received, transfer, newBalance, oneSign}
-use Rattle.settlement.specs.Month.{mostDistributors, moneyAt, moneyBelow}
+use Rattle.settlement.specs.Month.{moneyAt, moneyBelow}
 use Rattle.settlement.proofs.ShareLaws.{share-same}
 use Rattle.settlement.proofs.MonthLaws.{money-at}
 use Rattle.ledger.proofs.SoundFacts.{not-both}

@@ -3,12 +3,13 @@
 use mathlib.Core.Path.{_≡_, refl, sym, _∙_, ap}
 use mathlib.Core.Bool.{Bool, true, false, cond, _&&_}
 use mathlib.Core.List.{List, [], _∷_}
-use Prim.Native.Nat.{ℕ, _*_, _≤_}
+use Prim.Native.Nat.{_*_}
 use lib.Dec.{eqb}
 use lib.ListN.{length}
 use lib.IntN.{ℤ}
 use borrow.Author.Tests.{eqb-true}
 use Rattle.numbers.specs.Bounded.{listBelow}
+use Rattle.numbers.specs.Checks.{refusedUnless, firstOf}
 use Rattle.numbers.specs.declared.units.Pesos.{Pesos}
 use Rattle.numbers.proofs.BoolLaws.{and-left, and-right}
 use Rattle.settlement.specs.Amount.{billingInRange, BillingLists, Billed}
@@ -19,8 +20,7 @@ use Rattle.settlement.proofs.AmountLaws.{billing-facts}
 use Rattle.ledger.specs.Ledger.{settledLedger}
 use Rattle.ledger.specs.Sound.{sound}
 use Rattle.ledger.specs.Turn.{settlementTurn}
-use Rattle.ledger.specs.Fix.{pickLedger}
-use Rattle.ledger.specs.Settle.{SettlementCall, settlementLengths, positionsOf, refusedUnless, settlementChecks, Due, firstAnswer, settlementAnswer, isSettled, answerNumber, answerValues, settlementLedger, settlementList, Settlement}
+use Rattle.ledger.specs.Settle.{SettlementCall, settlementLengths, positionsOf, settlementChecks, Due, settlementAnswer, isSettled, answerNumber, settlementLedger, settlementList, Settlement}
 use Rattle.ledger.specs.declared.book.Ledger.{Ledger}
 use Rattle.ledger.specs.declared.settle.SettlementAnswer.{SettlementAnswer}
 use Rattle.ledger.specs.declared.settle.SettlementAnswer.the-variants as answers
@@ -30,21 +30,21 @@ use Rattle.ledger.proofs.SoundLaws.{sound-few, sound-charges}
 module _ (book : Ledger) (call : SettlementCall) where
   -- the answer by the first check that is met
   pub answer-two : sound book ≡ false → settlementAnswer book call ≡ answers.Unsound
-  unfolding settlementAnswer settlementChecks firstAnswer
+  unfolding settlementAnswer settlementChecks firstOf
   answer-two a = rw a
 
   module _ (a : sound book ≡ true) where
     pub answer-three : settlementLengths (book .n) call ≡ false → settlementAnswer book call ≡ answers.WrongLength
-    unfolding settlementAnswer settlementChecks firstAnswer
+    unfolding settlementAnswer settlementChecks firstOf
     answer-three b = rw (a, b)
 
     module _ (b : settlementLengths (book .n) call ≡ true) where
       pub answer-four : settlementTurn (book .months) (book .last) (book .fixed) (book .month) (call .month) ≡ false → settlementAnswer book call ≡ answers.OutOfTurn
-      unfolding settlementAnswer settlementChecks firstAnswer
+      unfolding settlementAnswer settlementChecks firstOf
       answer-four d = rw (a, b, d)
 
       pub answer-five : settlementTurn (book .months) (book .last) (book .fixed) (book .month) (call .month) ≡ true → book .fixed ≡ false → settlementAnswer book call ≡ answers.NoFixing
-      unfolding settlementAnswer settlementChecks firstAnswer
+      unfolding settlementAnswer settlementChecks firstOf
       answer-five d f = rw (a, b, d, f)
 
   -- a month that is due
@@ -70,7 +70,7 @@ module _ (book : Ledger) (call : SettlementCall) where
         eqb-true _ _ (and-right lost written (and-right read (lost && written) (due .lengths)))
 
     pub answer-twelve : billingInRange (book .n) (book .force .present) (call .readings) (call .losses) ≡ false → settlementAnswer book call ≡ answers.WrongReading
-    unfolding settlementAnswer settlementChecks firstAnswer
+    unfolding settlementAnswer settlementChecks firstOf
     answer-twelve f = rw (due .whole, due .lengths, due .turn, due .inForce, f)
 
     module _ (billed : billingInRange (book .n) (book .force .present) (call .readings) (call .losses) ≡ true) where
@@ -84,21 +84,21 @@ module _ (book : Ledger) (call : SettlementCall) where
 
       module _ (positions : List Pesos) (e : positions ≡ positionsOf book call) where
         -- the last check is all that is left
-        answer-last : (b : Bool) → positionsInRange (book .n) (moneyAt positions) ≡ b → settlementAnswer book call ≡ firstAnswer (refusedUnless b answers.PositionBeyond ∷ [])
-        unfolding settlementAnswer settlementChecks firstAnswer
+        answer-last : (b : Bool) → positionsInRange (book .n) (moneyAt positions) ≡ b → settlementAnswer book call ≡ firstOf (refusedUnless b answers.PositionBeyond ∷ []) answers.Settled
+        unfolding settlementAnswer settlementChecks firstOf
         answer-last b f =
-            let here : settlementAnswer book call ≡ firstAnswer (refusedUnless (positionsInRange (book .n) (moneyAt (positionsOf book call))) answers.PositionBeyond ∷ []) =
+            let here : settlementAnswer book call ≡ firstOf (refusedUnless (positionsInRange (book .n) (moneyAt (positionsOf book call))) answers.PositionBeyond ∷ []) answers.Settled =
             rw (due .whole, due .lengths, due .turn, due .inForce, billed) in
             here
-            ∙ ap (λ (l : List Pesos). firstAnswer (refusedUnless (positionsInRange (book .n) (moneyAt l)) answers.PositionBeyond ∷ [])) (sym e)
-            ∙ ap (λ x. firstAnswer (refusedUnless x answers.PositionBeyond ∷ [])) f
+            ∙ ap (λ (l : List Pesos). firstOf (refusedUnless (positionsInRange (book .n) (moneyAt l)) answers.PositionBeyond ∷ []) answers.Settled) (sym e)
+            ∙ ap (λ x. firstOf (refusedUnless x answers.PositionBeyond ∷ []) answers.Settled) f
 
         pub answer-thirteen : positionsInRange (book .n) (moneyAt positions) ≡ false → settlementAnswer book call ≡ answers.PositionBeyond
-        unfolding firstAnswer
+        unfolding firstOf
         answer-thirteen f = answer-last false f
 
         answer-settled : positionsInRange (book .n) (moneyAt positions) ≡ true → settlementAnswer book call ≡ answers.Settled
-        unfolding firstAnswer
+        unfolding firstOf
         answer-settled f = answer-last true f
 
         -- what is promised of a settled month
@@ -114,7 +114,7 @@ module _ (book : Ledger) (call : SettlementCall) where
               valued = refl;
               booked =
                   q ∙ ap (λ (s : Settled). settledLedger book (call .month) (s .balances)) month
-                  ∙ ap (λ b. pickLedger b (settledLedger book (call .month) (settledMonth (book .n) (positionsOf book call) .balances)) book) yes;
+                  ∙ ap (λ b. cond b (settledLedger book (call .month) (settledMonth (book .n) (positionsOf book call) .balances)) book) yes;
               listed =
                   r ∙ ap (λ (s : Settled). listBelow (book .n) (moneyAt (s .transfers))) month
                   ∙ ap (λ b. cond b (listBelow (book .n) (moneyAt (settledMonth (book .n) (positionsOf book call) .transfers))) (call .transfers)) yes;
@@ -132,6 +132,6 @@ module _ (book : Ledger) (call : SettlementCall) where
         valued = refl;
         booked =
             ap (λ (o : SettlementOutcome). o .ledger) e
-            ∙ ap (λ b. pickLedger b (settledLedger book (call .month) (settledMonth (book .n) (positionsOf book call) .balances)) book) no;
+            ∙ ap (λ b. cond b (settledLedger book (call .month) (settledMonth (book .n) (positionsOf book call) .balances)) book) no;
         listed = ap (λ b. cond b (listBelow (book .n) (moneyAt (settledMonth (book .n) (positionsOf book call) .transfers))) (call .transfers)) no;
       }

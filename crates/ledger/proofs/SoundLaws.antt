@@ -12,7 +12,7 @@ use mir.Syntax.{w64}
 use mir.Val.{SFits, ofZ}
 use borrow.Author.Tests.{ne-eqb}
 use Rattle.numbers.specs.Bounded.{anyBelow}
-use Rattle.fixing.specs.Sector.{sectorCount}
+use Rattle.numbers.specs.Sizes.{sectorCount}
 use Rattle.settlement.specs.Amount.{mostCharge, chargeAt}
 use Rattle.settlement.specs.Month.{MoneyWithin}
 use Rattle.ledger.specs.Sound.{isZero, sound}

@@ -7,13 +7,14 @@ use mathlib.Core.Option.{Option, none, some}
 use Prim.Native.Nat.{ℕ, zero, suc, _*_, _/_, _%_, _^_, _<_}
 use lib.Dec.{eqb}
 use lib.ListN.{length, getD}
-use lib.IntN.{ℤ, pos, natAbs, subℕ}
+use lib.IntN.{ℤ, pos, natAbs}
 use Rattle.numbers.specs.Bounded.{listBelow}
+use Rattle.numbers.specs.Checks.{refusedUnless, firstOf}
 use Rattle.numbers.specs.Units.{between, noPrice}
+use Rattle.numbers.specs.Sizes.{sectorCount}
 use Rattle.numbers.specs.declared.units.PesoPrice.{PesoPrice}
 use Rattle.series.specs.Series.{wordCount}
 use Rattle.supply.specs.Line.{lineWords, mostLines}
-use Rattle.fixing.specs.Sector.{sectorCount}
 use Rattle.fixing.specs.Input.{FixingInput, inputOf, inputVerdict, verdictNumber, verdictValues}
 use Rattle.fixing.specs.Fixing.{fixingOf}
 use Rattle.fixing.specs.declared.fix.Fixing.{Fixing}
@@ -47,10 +48,6 @@ fixingLengths n call =
     && (linesWhole (call .input .lines)
     && (eqb (length (call .input .sectors)) (n * sectorCount) && eqb (length (call .prices)) (n * 3)))
 
-abbrev pub refusedUnless : Bool → FixingAnswer → Option FixingAnswer
-refusedUnless true answer = none
-refusedUnless false answer = some answer
-
 abbrev pub fromVerdict : Verdict → Option FixingAnswer
 fromVerdict Passed = none
 fromVerdict OutOfRange = some (Rejected OutOfRange)
@@ -78,19 +75,13 @@ fixingChecks book call =
     ∷ fromVerdict (inputVerdict (book .n) (call .input))
     ∷ []
 
--- the first check that is met gives the answer
-unfoldable pub firstAnswer : List (Option FixingAnswer) → FixingAnswer → FixingAnswer
-firstAnswer [] accepted = accepted
-firstAnswer (none ∷ rest) accepted = firstAnswer rest accepted
-firstAnswer (some answer ∷ rest) accepted = answer
-
 -- an accepted fixing "returns L, r (0 if none), rounds, residue"
 unfoldable pub acceptedAnswer : FixedPrices → FixingAnswer
 acceptedAnswer prices = Accepted (prices .limit) (prices .surcharge) (prices .rounds) (prices .residue)
 
 unfoldable pub fixingAnswer : Ledger → FixingCall → FixingAnswer
 fixingAnswer book call =
-    firstAnswer (fixingChecks book call) (acceptedAnswer (fixingOf (book .n) (call .input) .prices))
+    firstOf (fixingChecks book call) (acceptedAnswer (fixingOf (book .n) (call .input) .prices))
 
 abbrev pub isAccepted : FixingAnswer → Bool
 isAccepted (Accepted limit surcharge rounds residue) = true
@@ -115,15 +106,10 @@ answerValues OutOfTurn = []
 answerValues (Rejected verdict) = verdictValues verdict
 
 -- the ledger handed back: a refused one unchanged
-abbrev pub pickLedger : Bool → Ledger → Ledger → Ledger
-pickLedger true a b = a
-pickLedger false a b = b
-
 unfoldable pub fixingLedger : Ledger → FixingCall → Ledger
 fixingLedger book call =
-    pickLedger (isAccepted (fixingAnswer book call))
-    (fixedLedger book (call .input .month) (fixingOf (book .n) (call .input) .sectors))
-    book
+    let booked = fixedLedger book (call .input .month) (fixingOf (book .n) (call .input) .sectors) in
+    cond (isAccepted (fixingAnswer book call)) booked book
 
 -- "Fixing writes average, final, charge, distributor by distributor": word k of the list
 abbrev pub third : ℕ → ℤ → ℤ → ℤ → ℤ
@@ -131,14 +117,15 @@ third zero average final charge = average
 third (suc zero) average final charge = final
 third (suc (suc k)) average final charge = charge
 
-unfoldable pub priceWord : List PesoPrice → List PesoPrice → ℕ → ℤ
-priceWord averages finals k =
+unfoldable pub priceWord : List PesoPrice → List PesoPrice → List ℤ → ℕ → ℤ
+priceWord averages finals charges k =
     let average = getD averages (k / 3) noPrice .0 in
     let final = getD finals (k / 3) noPrice .0 in
-    third (k % 3) (pos average) (pos final) (subℕ final average)
+    third (k % 3) (pos average) (pos final) (getD charges (k / 3) (pos 0))
 
 unfoldable pub priceList : ℕ → Fixing → List ℤ
-priceList n fixing = listBelow (n * 3) (priceWord (fixing .averages) (fixing .prices .finals))
+priceList n fixing =
+    listBelow (n * 3) (priceWord (fixing .averages) (fixing .prices .finals) (fixing .charges))
 
 unfoldable pub fixingList : Ledger → FixingCall → List ℤ
 fixingList book call =

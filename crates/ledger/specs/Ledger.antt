@@ -1,7 +1,7 @@
 -- The ledger of document 01 ("Taken and handed back by value"): how it opens, and how an accepted fixing and a settled
 -- month change it. Assumes nothing.
-use mathlib.Core.Bool.{Bool, true, false, not}
-use mathlib.Core.List.{List, [], _∷_}
+use mathlib.Core.Bool.{Bool, true, false, cond, not}
+use mathlib.Core.List.{List, []}
 use Prim.Native.Nat.{ℕ, _+_}
 use lib.Dec.{eqb}
 use lib.IntN.{pos}
@@ -55,13 +55,9 @@ settledLedger book month balances =
     }
 
 -- "opening, n not 1 to 40" is 1
-abbrev pub pickOpening : Bool → Opening → Opening → Opening
-pickOpening true a b = a
-pickOpening false a b = b
-
 unfoldable pub openingOf : ℕ → Opening
 openingOf n =
-    pickOpening (between 1 40 n)
+    cond (between 1 40 n)
     (record { answer = Opened; ledger = emptyLedger n })
     (record { answer = WrongCount; ledger = emptyLedger 0 })
 

@@ -3,12 +3,13 @@
 use mathlib.Core.Path.{_≡_}
 use mathlib.Core.Bool.{Bool, true, false, cond, _&&_}
 use mathlib.Core.List.{List, [], _∷_}
-use mathlib.Core.Option.{Option, none, some}
+use mathlib.Core.Option.{Option}
 use Prim.Native.Nat.{ℕ, _*_}
 use lib.Dec.{eqb}
 use lib.ListN.{length}
 use lib.IntN.{ℤ}
 use Rattle.numbers.specs.Bounded.{listBelow}
+use Rattle.numbers.specs.Checks.{refusedUnless, firstOf}
 use Rattle.numbers.specs.declared.units.Pesos.{Pesos}
 use Rattle.settlement.specs.Amount.{billingInRange}
 use Rattle.settlement.specs.Settlement.{positionsInRange}
@@ -16,7 +17,6 @@ use Rattle.settlement.specs.Month.{moneyAt, positionList, settledMonth}
 use Rattle.ledger.specs.Ledger.{settledLedger}
 use Rattle.ledger.specs.Sound.{sound}
 use Rattle.ledger.specs.Turn.{settlementTurn}
-use Rattle.ledger.specs.Fix.{pickLedger}
 use Rattle.ledger.specs.declared.book.Ledger.{Ledger}
 use Rattle.ledger.specs.declared.settle.SettlementAnswer.{SettlementAnswer}
 use Rattle.ledger.specs.declared.settle.SettlementAnswer.the-variants.{Settled, Unsound, WrongLength, OutOfTurn, NoFixing, WrongReading, PositionBeyond}
@@ -44,10 +44,6 @@ settlementLengths n call =
 unfoldable pub positionsOf : Ledger → SettlementCall → List Pesos
 positionsOf book call = positionList (book .n) (book .balances) (book .force .charges) (call .readings) (call .losses)
 
-abbrev pub refusedUnless : Bool → SettlementAnswer → Option SettlementAnswer
-refusedUnless true answer = none
-refusedUnless false answer = some answer
-
 -- the checks of a settlement in their order: 2, 3, 4, 5, 12, 13
 unfoldable pub settlementChecks : Ledger → SettlementCall → List (Option SettlementAnswer)
 settlementChecks book call =
@@ -66,14 +62,8 @@ pub record Due (book : Ledger) (call : SettlementCall) : Type 0 where
   pub turn : settlementTurn (book .months) (book .last) (book .fixed) (book .month) (call .month) ≡ true
   pub inForce : book .fixed ≡ true
 
--- the first check that is met gives the answer
-unfoldable pub firstAnswer : List (Option SettlementAnswer) → SettlementAnswer
-firstAnswer [] = Settled
-firstAnswer (none ∷ rest) = firstAnswer rest
-firstAnswer (some answer ∷ rest) = answer
-
 unfoldable pub settlementAnswer : Ledger → SettlementCall → SettlementAnswer
-settlementAnswer book call = firstAnswer (settlementChecks book call)
+settlementAnswer book call = firstOf (settlementChecks book call) Settled
 
 abbrev pub isSettled : SettlementAnswer → Bool
 isSettled Settled = true
@@ -100,7 +90,7 @@ answerValues answer = []
 -- the ledger handed back: a refused one unchanged
 unfoldable pub settlementLedger : Ledger → SettlementCall → Ledger
 settlementLedger book call =
-    pickLedger (isSettled (settlementAnswer book call))
+    cond (isSettled (settlementAnswer book call))
     (settledLedger book (call .month) (settledMonth (book .n) (positionsOf book call) .balances))
     book
 

@@ -1,6 +1,6 @@
 -- "Sound" (a term of document 01, "The ledger"): one test, clause by clause, of every bit pattern a ledger may have.
 -- Nothing else is soundness. Assumes nothing.
-use mathlib.Core.Bool.{Bool, true, false, not, _&&_, _||_}
+use mathlib.Core.Bool.{Bool, false, not, _&&_, _||_}
 use mathlib.Core.List.{List}
 use Prim.Native.Nat.{ℕ, _+_, _*_}
 use lib.Dec.{leb, ltb, eqb}
@@ -9,13 +9,14 @@ use lib.IntN.{ℤ, pos, natAbs}
 use Rattle.numbers.specs.Bounded.{allBelow}
 use Rattle.numbers.specs.Signed.{withinSize}
 use Rattle.numbers.specs.Units.{between}
+use Rattle.numbers.specs.Sizes.{mostDistributors, sectorCount}
 use Rattle.numbers.specs.declared.units.Pesos.{Pesos}
 use Rattle.series.specs.Series.{lastMonth}
-use Rattle.fixing.specs.Sector.{sectorCount, sectorPlaces}
+use Rattle.fixing.specs.Sector.{sectorPlaces}
 use Rattle.fixing.specs.declared.sector.SectorCharges.{SectorCharges}
 use Rattle.settlement.specs.Amount.{mostCharge}
 use Rattle.settlement.specs.Settlement.{mostPosition, oneSign}
-use Rattle.settlement.specs.Month.{mostDistributors, moneyAt}
+use Rattle.settlement.specs.Month.{moneyAt}
 use Rattle.ledger.specs.Ledger.{anySettled}
 use Rattle.ledger.specs.declared.book.Ledger.{Ledger}
 

@@ -1,11 +1,9 @@
 // The open call of fixing: no requires. Causes 2, 3 and 4 are the ledger's, the others the fixing's; the prices are
 // written only when all of them are passed.
 ghost use mathlib.Core.Path.{_≡_};
-ghost use mathlib.Core.List.{List};
 ghost use Prim.Native.Nat.{_*_, _≤_, _<_};
 ghost use lib.ListN.{length};
 ghost use Rattle.numbers.specs.Bounded.{listBelow};
-ghost use Rattle.fixing.specs.Input.{inputOf};
 ghost use Rattle.ledger.specs.Ledger.{fixedLedger};
 ghost use Rattle.ledger.specs.Turn.{fixingTurn};
 ghost use Rattle.ledger.specs.Fix.{callOf, linesWhole, fixingLengths, priceWord, PricesSmall, answerNumber, isPassed, acceptedAnswer, Fixed};
@@ -95,26 +93,37 @@ fn is_passed(verdict: Verdict) -> bool
 }
 
 // Word k of the price list: average, final price and charge of each distributor in turn.
-fn price_word(averages: [PesoPrice; 40], finals: [PesoPrice; 40], k: usize) -> i64
+fn price_word(
+    averages: [PesoPrice; 40],
+    finals: [PesoPrice; 40],
+    charges: [i64; 40],
+    k: usize,
+) -> i64
     requires { ⌜ PricesSmall averages finals ⌝ ∗ ⌜ k < 120 ⌝ }
-    ensures { λ r. ⌜ r ≡ priceWord averages finals k ⌝ }
+    ensures { λ r. ⌜ r ≡ priceWord averages finals charges k ⌝ }
 {
     let i = k / 3;
     match k % 3 {
         0 => difference(averages[i].0, 0),
         1 => difference(finals[i].0, 0),
-        _ => difference(finals[i].0, averages[i].0),
+        _ => charges[i],
     }
 }
 
 // The whole price list, in one loop that cannot fail.
-fn write_prices(prices: &mut [i64], n: usize, averages: [PesoPrice; 40], finals: [PesoPrice; 40])
+fn write_prices(
+    prices: &mut [i64],
+    n: usize,
+    averages: [PesoPrice; 40],
+    finals: [PesoPrice; 40],
+    charges: [i64; 40],
+)
     requires { ⌜ n ≤ 40 ⌝ ∗ ⌜ length (now prices) ≡ n * 3 ⌝ ∗ ⌜ PricesSmall averages finals ⌝ }
-    ensures { λ r. ⌜ now (prices .exit) ≡ listBelow (n * 3) (priceWord averages finals) ⌝ }
+    ensures { λ r. ⌜ now (prices .exit) ≡ listBelow (n * 3) (priceWord averages finals charges) ⌝ }
 {
     let mut k: usize = 0;
     while k < prices.len() {
-        prices[k] = price_word(averages, finals, k);
+        prices[k] = price_word(averages, finals, charges, k);
         k += 1;
     }
 }
@@ -178,8 +187,9 @@ pub fn fix(
     let fixed = fixing.prices;
     let averages = fixing.averages;
     let finals = fixed.finals;
+    let charges = fixing.charges;
     let force = fixing.sectors;
-    write_prices(prices, n, averages, finals);
+    write_prices(prices, n, averages, finals, charges);
     let answer = accepted(fixed);
     let ledger = ledger.book_fixing(month, force);
     FixingOutcome { answer, ledger }

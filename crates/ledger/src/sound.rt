@@ -3,8 +3,9 @@
 ghost use mathlib.Core.Path.{_≡_};
 ghost use Prim.Native.Nat.{_≤_};
 ghost use Rattle.numbers.specs.Bounded.{allBelow};
+ghost use Rattle.numbers.specs.Sizes.{mostDistributors};
 ghost use Rattle.settlement.specs.Settlement.{oneSign};
-ghost use Rattle.settlement.specs.Month.{mostDistributors, moneyAt};
+ghost use Rattle.settlement.specs.Month.{moneyAt};
 ghost use Rattle.ledger.specs.Sound.{placeTest, forceSound, nothingPresent, unsetZero, monthsSound, balanceTest, balanceSound};
 ghost use Rattle.ledger.specs.Sound.{sound as soundLedger};
 use crate::book::Ledger;

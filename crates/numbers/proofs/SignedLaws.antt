@@ -112,7 +112,7 @@ pub sub-fits : (p n : ℕ) → p < 2 ^ 63 → n < 2 ^ 63 → SFits w64 (subℕ p
 sub-fits p n hp hn =
     sub-cases (SFits w64) p n (λ h. record { sfits = omega arith }) (λ h. record { sfits = omega arith })
 
-pos-sub : (p n : ℕ) → pos p -ℤ pos n ≡ subℕ p n
+pub pos-sub : (p n : ℕ) → pos p -ℤ pos n ≡ subℕ p n
 pos-sub p zero = ap pos (omega arith) ∙ sym (pos-sub-zero p)
 pos-sub p (suc n) = refl
 

@@ -1,6 +1,6 @@
 -- The units of document 01: "Peso price, energy and money are kept apart as units", and the bounds that "belong to
 -- the peso price itself". Assumes nothing.
-use mathlib.Core.Bool.{Bool, true, false, _&&_}
+use mathlib.Core.Bool.{Bool, cond, _&&_}
 use mathlib.Core.List.{List, [], _∷_}
 use Prim.Native.Nat.{ℕ}
 use lib.Dec.{leb}
@@ -33,13 +33,9 @@ mostPrice = 2000000
 unfoldable pub between : ℕ → ℕ → ℕ → Bool
 between low high x = leb low x && leb x high
 
-abbrev pub pickPrice : Bool → CheckedPrice → CheckedPrice → CheckedPrice
-pickPrice true a b = a
-pickPrice false a b = b
-
 -- the price of a word, where it keeps the bounds
 unfoldable pub checkedPrice : ℕ → CheckedPrice
-checkedPrice word = pickPrice (between leastPrice mostPrice word) (Within (record { 0 = word })) OutOfBounds
+checkedPrice word = cond (between leastPrice mostPrice word) (Within (record { 0 = word })) OutOfBounds
 
 -- 01's number for each answer (0: accepted), and the values returned with it
 abbrev pub priceNumber : CheckedPrice → ℕ

@@ -1,7 +1,7 @@
 -- "Index months" of document 01: the table of series, the months that a term takes, a missing month, the mean.
 -- Series: 0 diesel, 1 coal, 2 gas, 3 CPI, 4 Brent, in ten-thousandths; months count from January 2000, month 0.
 -- Assumes nothing.
-use mathlib.Core.Bool.{Bool, true, false, cond, _&&_}
+use mathlib.Core.Bool.{Bool, cond, _&&_}
 use mathlib.Core.List.{List, [], _∷_}
 use mathlib.Core.Option.{Option, none, some}
 use Prim.Native.Nat.{ℕ, _+_, _-_, _*_, _≤_, _<_}
@@ -82,14 +82,10 @@ meanOf sum window = halfUp sum window
 unfoldable pub termMean : List (List ℕ) → ℕ → ℕ → ℕ → ℕ → ℕ → ℕ
 termMean table first t s lag window = meanOf (sumBelow window (termValue (getD table s []) first t lag)) window
 
-abbrev pub pickMean : Bool → Mean → Mean → Mean
-pickMean true a b = a
-pickMean false a b = b
-
 -- the mean of a term, or that a month of it is missing
 unfoldable pub meanAnswer : List (List ℕ) → ℕ → ℕ → ℕ → ℕ → ℕ → Mean
 meanAnswer table first t s lag window =
-    pickMean (termMissing table first t s lag window) Missing (Published (termMean table first t s lag window))
+    cond (termMissing table first t s lag window) Missing (Published (termMean table first t s lag window))
 
 -- 01's number for each answer (0: accepted), and the values returned with it
 abbrev pub meanNumber : Mean → ℕ

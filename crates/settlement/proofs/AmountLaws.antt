@@ -13,12 +13,13 @@ use Rattle.numbers.specs.Bounded.{allBelow}
 use Rattle.numbers.specs.Rounding.{halfUp}
 use Rattle.numbers.specs.Signed.{signedSumBelow}
 use Rattle.numbers.specs.Units.{between}
+use Rattle.numbers.specs.Sizes.{sectorCount}
 use Rattle.numbers.proofs.BoolLaws.{and-left, and-right}
 use Rattle.numbers.proofs.TestLaws.{all-at}
 use Rattle.numbers.proofs.UnitLaws.{between-low, between-high}
 use Rattle.numbers.proofs.RoundingLaws.{half-up-le, away-size, away-le}
 use Rattle.numbers.proofs.SignedLaws.{signed-sum-size, size-sub-le, size-add-le, size-mul-le}
-use Rattle.settlement.specs.Amount.{sectorCount, mostReading, readingOf, presentAt, chargeAt, highLossOf, lowLossOf, readingAllowed, readingsAllowed, lossesAllowed, billingInRange, highNet, lowNet, energyWithLosses, collectedAmount, BillingFacts}
+use Rattle.settlement.specs.Amount.{mostReading, readingOf, presentAt, chargeAt, highLossOf, lowLossOf, readingAllowed, readingsAllowed, lossesAllowed, billingInRange, highNet, lowNet, energyWithLosses, collectedAmount, BillingFacts}
 
 -- the loss factor at high voltage is the first of its pair
 pub high-first : (losses : List ℕ) (i : ℕ) → getD losses (i * 2 + 0) 0 ≡ highLossOf losses i

@@ -11,6 +11,7 @@ use borrow.Author.Tests.{leb-true, eq-eqb}
 use Rattle.numbers.specs.Bounded.{sumBelow}
 use Rattle.numbers.specs.Signed.{withinSize}
 use Rattle.numbers.specs.Units.{noMoney}
+use Rattle.numbers.specs.Sizes.{mostDistributors}
 use Rattle.numbers.specs.declared.units.Pesos.{Pesos}
 use Rattle.numbers.proofs.SumLaws.{sum-same, sum-le}
 use Rattle.numbers.proofs.TestLaws.{all-at}
@@ -18,7 +19,7 @@ use Rattle.numbers.proofs.ListLaws.{filled-none, filled-at, filled-empty, fille
 use Rattle.settlement.specs.Amount.{collectedAmount, Billed}
 use Rattle.settlement.specs.Share.{sideTotal, sharedBefore, share}
 use Rattle.settlement.specs.Settlement.{positionOf, mostPosition, positionsInRange, owing, owed, sideSize, transferred, paid, received, transfer, newBalance}
-use Rattle.settlement.specs.Month.{mostDistributors, moneyAt, moneyBelow, sizesBelow, shareList, movedMonth, settledMonth, MoneyWithin, Side}
+use Rattle.settlement.specs.Month.{moneyAt, moneyBelow, sizesBelow, shareList, movedMonth, settledMonth, MoneyWithin, Side}
 use Rattle.settlement.specs.declared.month.Settled.{Settled}
 use Rattle.numbers.proofs.SignedLaws.{part-most, size-add-le, size-sub-le}
 use Rattle.settlement.proofs.AmountLaws.{amount-size}

@@ -1,7 +1,7 @@
 -- Readings, loss factors and the collected amount of one month ("The ledger" of document 01): for each of n
 -- distributors 8 sectors, for each sector billed AT, injected AT, billed BT, injected BT in kWh (AT, BT: high and low
 -- voltage of distribution). Nothing here knows a balance. Assumes nothing.
-use mathlib.Core.Bool.{Bool, true, false, cond, _&&_}
+use mathlib.Core.Bool.{Bool, false, cond, _&&_}
 use mathlib.Core.List.{List}
 use mathlib.Core.Path.{_≡_}
 use Prim.Native.Nat.{ℕ, _+_, _*_, _≤_, _<_}
@@ -12,9 +12,7 @@ use Rattle.numbers.specs.Bounded.{allBelow}
 use Rattle.numbers.specs.Rounding.{halfAway}
 use Rattle.numbers.specs.Signed.{signedSumBelow}
 use Rattle.numbers.specs.Units.{between}
-
-abbrev pub sectorCount : ℕ
-sectorCount = 8
+use Rattle.numbers.specs.Sizes.{sectorCount}
 
 -- "each at most 2,000,000,000"
 abbrev pub mostReading : ℕ

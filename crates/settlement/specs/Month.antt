@@ -1,20 +1,17 @@
 -- One month by value: positions, transfers and new balances as lists of 40 places, those past n empty.
 -- Assumes nothing.
-use mathlib.Core.Path.{_≡_}
 use mathlib.Core.List.{List}
 use Prim.Native.Nat.{ℕ, _≤_, _<_}
-use lib.ListN.{getD, length}
+use lib.ListN.{getD}
 use lib.IntN.{ℤ, subℕ, natAbs, _+ℤ_}
 use Rattle.numbers.specs.Bounded.{filledBelow}
 use Rattle.numbers.specs.Units.{noMoney}
+use Rattle.numbers.specs.Sizes.{mostDistributors}
 use Rattle.numbers.specs.declared.units.Pesos.{Pesos}
 use Rattle.settlement.specs.Amount.{collectedAmount}
 use Rattle.settlement.specs.Share.{share}
 use Rattle.settlement.specs.Settlement.{positionOf, mostPosition, transfer, newBalance}
 use Rattle.settlement.specs.declared.month.Settled.{Settled}
-
-abbrev pub mostDistributors : ℕ
-mostDistributors = 40
 
 -- what stands at i of a list of money
 abbrev pub moneyAt : List Pesos → ℕ → ℤ

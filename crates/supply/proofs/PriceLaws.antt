@@ -1,16 +1,16 @@
 -- Bounds of every number on the way from a line's base price to its reference, so that nothing leaves 64 bits; and
 -- what a line that passes has: indexed and purchase in 1 to 1,000,000, reference in 1,000 to 2,000,000.
 -- Assumes nothing.
-use mathlib.Core.Path.{_≡_, refl, sym, _∙_, ap}
-use mathlib.Core.Bool.{Bool, true, false, _&&_}
+use mathlib.Core.Path.{_≡_, refl, ap}
+use mathlib.Core.Bool.{Bool, true, false, cond, _&&_}
 use mathlib.Core.List.{List}
-use Prim.Native.Nat.{ℕ, _+_, _*_, _≤_, _<_}
+use Prim.Native.Nat.{ℕ, _*_, _≤_, _<_}
 use native.Mathlib.Omega.{arith}
 use native.Mathlib.Nat.{mul-le-mul}
 use mathlib.Core.Option.{Option, none, some}
 use lib.Dec.{leb}
 use Rattle.numbers.specs.Bounded.{sumBelow, firstBelow}
-use Rattle.numbers.specs.Units.{between, leastPrice, mostPrice, checkedPrice, pickPrice}
+use Rattle.numbers.specs.Units.{between, leastPrice, mostPrice, checkedPrice}
 use Rattle.numbers.specs.declared.units.PesoPrice.{PesoPrice}
 use Rattle.numbers.specs.declared.units.CheckedPrice.{CheckedPrice}
 use Rattle.numbers.specs.declared.units.CheckedPrice.the-variants.{Within, OutOfBounds}
@@ -18,12 +18,12 @@ use Rattle.numbers.proofs.BoolLaws.{and-right}
 use Rattle.numbers.proofs.FirstLaws.{first-none, first-found}
 use Rattle.numbers.proofs.UnitLaws.{between-low, between-high}
 use Rattle.numbers.proofs.SumLaws.{sum-le}
-use Rattle.numbers.proofs.RoundingLaws.{half-up-self, half-up-le}
+use Rattle.numbers.proofs.RoundingLaws.{half-up-self}
 use Rattle.series.specs.Series.{TableInRange, termMean}
 use Rattle.series.proofs.SeriesLaws.{mean-most}
 use Rattle.supply.specs.Line.{seriesOf, weightOf, lagOf, windowOf, baseValueOf}
 use Rattle.supply.specs.Range.{TermFacts}
-use Rattle.supply.specs.Price.{ratioOf, termRatio, factorOf, lineIndexed, linePurchase, lineReference, pickIndexed, indexedAnswer, referenceAnswer, fromIndexed, priceAnswer, beyondAt, beyondIn, orWithin, boundsSearch, priceOr, referencePrice}
+use Rattle.supply.specs.Price.{ratioOf, termRatio, factorOf, lineIndexed, linePurchase, lineReference, indexedAnswer, referenceAnswer, fromIndexed, priceAnswer, beyondAt, beyondIn, boundsSearch, priceOr, referencePrice}
 use Rattle.supply.specs.declared.price.IndexedPrice.{IndexedPrice}
 use Rattle.supply.specs.declared.price.IndexedPrice.the-variants.{Indexed, Beyond}
 use Rattle.supply.specs.declared.price.BoundsSearch.{BoundsSearch}
@@ -57,7 +57,7 @@ indexed-bounds table first t lines j i h = go (leb (factorOf table first t lines
     bounds : (x : ℕ) → x ≡ i → between 1 1000000 x ≡ true → (1 ≤ i) × (i ≤ 1000000)
     bounds x e b = (omega (arith, between-low 1 1000000 x b), omega (arith, between-high 1 1000000 x b))
 
-    go : (b : Bool) → (leb (factorOf table first t lines j) 100000000 && between 1 1000000 (lineIndexed table first t lines j)) ≡ b → pickIndexed b (Indexed (lineIndexed table first t lines j)) Beyond ≡ Indexed i → (1 ≤ i) × (i ≤ 1000000)
+    go : (b : Bool) → (leb (factorOf table first t lines j) 100000000 && between 1 1000000 (lineIndexed table first t lines j)) ≡ b → cond b (Indexed (lineIndexed table first t lines j)) Beyond ≡ Indexed i → (1 ≤ i) × (i ≤ 1000000)
     go true e q =
         bounds (lineIndexed table first t lines j) (let r : lineIndexed table first t lines j ≡ i = cc in r)
         (and-right (leb (factorOf table first t lines j) 100000000) (between 1 1000000 (lineIndexed table first t lines j)) e)
@@ -74,7 +74,7 @@ checked-bounds x p h = go (between leastPrice mostPrice x) refl h
     word : Within (record { 0 = x }) ≡ Within p → x ≡ p .0
     word q = let r : _≡_ {A = PesoPrice} (record { 0 = x }) p = cc in ap (λ y. y .0) r
 
-    go : (b : Bool) → between leastPrice mostPrice x ≡ b → pickPrice b (Within (record { 0 = x })) OutOfBounds ≡ Within p → (leastPrice ≤ p .0) × (p .0 ≤ mostPrice)
+    go : (b : Bool) → between leastPrice mostPrice x ≡ b → cond b (Within (record { 0 = x })) OutOfBounds ≡ Within p → (leastPrice ≤ p .0) × (p .0 ≤ mostPrice)
     go true e q = bounds (word q) e
     go false e q = absurd (let z : _≡_ {A = ℕ} 0 1 = cc in omega arith)
 
@@ -83,7 +83,7 @@ pub reference-bounds : (dollar factor : ℕ) (lines : List ℕ) (j i : ℕ) (p :
 unfolding referenceAnswer
 reference-bounds dollar factor lines j i p h = go (between 1 1000000 (linePurchase lines j i)) refl h
   where
-    go : (b : Bool) → between 1 1000000 (linePurchase lines j i) ≡ b → pickPrice b (checkedPrice (lineReference dollar factor lines j i)) OutOfBounds ≡ Within p → (1 ≤ linePurchase lines j i) × (linePurchase lines j i ≤ 1000000) × (leastPrice ≤ p .0) × (p .0 ≤ mostPrice)
+    go : (b : Bool) → between 1 1000000 (linePurchase lines j i) ≡ b → cond b (checkedPrice (lineReference dollar factor lines j i)) OutOfBounds ≡ Within p → (1 ≤ linePurchase lines j i) × (linePurchase lines j i ≤ 1000000) × (leastPrice ≤ p .0) × (p .0 ≤ mostPrice)
     go true e q =
         let b = checked-bounds (lineReference dollar factor lines j i) p q in
         (between-low 1 1000000 _ e, between-high 1 1000000 _ e, b .0, b .1)

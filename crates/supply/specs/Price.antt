@@ -1,13 +1,13 @@
 -- "Steps for a line" of document 01, each half up, and the bounds of cause 11. The steps are cut at the indexed price:
 -- all later ones take an indexed price as their argument. Assumes nothing.
-use mathlib.Core.Bool.{Bool, true, false, cond, _&&_}
+use mathlib.Core.Bool.{cond, _&&_}
 use mathlib.Core.List.{List, [], _∷_}
 use mathlib.Core.Option.{Option, none, some}
 use Prim.Native.Nat.{ℕ, _*_}
 use lib.Dec.{leb, eqb}
 use Rattle.numbers.specs.Bounded.{sumBelow, firstBelow, filledBelow}
 use Rattle.numbers.specs.Rounding.{halfUp}
-use Rattle.numbers.specs.Units.{between, pickPrice, checkedPrice, noPrice}
+use Rattle.numbers.specs.Units.{between, checkedPrice, noPrice}
 use Rattle.numbers.specs.declared.units.CheckedPrice.{CheckedPrice}
 use Rattle.numbers.specs.declared.units.CheckedPrice.the-variants.{Within, OutOfBounds}
 use Rattle.numbers.specs.declared.units.PesoPrice.{PesoPrice}
@@ -62,14 +62,10 @@ unfoldable pub lineReference : ℕ → ℕ → List ℕ → ℕ → ℕ → ℕ
 lineReference dollar factor lines j indexed =
     referenceOf (pesoOf (linePurchase lines j indexed) dollar) factor (purchaseFactorOf lines j)
 
-abbrev pub pickIndexed : Bool → IndexedPrice → IndexedPrice → IndexedPrice
-pickIndexed true a b = a
-pickIndexed false a b = b
-
 -- "Factor .. at most 100,000,000"; "Indexed .. must lie in 1 to 1,000,000"
 unfoldable pub indexedAnswer : List (List ℕ) → ℕ → ℕ → List ℕ → ℕ → IndexedPrice
 indexedAnswer table first t lines j =
-    pickIndexed
+    cond
     (leb (factorOf table first t lines j) 100000000 && between 1 1000000 (lineIndexed table first t lines j))
     (Indexed (lineIndexed table first t lines j))
     Beyond
@@ -77,7 +73,7 @@ indexedAnswer table first t lines j =
 -- "purchase must lie in 1 to 1,000,000, reference in 1,000 to 2,000,000"
 unfoldable pub referenceAnswer : ℕ → ℕ → List ℕ → ℕ → ℕ → CheckedPrice
 referenceAnswer dollar factor lines j indexed =
-    pickPrice (between 1 1000000 (linePurchase lines j indexed))
+    cond (between 1 1000000 (linePurchase lines j indexed))
     (checkedPrice (lineReference dollar factor lines j indexed))
     OutOfBounds
 

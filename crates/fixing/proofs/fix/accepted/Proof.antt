@@ -1,14 +1,8 @@
 -- Averages and energies are in the limit's range, and the parts are the definition's.
-use mathlib.Core.Path.{_≡_, sym, _∙_, ap}
-use mathlib.Core.List.{List}
-use lib.ListN.{getD}
-use lib.IntN.{subℕ}
-use Rattle.numbers.specs.Units.{noPrice}
 use Rattle.fixing.specs.Limit.{InRange}
 use Rattle.fixing.specs.Prices.{distributors}
-use Rattle.fixing.specs.Sector.{ChargedSectors}
 use Rattle.fixing.proofs.InputLaws.{listed-range}
-use Rattle.fixing.proofs.FixingLaws.{fixing-charged, fixing-is}
+use Rattle.fixing.proofs.FixingLaws.{finals-most, fixing-charged, fixing-is}
 use Rattle.fixing.proofs.fix.accepted.Statement.{statement}
 use Rattle.fixing.proofs.fix.accepted.Tie as tie
 
@@ -25,18 +19,32 @@ averages-requires c κs = let s = c .before .before in (s .pre .0 .priced, (s .p
 fix-prices-requires : tie.Need-fix-prices-requires
 fix-prices-requires c κs = range c
 
+charges-requires : tie.Need-charges-requires
+charges-requires c κs =
+    let f = c .before in
+    let s = start (f .before) in
+    let r = range (f .before) in (
+      r .few,
+      (r .most, finals-most (s .args .n) (f .before .averages .result) (s .args .energies) r _ (f .fix-prices .ensures .answered)),
+    )
+
 sector-charges-requires : tie.Need-sector-charges-requires
 sector-charges-requires c κs =
-    let s = start (c .before .before) in
-    rw (c .before .fix-prices .ensures .answered) (fixing-charged (s .args .n) (c .before .before .averages .result) (s .args .energies) (range (c .before .before)) (s .args .sectors .now) (s .pre .1 .1 .0) (s .pre .1 .1 .1))
+    let f = c .before .before in
+    let s = start (f .before) in
+    fixing-charged (s .args .n) (f .before .averages .result) (s .args .energies) (range (f .before)) _ (f .fix-prices .ensures .answered) _ (c .charges .ensures)
+    (s .args .sectors .now) (s .pre .1 .1 .0) (s .pre .1 .1 .1)
 
 returns : tie.Need-returns
 returns c =
-    let a = c .before .before .before in
+    let f = c .before .before .before in
+    let a = f .before in
     let s = start a in
     rw (← a .averages .ensures, ← s .pre .1 .0)
-    (fixing-is (s .args .n) (a .averages .result) (s .args .energies) (range a) (s .args .sectors .now) _ _ (c .before .before .fix-prices .ensures .answered) (c .sector-charges .ensures))
+    (fixing-is (s .args .n) (a .averages .result) (s .args .energies) (range a) _ (f .fix-prices .ensures .answered) _ (c .before .charges .ensures)
+    (s .args .sectors .now) _ (c .sector-charges .ensures))
 
 pub accepted-spec : {M : Type 1} → statement M
 accepted-spec =
-    tie.close (tie.spec averages-requires fix-prices-requires sector-charges-requires returns)
+    tie.close
+    (tie.spec averages-requires fix-prices-requires charges-requires sector-charges-requires returns)

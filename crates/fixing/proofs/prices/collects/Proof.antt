@@ -1,13 +1,17 @@
 -- The invariant: what the distributors passed pay.
-use mathlib.Core.Path.{_≡_, refl}
+use mathlib.Core.Path.{_≡_, refl, _∙_, ap}
 use Prim.Native.Nat.{_≤_, _-_, _+_, _*_}
 use lib.ListN.{getD}
+use lib.IntN.{ℤ, pos}
+use mir.Facts.{toZ-ofZ}
+use borrow.Author.Needs.{sfits-of}
 use Rattle.numbers.specs.Bounded.{sumBelow}
 use Rattle.numbers.specs.Units.{noPrice, noEnergy}
 use Rattle.numbers.proofs.SumLaws.{sum-step}
+use Rattle.numbers.proofs.SignedLaws.{pos-sub-zero}
 use Rattle.fixing.specs.Limit.{contractTotal}
 use Rattle.fixing.specs.Prices.{distributors}
-use Rattle.fixing.proofs.PassLaws.{paid-most}
+use Rattle.fixing.proofs.PassLaws.{total-fits, paid-most}
 use Rattle.fixing.proofs.prices.collects.Statement.{statement}
 use Rattle.fixing.proofs.prices.collects.Tie as tie
 use native.Mathlib.Omega.{arith}
@@ -60,12 +64,23 @@ loop-less c = omega arith
 loop-again : tie.Need-loop-again Inv-loop μ-loop
 loop-again c = (omega arith, rw sum-step (omega arith))
 
-returns : tie.Need-returns Inv-loop μ-loop
+-- all distributors are passed
+whole : (c : tie.After-loop Inv-loop μ-loop) → c .before .loop .total ≡ contractTotal (distributors (c .before .before .args .n) (c .before .before .args .t2) (c .before .before .args .t3))
 unfolding contractTotal
-returns c =
+whole c =
     let l = c .before in
     let e : l .loop .i ≡ l .before .args .n = omega arith in
     rw (← e) (l .loop .inv .1)
+
+difference-requires : tie.Need-difference-requires Inv-loop μ-loop
+difference-requires c κs =
+    let s = c .before .before in
+    omega (arith, whole c, total-fits (distributors (s .args .n) (s .args .t2) (s .args .t3)) (s .pre))
+
+returns : tie.Need-returns Inv-loop μ-loop
+returns c =
+    ap (λ (z : ℤ). record { 0 = z })
+    (toZ-ofZ (sfits-of (c .difference .ok)) ∙ c .difference .ensures ∙ pos-sub-zero _ ∙ ap pos (whole (c .before)))
 
 pub collects-spec : {M : Type 1} → statement M
 collects-spec =
@@ -83,4 +98,5 @@ collects-spec =
     add-i
     loop-less
     loop-again
+    difference-requires
     returns)

@@ -1,6 +1,6 @@
 -- The invariant: the energy of the distributors passed.
-use mathlib.Core.Path.{_≡_, refl}
-use Prim.Native.Nat.{_≤_, _-_}
+use mathlib.Core.Path.{_≡_, refl, ap}
+use Prim.Native.Nat.{ℕ, _≤_, _-_}
 use lib.ListN.{getD}
 use Rattle.numbers.specs.Bounded.{sumBelow}
 use Rattle.numbers.specs.Units.{noEnergy}
@@ -44,7 +44,7 @@ returns : tie.Need-returns Inv-loop μ-loop
 returns c =
     let l = c .before in
     let e : l .loop .i ≡ l .before .args .n = omega arith in
-    rw (← e) (l .loop .inv .1)
+    rw (← e) (ap (λ (x : ℕ). record { 0 = x }) (l .loop .inv .1))
 
 pub energy-total-spec : {M : Type 1} → statement M
 energy-total-spec =

@@ -1,9 +1,15 @@
 -- Each call answers a definition, and together they are the answer.
-use mathlib.Core.Path.{_≡_, _∙_}
+use mathlib.Core.Path.{_≡_, _∙_, ap, ap₂}
 use Prim.Native.Nat.{_*_, _/_}
+use lib.IntN.{pos, natAbs, subℕ, _-ℤ_}
+use mir.Syntax.{w64}
+use mir.Val.{SFits, toZ, ofZ}
 use mir.Facts.{toZ-ofZ}
-use borrow.Author.Needs.{needs, sfits-of}
-use Rattle.fixing.specs.Limit.{Distributors, InRange, totalEnergy, limit}
+use borrow.Author.Needs.{needs}
+use Rattle.numbers.specs.declared.units.Energy.{Energy}
+use Rattle.numbers.specs.declared.units.Pesos.{Pesos}
+use Rattle.numbers.proofs.SignedLaws.{size-fits, pos-sub, sub-fits}
+use Rattle.fixing.specs.Limit.{Distributors, InRange, contractTotal, totalEnergy, limit}
 use Rattle.fixing.specs.Prices.{distributors}
 use Rattle.fixing.proofs.LimitLaws.{energy-some}
 use Rattle.fixing.proofs.PassLaws.{total-fits}
@@ -18,73 +24,111 @@ d s = distributors (s .args .n) (s .args .averages) (s .args .energies)
 collects-requires : tie.Need-collects-requires
 collects-requires c κs = search needs
 
-mul-limit : tie.Need-mul-limit
-mul-limit c = omega (arith, c .collects .ensures, total-fits (d (c .before)) (c .before .pre))
-
 energy-total-requires : tie.Need-energy-total-requires
 unfolding totalEnergy
 energy-total-requires c κs = (c .before .pre .few, c .before .pre .total)
 
-mul-limit-2 : tie.Need-mul-limit-2
-unfolding totalEnergy
-mul-limit-2 c = omega (arith, c .energy-total .ensures, c .before .before .pre .total)
+-- money that is read back as it is: the contract total, and what the final prices collect
+unread : (x : Distributors) → InRange x → (money : Pesos) → money ≡ record { 0 = pos (contractTotal x) } → toZ w64 (ofZ w64 (money .0)) ≡ pos (contractTotal x)
+unread x r money e = rw e (toZ-ofZ (size-fits (pos (contractTotal x)) (omega (arith, total-fits x r))))
 
-div-limit : tie.Need-div-limit
-unfolding totalEnergy
-div-limit c = omega (arith, c .energy-total .ensures, energy-some (d (c .before .before)) (c .before .before .pre))
+total-is : (c : tie.After-collects) → toZ w64 (ofZ w64 (c .collects .result .0)) ≡ pos (contractTotal (d (c .before)))
+total-is c = unread (d (c .before)) (c .before .pre) (c .collects .result) (c .collects .ensures)
 
-topped : (c : tie.After-energy-total) → 105 * c .before .collects .result / (100 * c .energy-total .result) ≡ limit (d (c .before .before))
-topped c = limit-is (d (c .before .before)) _ _ (c .before .collects .ensures) (c .energy-total .ensures)
+magnitude-requires : tie.Need-magnitude-requires
+magnitude-requires c κs =
+    let b = c .before .before in
+    rw (total-is b) (omega (arith, total-fits (d (b .before)) (b .before .pre)))
+
+module _ (c : tie.After-magnitude) where
+  abbrev collected : tie.After-collects
+  collected = c .before .before .before
+
+  paid-is : c .magnitude .result ≡ contractTotal (d (collected .before))
+  paid-is = c .magnitude .ensures ∙ ap natAbs (total-is collected)
+
+  energy-is : c .before .before .energy-total .result .0 ≡ totalEnergy (d (collected .before))
+  unfolding totalEnergy
+  energy-is = ap (λ (x : Energy). x .0) (c .before .before .energy-total .ensures)
+
+mul-floor : tie.Need-mul-floor
+mul-floor c =
+    omega (arith, paid-is c, total-fits (d (collected c .before)) (collected c .before .pre))
+
+mul-floor-2 : tie.Need-mul-floor-2
+mul-floor-2 c = omega (arith, energy-is (c .before), collected (c .before) .before .pre .total)
+
+div-floor : tie.Need-div-floor
+div-floor c =
+    let s = collected (c .before) .before in
+    omega (arith, energy-is (c .before), energy-some (d s) (s .pre))
+
+topped : (c : tie.After-magnitude) → 105 * c .magnitude .result / (100 * c .before .before .energy-total .result .0) ≡ limit (d (collected c .before))
+topped c = limit-is (d (collected c .before)) _ _ (paid-is c) (energy-is c)
 
 last-round-requires : tie.Need-last-round-requires
-last-round-requires c κs = (c .before .before .pre, topped c)
+last-round-requires c κs = (collected (c .before) .before .pre, topped (c .before))
+
+-- where the rounds began
+abbrev worked : tie.After-final-prices → tie.After-magnitude
+worked c = c .before .before .before .before
 
 final-prices-requires : tie.Need-final-prices-requires
 final-prices-requires c κs =
-    let s = c .before .before .before in
-    (s .pre .few, (last-most (d s) (s .pre) _ (c .last-round .ensures), s .pre .most))
+    let s = collected (c .before .before .before) .before in
+    (s .pre .few, (last-most (d s) (s .pre) _ (c .before .last-round .ensures), s .pre .most))
 
 -- the final prices are in range
-ranged : (c : tie.After-final-prices) → InRange (distributors (c .before .before .before .before .args .n) (c .final-prices .result) (c .before .before .before .before .args .energies))
+ranged : (c : tie.After-final-prices) → InRange (distributors (collected (worked c) .before .args .n) (c .final-prices .result) (collected (worked c) .before .args .energies))
 ranged c =
-    let e = c .before .before in
-    let s = e .before .before in
-    finals-range (s .args .n) (s .args .averages) (s .args .energies) (s .pre) _ (topped e) _ (c .before .last-round .ensures) _ (c .final-prices .ensures)
+    let s = collected (worked c) .before in
+    finals-range (s .args .n) (s .args .averages) (s .args .energies) (s .pre) _ (topped (worked c)) _ (c .before .before .last-round .ensures) _ (c .final-prices .ensures)
 
 collects-requires-2 : tie.Need-collects-requires-2
 collects-requires-2 c κs = ranged c
 
-difference-requires : tie.Need-difference-requires
-difference-requires c κs =
-    let e = c .before .before .before .before in
-    let s = e .before in
-    omega (
-      arith,
-      e .collects .ensures,
-      c .collects2 .ensures,
-      total-fits (d s) (s .pre),
-      total-fits (distributors (s .args .n) (c .before .final-prices .result) (s .args .energies)) (ranged (c .before)),
-    )
+-- the residue of the numbers behind the bits
+module _ (c : tie.After-collects2) where
+  abbrev begun : tie.Start
+  begun = collected (worked (c .before)) .before
+
+  abbrev e : Distributors
+  e = distributors (begun .args .n) (c .before .final-prices .result) (begun .args .energies)
+
+  residue-is : toZ w64 (ofZ w64 (c .collects2 .result .0)) -ℤ toZ w64 (ofZ w64 (collected (worked (c .before)) .collects .result .0)) ≡ subℕ (contractTotal e) (contractTotal (d begun))
+  residue-is =
+      ap₂ _-ℤ_ (unread e (ranged (c .before)) (c .collects2 .result) (c .collects2 .ensures)) (total-is (collected (worked (c .before))))
+      ∙ pos-sub (contractTotal e) (contractTotal (d begun))
+
+  residue-fits : SFits w64 (subℕ (contractTotal e) (contractTotal (d begun)))
+  residue-fits = sub-fits (contractTotal e) (contractTotal (d begun)) (omega (arith, total-fits e (ranged (c .before)))) (omega (arith, total-fits (d begun) (begun .pre)))
+
+abbrev told : tie.After-struct-told3 → tie.After-collects2
+told c = c .before .before .before .before
+
+sub-residue : tie.Need-sub-residue
+sub-residue c = rw (residue-is (told c)) (residue-fits (told c))
 
 returns : tie.Need-returns
 returns c =
-    let e = c .before .before .before .before in
-    let s = e .before .before in
+    let f = told c .before in
+    let s = begun (told c) in
     fixed (s .args .n) (s .args .averages) (s .args .energies) (s .pre)
-    _ (topped e) _ (c .before .before .before .last-round .ensures) _ (c .before .before .final-prices .ensures)
-    _ _ _ (e .before .collects .ensures) (c .before .collects2 .ensures) (toZ-ofZ (sfits-of (c .difference .ok)) ∙ c .difference .ensures)
+    _ (topped (worked f)) _ (f .before .before .last-round .ensures) _ (f .final-prices .ensures)
+    _ (ap (λ z. toZ w64 (ofZ w64 z)) (residue-is (told c)) ∙ toZ-ofZ (residue-fits (told c)))
 
 pub fix-prices-spec : {M : Type 1} → statement M
 fix-prices-spec =
     tie.close
     (tie.spec
     collects-requires
-    mul-limit
     energy-total-requires
-    mul-limit-2
-    div-limit
+    magnitude-requires
+    mul-floor
+    mul-floor-2
+    div-floor
     last-round-requires
     final-prices-requires
     collects-requires-2
-    difference-requires
+    sub-residue
     returns)

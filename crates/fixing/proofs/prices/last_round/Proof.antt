@@ -1,6 +1,13 @@
 -- The invariant: what is known before a round. Somebody joins in each round but the last, so that the rounds stay fewer
 -- than the distributors.
-use Prim.Native.Nat.{_-_}
+use mathlib.Core.Path.{_≡_, _∙_, ap}
+use Prim.Native.Nat.{_-_, _*_}
+use lib.IntN.{natAbs}
+use mir.Syntax.{w64}
+use mir.Val.{toZ, ofZ}
+use mir.Facts.{toZ-ofZ}
+use Rattle.numbers.specs.Rounding.{divideUp}
+use Rattle.numbers.proofs.SignedLaws.{size-fits}
 use Rattle.fixing.specs.Prices.{distributors}
 use Rattle.fixing.proofs.LoopLaws.{Round, none-above, round-first, made-few, pays-more, pays-most, outside-least, outside-most, raise-most, round-more, round-last}
 use Rattle.fixing.proofs.prices.last_round.Statement.{statement}
@@ -8,7 +15,7 @@ use Rattle.fixing.proofs.prices.last_round.Tie as tie
 use native.Mathlib.Omega.{arith}
 
 abbrev Inv-loop : tie.InvT-loop
-Inv-loop n averages energies limit sums₀ rounds₀ sums rounds = Round (distributors n averages energies) limit sums rounds
+Inv-loop n averages energies limit sums₀ rounds₀ sums rounds = Round (distributors n averages energies) (limit .0) sums rounds
 
 abbrev μ-loop : tie.MeasureT-loop
 μ-loop n averages energies limit sums₀ rounds₀ sums rounds = n - rounds
@@ -26,20 +33,37 @@ loop-holds c =
     let b = c .before .before in
     round-first (b .before .pre .0) (b .before .pre .1) (b .round-sums .ensures) (c .if1 .left)
 
-mul-divide-up : tie.Need-mul-divide-up Inv-loop μ-loop
-mul-divide-up c = omega (arith, pays-more (c .before .loop .inv), pays-most (c .before .loop .inv))
+-- what the set pays is read back as it is
+unread : (l : tie.At-loop Inv-loop μ-loop) → toZ w64 (ofZ w64 (l .loop .sums .paid .0)) ≡ l .loop .sums .paid .0
+unread l = toZ-ofZ (size-fits (l .loop .sums .paid .0) (omega (arith, pays-most (l .loop .inv))))
 
-sub-divide-up : tie.Need-sub-divide-up Inv-loop μ-loop
-sub-divide-up c = pays-more (c .before .before .loop .inv)
+magnitude-requires : tie.Need-magnitude-requires Inv-loop μ-loop
+magnitude-requires c κs = rw (unread (c .before)) (omega (arith, pays-most (c .before .loop .inv)))
+
+module _ (c : tie.After-struct-known3 Inv-loop μ-loop) where
+  abbrev began : tie.At-loop Inv-loop μ-loop
+  began = c .before .before .before .before
+
+  paid-is : c .before .before .magnitude .result ≡ natAbs (began .loop .sums .paid .0)
+  paid-is = c .before .before .magnitude .ensures ∙ ap natAbs (unread began)
+
+mul-excess : tie.Need-mul-excess Inv-loop μ-loop
+mul-excess c = omega (arith, pays-more (began c .loop .inv), pays-most (began c .loop .inv))
+
+sub-excess : tie.Need-sub-excess Inv-loop μ-loop
+sub-excess c = omega (arith, pays-more (began c .loop .inv), paid-is c)
 
 divide-up-requires : tie.Need-divide-up-requires Inv-loop μ-loop
 divide-up-requires c κs =
-    let at = c .before .before .loop .inv in
-    omega (arith, pays-most at, outside-least at, outside-most at)
+    let at = began c .loop .inv in
+    omega (arith, paid-is c, pays-most at, outside-least at, outside-most at)
 
--- where the round began
+-- where the round began, and the surcharge that it worked
 abbrev l : tie.After-divide-up Inv-loop μ-loop → tie.At-loop Inv-loop μ-loop
-l c = c .before .before .before
+l c = began (c .before)
+
+worked : (c : tie.After-divide-up Inv-loop μ-loop) → c .divide-up .result ≡ divideUp (natAbs (l c .loop .sums .paid .0) - l c .before .before .before .before .args .limit .0 * l c .loop .sums .inside .0) (l c .loop .sums .outside .0)
+worked c = rw (paid-is (c .before)) at (c .divide-up .ensures)
 
 add-rounds : tie.Need-add-rounds Inv-loop μ-loop
 add-rounds c = omega (arith, made-few (l c .loop .inv), l c .loop .inv .range .few)
@@ -47,12 +71,12 @@ add-rounds c = omega (arith, made-few (l c .loop .inv), l c .loop .inv .range .f
 round-sums-requires-2 : tie.Need-round-sums-requires-2 Inv-loop μ-loop
 round-sums-requires-2 c κs =
     let at = l c .loop .inv in
-    (at .range, (at .topped, raise-most at (c .divide-up .ensures)))
+    (at .range, (at .topped, raise-most at (worked c)))
 
 returns-2 : tie.Need-returns-2 Inv-loop μ-loop
 returns-2 c =
     let b = c .before .before .before in
-    round-last (l (b .before) .loop .inv) (b .before .divide-up .ensures) (b .round-sums2 .ensures) (omega arith)
+    round-last (l (b .before) .loop .inv) (worked (b .before)) (b .round-sums2 .ensures) (omega arith)
 
 loop-less : tie.Need-loop-less Inv-loop μ-loop
 loop-less c = omega (arith, made-few (l (c .before .before .before .before) .loop .inv))
@@ -60,7 +84,7 @@ loop-less c = omega (arith, made-few (l (c .before .before .before .before) .loo
 loop-again : tie.Need-loop-again Inv-loop μ-loop
 loop-again c =
     let b = c .before .before .before in
-    round-more (l (b .before) .loop .inv) (b .before .divide-up .ensures) (b .round-sums2 .ensures) (c .if2 .left)
+    round-more (l (b .before) .loop .inv) (worked (b .before)) (b .round-sums2 .ensures) (c .if2 .left)
 
 pub last-round-spec : {M : Type 1} → statement M
 last-round-spec =
@@ -71,8 +95,9 @@ last-round-spec =
     round-sums-requires
     returns
     loop-holds
-    mul-divide-up
-    sub-divide-up
+    magnitude-requires
+    mul-excess
+    sub-excess
     divide-up-requires
     add-rounds
     round-sums-requires-2

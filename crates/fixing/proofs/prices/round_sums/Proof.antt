@@ -1,18 +1,20 @@
 -- The invariant: the three sums of the distributors passed.
 use mathlib.Core.Logic.{⊎-elim}
-use mathlib.Core.Path.{_≡_}
+use mathlib.Core.Path.{_≡_, _∙_}
 use mathlib.Core.Bool.{Bool, true, false}
 use mathlib.Core.List.{List}
 use Prim.Native.Nat.{ℕ, _≤_, _-_, _+_, _*_}
 use lib.ListN.{getD}
 use lib.Dec.{ltb}
 use borrow.Author.Tests.{lt-ltb, le-ltb}
+use borrow.Author.Needs.{sfits-of}
+use mir.Facts.{toZ-ofZ}
 use Rattle.numbers.specs.Units.{noPrice, noEnergy}
 use Rattle.numbers.specs.declared.units.PesoPrice.{PesoPrice}
 use Rattle.fixing.specs.Limit.{Distributors}
 use Rattle.fixing.specs.Prices.{distributors}
 use Rattle.fixing.proofs.LimitLaws.{limit-most}
-use Rattle.fixing.proofs.PassLaws.{Sums, sums-none, sums-more, paid-fits, energy-fits, sums-all}
+use Rattle.fixing.proofs.PassLaws.{Sums, sums-none, sums-more, paid-fits, energy-fits, sums-fit, sums-all}
 use Rattle.fixing.proofs.prices.round_sums.Statement.{statement}
 use Rattle.fixing.proofs.prices.round_sums.Tie as tie
 use native.Mathlib.Omega.{arith}
@@ -22,7 +24,7 @@ abbrev above : List PesoPrice → ℕ → ℕ → ℕ → Bool
 above averages limit raise j = ltb limit (getD averages j noPrice .0 + raise)
 
 abbrev Inv-loop : tie.InvT-loop
-Inv-loop n limit raise averages energies paid₀ inside₀ outside₀ i₀ paid inside outside i = (i ≤ n) × Sums (above averages limit raise) (λ j. getD averages j noPrice .0) (λ j. getD energies j noEnergy .0) i paid inside outside
+Inv-loop n limit raise averages energies paid₀ inside₀ outside₀ i₀ paid inside outside i = (i ≤ n) × Sums (above averages (limit .0) (raise .0)) (λ j. getD averages j noPrice .0) (λ j. getD energies j noEnergy .0) i paid inside outside
 
 abbrev μ-loop : tie.MeasureT-loop
 μ-loop n limit raise averages energies paid₀ inside₀ outside₀ i₀ paid inside outside i = n - i
@@ -54,9 +56,9 @@ module _ (c : tie.In-loop Inv-loop μ-loop) where
   d = distributors (s .args .n) (s .args .t2) (s .args .t3)
 
   abbrev set : ℕ → Bool
-  set = above (s .args .t2) (s .args .limit) (s .args .raise)
+  set = above (s .args .t2) (s .args .limit .0) (s .args .raise .0)
 
-  raised : d .average (l .loop .i) + s .args .raise ≤ 4100000
+  raised : d .average (l .loop .i) + s .args .raise .0 ≤ 4100000
   raised = omega (arith, s .pre .0 .most (l .loop .i) (omega arith), limit-most d (s .pre .0))
 
   paid : l .loop .paid + d .average (l .loop .i) * d .energy (l .loop .i) ≤ 5120000000000000
@@ -66,19 +68,23 @@ module _ (c : tie.In-loop Inv-loop μ-loop) where
   energy = energy-fits set d (s .pre .0) _ _ _ _ (omega arith) (l .loop .inv .1)
 
 add-if1 : tie.Need-add-if1 Inv-loop μ-loop
-add-if1 c = omega (arith, raised c)
+add-if1 c = omega (arith, raised (c .before))
+
+-- where the turn began
+abbrev begun : tie.After-struct-known2 Inv-loop μ-loop → tie.In-loop Inv-loop μ-loop
+begun c = c .before .before
 
 mul-paid : tie.Need-mul-paid Inv-loop μ-loop
-mul-paid c = omega (arith, paid (c .before))
+mul-paid c = omega (arith, paid (begun (c .before)))
 
 add-paid : tie.Need-add-paid Inv-loop μ-loop
-add-paid c = omega (arith, paid (c .before))
+add-paid c = omega (arith, paid (begun (c .before)))
 
 add-inside : tie.Need-add-inside Inv-loop μ-loop
-add-inside c = omega (arith, energy (c .before))
+add-inside c = omega (arith, energy (begun (c .before)))
 
 add-outside : tie.Need-add-outside Inv-loop μ-loop
-add-outside c = omega (arith, energy (c .before))
+add-outside c = omega (arith, energy (begun (c .before)))
 
 add-i : tie.Need-add-i Inv-loop μ-loop
 add-i c = omega arith
@@ -88,22 +94,33 @@ loop-less c = omega arith
 
 loop-again : tie.Need-loop-again Inv-loop μ-loop
 loop-again c =
-    let l = c .before .before in
+    let l = begun (c .before) .before in
     let s = l .before in
-    let raised = getD (s .args .t2) (l .loop .i) noPrice .0 + s .args .raise in (
+    let raised = getD (s .args .t2) (l .loop .i) noPrice .0 + s .args .raise .0 in (
       omega arith,
       ⊎-elim
-          (λ w. sums-more _ _ _ _ _ _ _ (l .loop .inv .1) true (lt-ltb (s .args .limit) raised (omega (arith, w .0 .taken))) _ _ _ (w .1) (w .2) (omega (arith, w .3)))
-          (λ w. sums-more _ _ _ _ _ _ _ (l .loop .inv .1) false (le-ltb (s .args .limit) raised (omega (arith, w .0 .left))) _ _ _ (omega (arith, w .1)) (omega (arith, w .2)) (w .3))
+          (λ w. sums-more _ _ _ _ _ _ _ (l .loop .inv .1) true (lt-ltb (s .args .limit .0) raised (omega (arith, w .0 .taken))) _ _ _ (w .1) (w .2) (omega (arith, w .3)))
+          (λ w. sums-more _ _ _ _ _ _ _ (l .loop .inv .1) false (le-ltb (s .args .limit .0) raised (omega (arith, w .0 .left))) _ _ _ (omega (arith, w .1)) (omega (arith, w .2)) (w .3))
           (c .if1 .came),
     )
 
+-- all distributors are passed
+whole : (c : tie.After-loop Inv-loop μ-loop) → Sums (above (c .before .before .args .t2) (c .before .before .args .limit .0) (c .before .before .args .raise .0)) (λ j. getD (c .before .before .args .t2) j noPrice .0) (λ j. getD (c .before .before .args .t3) j noEnergy .0) (c .before .before .args .n) (c .before .loop .paid) (c .before .loop .inside) (c .before .loop .outside)
+whole c =
+    let l = c .before in
+    let e : l .loop .i ≡ l .before .args .n = omega arith in
+    rw e at (l .loop .inv .1)
+
+difference-requires : tie.Need-difference-requires Inv-loop μ-loop
+difference-requires c κs =
+    let s = c .before .before in
+    omega (arith, sums-fit (distributors (s .args .n) (s .args .t2) (s .args .t3)) (s .pre .0) _ _ _ _ (whole c))
+
 returns : tie.Need-returns Inv-loop μ-loop
 returns c =
-    let l = c .before in
-    let s = l .before in
-    let e : l .loop .i ≡ s .args .n = omega arith in
-    sums-all (distributors (s .args .n) (s .args .t2) (s .args .t3)) _ _ _ _ _ (s .pre .1 .0) (rw e at (l .loop .inv .1))
+    let s = c .before .before .before in
+    sums-all (distributors (s .args .n) (s .args .t2) (s .args .t3)) _ _ _ _ _ _ (s .pre .1 .0) (whole (c .before))
+    (toZ-ofZ (sfits-of (c .difference .ok)) ∙ c .difference .ensures)
 
 pub round-sums-spec : {M : Type 1} → statement M
 round-sums-spec =
@@ -124,4 +141,5 @@ round-sums-spec =
     add-i
     loop-less
     loop-again
+    difference-requires
     returns)

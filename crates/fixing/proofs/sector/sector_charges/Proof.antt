@@ -1,34 +1,30 @@
 -- The invariant: the places passed are filled in.
+use mir.Syntax.{w64}
+use mir.Val.{toZ, ofZ}
 use mir.Facts.{toZ-ofZ}
 use borrow.Author.Needs.{sfits-of}
-use Rattle.numbers.proofs.SignedLaws.{size-sub-le}
+use Rattle.numbers.proofs.SignedLaws.{size-fits}
 use Rattle.fixing.proofs.SectorLaws.{places-none, places-more}
-use mathlib.Core.Path.{_≡_, refl, sym, _∙_, ap, ap₂}
-use mathlib.Core.Bool.{Bool, false, not}
+use mathlib.Core.Path.{_≡_, refl, _∙_, ap}
 use mathlib.Core.List.{List}
-use Prim.Native.Nat.{ℕ, _≤_, _<_, _-_, _+_, _/_, _*_}
-use lib.Dec.{eqb}
-use lib.ListN.{length, getD, set}
-use lib.IntN.{ℤ, pos, subℕ}
-use Rattle.numbers.specs.Units.{noPrice}
-use Rattle.numbers.specs.declared.units.PesoPrice.{PesoPrice}
-use Rattle.numbers.proofs.ListLaws.{filled-none, filled-more}
+use Prim.Native.Nat.{ℕ, _≤_, _<_, _-_, _/_, _*_}
+use lib.ListN.{length, getD}
+use lib.IntN.{ℤ, pos}
 use Rattle.fixing.specs.Charge.{sectorCharge}
-use Rattle.fixing.specs.Sector.{factorAt, sectorPresent, chargedPlaces, sectorCharges, noCharges}
-use Rattle.fixing.specs.declared.sector.SectorCharges.{SectorCharges}
+use Rattle.fixing.specs.Sector.{factorAt, sectorPresent, chargedPlaces, sectorCharges}
 use Rattle.fixing.proofs.sector.sector_charges.Statement.{statement}
 use Rattle.fixing.proofs.sector.sector_charges.Tie as tie
 use native.Mathlib.Omega.{arith}
 
 -- the charge of distributor i
-abbrev chargeIn : List PesoPrice → List PesoPrice → ℕ → ℤ
-chargeIn averages finals i = subℕ (getD finals i noPrice .0) (getD averages i noPrice .0)
+abbrev chargeIn : List ℤ → ℕ → ℤ
+chargeIn charges i = getD charges i (pos 0)
 
 abbrev Inv-loop : tie.InvT-loop
-Inv-loop n sectors averages finals force₀ k₀ force k = (k ≤ length sectors) × (force ≡ chargedPlaces k (chargeIn averages finals) sectors)
+Inv-loop n sectors charges force₀ k₀ force k = (k ≤ length sectors) × (force ≡ chargedPlaces k (chargeIn charges) sectors)
 
 abbrev μ-loop : tie.MeasureT-loop
-μ-loop n sectors averages finals force₀ k₀ force k = length sectors - k
+μ-loop n sectors charges force₀ k₀ force k = length sectors - k
 
 -- the place at hand, and its distributor
 module _ (l : tie.At-loop Inv-loop μ-loop) where
@@ -46,25 +42,13 @@ no-charges-requires : tie.Need-no-charges-requires Inv-loop μ-loop
 no-charges-requires c κs = tt
 
 loop-holds : tie.Need-loop-holds Inv-loop μ-loop
-loop-holds c = let s = c .before .before in (omega arith, c .no-charges .ensures ∙ places-none (chargeIn (s .args .t2) (s .args .t3)) (s .args .sectors .now))
+loop-holds c = let s = c .before .before in (omega arith, c .no-charges .ensures ∙ places-none (chargeIn (s .args .t2)) (s .args .sectors .now))
 
-mul-difference : tie.Need-mul-difference Inv-loop μ-loop
-mul-difference c = omega (arith, own (c .before) (omega arith))
+mul-charge : tie.Need-mul-charge Inv-loop μ-loop
+mul-charge c = omega (arith, own (c .before) (omega arith))
 
-element-copy-out-difference : tie.Need-element-copy-out-difference Inv-loop μ-loop
-element-copy-out-difference c = omega (arith, own (c .before) (omega arith), start (c .before) .pre .few)
-
-mul-difference-2 : tie.Need-mul-difference-2 Inv-loop μ-loop
-mul-difference-2 c = omega (arith, own (c .before) (omega arith))
-
-element-copy-out-difference-2 : tie.Need-element-copy-out-difference-2 Inv-loop μ-loop
-element-copy-out-difference-2 c = omega (arith, own (c .before) (omega arith), start (c .before) .pre .few)
-
-difference-requires : tie.Need-difference-requires Inv-loop μ-loop
-difference-requires c κs =
-    let l = c .before in
-    let s = start l in
-    omega (arith, s .pre .final (l .loop .k / 8) (own l (omega arith)), s .pre .average (l .loop .k / 8) (own l (omega arith)))
+array-copy-out-charge : tie.Need-array-copy-out-charge Inv-loop μ-loop
+array-copy-out-charge c = omega (arith, own (c .before) (omega arith), start (c .before) .pre .few)
 
 mul-factor : tie.Need-mul-factor Inv-loop μ-loop
 mul-factor c = omega arith
@@ -75,17 +59,22 @@ shared-slice-read-factor c = omega arith
 element-write-force : tie.Need-element-write-force Inv-loop μ-loop
 element-write-force c = few (c .before .before .before) (omega arith)
 
+-- the charge at hand is read back as it is
+unread : (c : tie.In-loop Inv-loop μ-loop) → toZ w64 (ofZ w64 (chargeIn (start (c .before) .args .t2) (c .before .loop .k / 8))) ≡ chargeIn (start (c .before) .args .t2) (c .before .loop .k / 8)
+unread c =
+    let l = c .before in
+    let s = start l in
+    toZ-ofZ (size-fits (chargeIn (s .args .t2) (l .loop .k / 8)) (omega (arith, s .pre .charge (l .loop .k / 8) (own l (omega arith)))))
+
 sector-charge-requires : tie.Need-sector-charge-requires Inv-loop μ-loop
 sector-charge-requires c κs =
-    let l = c .before .before .before in
-    let s = start l in (
-      rw (toZ-ofZ (sfits-of (c .before .difference .ok)), c .before .difference .ensures)
-          (size-sub-le _ _ 2000000 (s .pre .final (l .loop .k / 8) (own l (omega arith))) (s .pre .average (l .loop .k / 8) (own l (omega arith)))),
-      s .pre .factors (l .loop .k) (omega (arith, s .pre .lent)),
-    )
+    let e = c .before .before in
+    let l = e .before in
+    let s = start l in
+    (rw (unread e) (s .pre .charge (l .loop .k / 8) (own l (omega arith))), s .pre .factors (l .loop .k) (omega (arith, s .pre .lent)))
 
-mul-t18 : tie.Need-mul-t18 Inv-loop μ-loop
-mul-t18 c = omega (arith, few (c .before .before .before .before) (omega arith))
+mul-t11 : tie.Need-mul-t11 Inv-loop μ-loop
+mul-t11 c = omega (arith, few (c .before .before .before .before) (omega arith))
 
 element-set-from-force : tie.Need-element-set-from-force Inv-loop μ-loop
 element-set-from-force c = few (c .before .before .before .before) (omega arith)
@@ -99,12 +88,13 @@ loop-less c = omega arith
 loop-again : tie.Need-loop-again Inv-loop μ-loop
 unfolding sectorPresent
 loop-again c =
-    let l = c .before .before .before .before in
+    let e = c .before .before .before in
+    let l = e .before in
     let s = start l in (
       omega arith,
-      places-more (chargeIn (s .args .t2) (s .args .t3)) (s .args .sectors .now) (l .loop .k) (l .loop .force) _ _ (few l (omega arith)) (l .loop .inv .1) refl
+      places-more (chargeIn (s .args .t2)) (s .args .sectors .now) (l .loop .k) (l .loop .force) _ _ (few l (omega arith)) (l .loop .inv .1) refl
           (toZ-ofZ (sfits-of (c .sector-charge .ok)) ∙ c .sector-charge .ensures
-          ∙ ap (λ z. sectorCharge z (factorAt (s .args .sectors .now) (l .loop .k))) (toZ-ofZ (sfits-of (c .before .before .difference .ok)) ∙ c .before .before .difference .ensures)),
+          ∙ ap (λ z. sectorCharge z (factorAt (s .args .sectors .now) (l .loop .k))) (unread e)),
     )
 
 returns : tie.Need-returns Inv-loop μ-loop
@@ -123,16 +113,13 @@ sector-charges-spec =
     μ-loop
     no-charges-requires
     loop-holds
-    mul-difference
-    element-copy-out-difference
-    mul-difference-2
-    element-copy-out-difference-2
-    difference-requires
+    mul-charge
+    array-copy-out-charge
     mul-factor
     shared-slice-read-factor
     element-write-force
     sector-charge-requires
-    mul-t18
+    mul-t11
     element-set-from-force
     add-k
     loop-less

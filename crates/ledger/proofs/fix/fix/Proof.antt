@@ -2,7 +2,7 @@
 use mathlib.Core.Path.{_≡_, refl, sym, _∙_}
 use mathlib.Core.Bool.{true}
 use borrow.Author.Tests.{not-true, not-false}
-use Rattle.fixing.specs.Input.{RightLengths, inputVerdict}
+use Rattle.fixing.specs.Input.{RightLengths}
 use Rattle.fixing.specs.declared.verdict.Verdict.the-variants.{Passed}
 use Rattle.ledger.specs.Sound.{sound}
 use Rattle.ledger.specs.Turn.{fixingTurn}
@@ -137,7 +137,7 @@ returns-4 c =
 
 write-prices-requires : tie.Need-write-prices-requires
 write-prices-requires c κs =
-    let p = c .before .before .before .before .before in
+    let p = c .before .before .before .before .before .before in
     let e = four p in
     let g = p .before .before in (
       sound-few _ (whole e),
@@ -160,7 +160,7 @@ returns-5 : tie.Need-returns-5
 unfolding priceList
 returns-5 c =
     let w = c .before .before .before in
-    let p = w .before .before .before .before .before .before in
+    let p = w .before .before .before .before .before .before .before in
     let e = four p in
     fixed-accepted (book (from e)) (call (from e)) (whole e) (passed-three (three e)) (passed-four e) _ (p .before .before .fix-input .ensures) (passed p)
     _ _ _ (c .before .accepted .ensures) (c .book-fixing .ensures) (w .write-prices .ensures)

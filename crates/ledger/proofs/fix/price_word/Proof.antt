@@ -27,22 +27,11 @@ element-copy-out-difference-2 c = search needs
 difference-requires-2 : tie.Need-difference-requires-2
 difference-requires-2 c κs = (omega (arith, c .before .pre .0 .final (c .before .args .k / 3)), omega arith)
 
-mul-difference-3 : tie.Need-mul-difference-3
-mul-difference-3 c = search needs
+mul-result : tie.Need-mul-result
+mul-result c = search needs
 
-element-copy-out-difference-3 : tie.Need-element-copy-out-difference-3
-element-copy-out-difference-3 c = search needs
-
-mul-difference-4 : tie.Need-mul-difference-4
-mul-difference-4 c = search needs
-
-element-copy-out-difference-4 : tie.Need-element-copy-out-difference-4
-element-copy-out-difference-4 c = search needs
-
-difference-requires-3 : tie.Need-difference-requires-3
-difference-requires-3 c κs = let p = c .before .pre .0 in
-    let i = c .before .args .k / 3 in
-    (omega (arith, p .final i), omega (arith, p .average i))
+array-copy-out-result : tie.Need-array-copy-out-result
+array-copy-out-result c = search needs
 
 returns : tie.Need-returns
 unfolding priceWord
@@ -54,8 +43,9 @@ returns-2 c = rw (toZ-ofZ (sfits-of (c .difference2 .ok)), c .before .match .key
 
 returns-3 : tie.Need-returns-3
 unfolding priceWord
-returns-3 c = let e : c .before .before .args .k % 3 ≡ 2 = omega arith in
-    rw (toZ-ofZ (sfits-of (c .difference3 .ok)), e) (c .difference3 .ensures)
+returns-3 c =
+    let e : c .before .before .args .k % 3 ≡ 2 = omega arith in
+    rw (toZ-ofZ (sfits-of (c .result .given)), e)
 
 pub price-word-spec : {M : Type 1} → statement M
 price-word-spec =
@@ -67,11 +57,8 @@ price-word-spec =
     mul-difference-2
     element-copy-out-difference-2
     difference-requires-2
-    mul-difference-3
-    element-copy-out-difference-3
-    mul-difference-4
-    element-copy-out-difference-4
-    difference-requires-3
+    mul-result
+    array-copy-out-result
     returns
     returns-2
     returns-3)
