@@ -9,13 +9,9 @@ use lib.ListN.{getD, length}
 use lib.IntN.{ℤ, pos, natAbs}
 use Rattle.numbers.specs.Bounded.{allBelow, anyBelow, filledBelow}
 use Rattle.numbers.specs.Units.{mostPrice}
-use Rattle.numbers.specs.Sizes.{sectorCount}
+use Rattle.numbers.specs.Sizes.{sectorCount, sectorPlaces}
 use Rattle.fixing.specs.Charge.{sectorCharge}
 use Rattle.fixing.specs.declared.sector.SectorCharges.{SectorCharges}
-
--- 40 distributors of 8 sectors
-abbrev pub sectorPlaces : ℕ
-sectorPlaces = 320
 
 abbrev pub mostFactor : ℕ
 mostFactor = 50000

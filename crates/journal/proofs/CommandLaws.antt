@@ -7,11 +7,12 @@ use Prim.Native.Nat.{ℕ, _≤_, _<_}
 use native.Mathlib.Omega.{arith}
 use lib.ListN.{length}
 use borrow.Author.Tests.{eq-eqb, ne-eqb}
+use Rattle.numbers.specs.Sizes.{mostDistributors, sectorPlaces}
 use Rattle.journal.specs.Token.{tokenStart, tokenEnd}
 use Rattle.journal.specs.Word.{isWord}
 use Rattle.journal.specs.Cursor.{readTo, brokenAt, numberAfter, mostWord, Onward}
 use Rattle.journal.specs.List.{countAfter, listAfter, signedListAfter}
-use Rattle.journal.specs.Command.{longestList, mostPlaces, mostBalances, openName, fixName, settleName, saveName, loadName, seriesName, linesName, sectorsName, pricesName, readingsName, lossesName, transfersName, presentName, chargesName, balancesName, commandIn, isUnknown, commandAfter, fixSeriesFrom, fixLinesFrom, fixSectorsFrom, fixPricesFrom, fixAfter, settleReadingsFrom, settleLossesFrom, settleTransfersFrom, settleAfter, loadFixedFrom, loadMonthFrom, loadPresentFrom, loadChargesFrom, loadBalancesFrom, loadAfter}
+use Rattle.journal.specs.Command.{longestList, openName, fixName, settleName, saveName, loadName, seriesName, linesName, sectorsName, pricesName, readingsName, lossesName, transfersName, presentName, chargesName, balancesName, commandIn, isUnknown, commandAfter, fixSeriesFrom, fixLinesFrom, fixSectorsFrom, fixPricesFrom, fixAfter, settleReadingsFrom, settleLossesFrom, settleTransfersFrom, settleAfter, loadFixedFrom, loadMonthFrom, loadPresentFrom, loadChargesFrom, loadBalancesFrom, loadAfter}
 use Rattle.journal.specs.declared.cursor.Cursor.{Cursor}
 use Rattle.journal.specs.declared.command.Command.{Command}
 use Rattle.journal.specs.declared.command.Command.the-variants.{Open, Fix, Settle, Save, Load, Unknown, End}
@@ -181,15 +182,15 @@ module _ (text : List ℕ) (cursor : Cursor) (p : cursor .at ≤ length text) wh
 
   to-charges : Onward text cursor (loadChargesFrom text cursor)
   unfolding loadChargesFrom
-  to-charges = then-list text cursor _ to-present presentName mostPlaces 1
+  to-charges = then-list text cursor _ to-present presentName sectorPlaces 1
 
   to-balances : Onward text cursor (loadBalancesFrom text cursor)
   unfolding loadBalancesFrom
-  to-balances = then-signed-list text cursor _ to-charges chargesName mostPlaces
+  to-balances = then-signed-list text cursor _ to-charges chargesName sectorPlaces
 
   pub onward-load : Onward text cursor (loadAfter text cursor .next)
   unfolding loadAfter
-  onward-load = then-signed-list text cursor _ to-balances balancesName mostBalances
+  onward-load = then-signed-list text cursor _ to-balances balancesName mostDistributors
 
 -- no list is longer than it may be
 module _ (text : List ℕ) (cursor : Cursor) where
@@ -225,14 +226,14 @@ module _ (text : List ℕ) (cursor : Cursor) where
   unfolding loadAfter
   load-fixed-most = number-most text _ 1
 
-  pub load-present-most : loadAfter text cursor .present ≤ mostPlaces
+  pub load-present-most : loadAfter text cursor .present ≤ sectorPlaces
   unfolding loadAfter
-  load-present-most = list-most text _ presentName mostPlaces 1
+  load-present-most = list-most text _ presentName sectorPlaces 1
 
-  pub load-charges-most : loadAfter text cursor .charges ≤ mostPlaces
+  pub load-charges-most : loadAfter text cursor .charges ≤ sectorPlaces
   unfolding loadAfter
-  load-charges-most = signed-list-most text _ chargesName mostPlaces
+  load-charges-most = signed-list-most text _ chargesName sectorPlaces
 
-  pub load-balances-most : loadAfter text cursor .balances ≤ mostBalances
+  pub load-balances-most : loadAfter text cursor .balances ≤ mostDistributors
   unfolding loadAfter
-  load-balances-most = signed-list-most text _ balancesName mostBalances
+  load-balances-most = signed-list-most text _ balancesName mostDistributors

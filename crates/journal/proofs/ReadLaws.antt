@@ -4,9 +4,10 @@ use mathlib.Core.Path.{_≡_, _∙_, ap}
 use mathlib.Core.List.{List, _++_}
 use Prim.Native.Nat.{ℕ}
 use lib.IntN.{ℤ}
+use Rattle.numbers.specs.Sizes.{mostDistributors, sectorPlaces}
 use Rattle.journal.specs.Cursor.{wordAfter, numberAfter, mostWord}
 use Rattle.journal.specs.List.{cursorAfter, countAfter, listAfter, listWords, signedListAfter, signedListWords}
-use Rattle.journal.specs.Command.{longestList, mostPlaces, mostBalances, seriesName, linesName, sectorsName, pricesName, readingsName, lossesName, transfersName, presentName, chargesName, balancesName, fixSeriesFrom, fixLinesFrom, fixSectorsFrom, fixPricesFrom, fixAfter, settleReadingsFrom, settleLossesFrom, settleTransfersFrom, settleAfter, loadFixedFrom, loadMonthFrom, loadPresentFrom, loadChargesFrom, loadBalancesFrom, loadAfter}
+use Rattle.journal.specs.Command.{longestList, seriesName, linesName, sectorsName, pricesName, readingsName, lossesName, transfersName, presentName, chargesName, balancesName, fixSeriesFrom, fixLinesFrom, fixSectorsFrom, fixPricesFrom, fixAfter, settleReadingsFrom, settleLossesFrom, settleTransfersFrom, settleAfter, loadFixedFrom, loadMonthFrom, loadPresentFrom, loadChargesFrom, loadBalancesFrom, loadAfter}
 use Rattle.journal.specs.declared.cursor.Cursor.{Cursor}
 use Rattle.journal.specs.declared.cursor.NumberRead.{NumberRead}
 use Rattle.journal.specs.declared.list.ListRead.{ListRead}
@@ -162,9 +163,9 @@ pub record LoadCalls (text : List ℕ) (cursor : Cursor) (n months last fixed mo
   pub last-read : last ≡ numberAfter text (months .next) mostWord
   pub fixed-read : fixed ≡ numberAfter text (last .next) 1
   pub month-read : month ≡ numberAfter text (fixed .next) mostWord
-  pub present-read : present ≡ listAfter text (month .next) presentName mostPlaces 1
-  pub charges-read : charges ≡ signedListAfter text (present .next) chargesName mostPlaces
-  pub balances-read : balances ≡ signedListAfter text (charges .next) balancesName mostBalances
+  pub present-read : present ≡ listAfter text (month .next) presentName sectorPlaces 1
+  pub charges-read : charges ≡ signedListAfter text (present .next) chargesName sectorPlaces
+  pub balances-read : balances ≡ signedListAfter text (charges .next) balancesName mostDistributors
 
 module _ {text : List ℕ} {cursor : Cursor} {n months last fixed month : NumberRead} {present charges balances : ListRead} (r : LoadCalls text cursor n months last fixed month present charges balances) where
   past-n : n .next ≡ cursorAfter 1 text cursor mostWord
@@ -191,22 +192,22 @@ module _ {text : List ℕ} {cursor : Cursor} {n months last fixed month : Number
   unfolding loadPresentFrom
   at-present = ap (λ x. x .next) month-is
 
-  present-is : present ≡ listAfter text (loadPresentFrom text cursor) presentName mostPlaces 1
-  present-is = list-moved text _ _ at-present presentName mostPlaces 1 present (r .present-read)
+  present-is : present ≡ listAfter text (loadPresentFrom text cursor) presentName sectorPlaces 1
+  present-is = list-moved text _ _ at-present presentName sectorPlaces 1 present (r .present-read)
 
   pub at-charges : present .next ≡ loadChargesFrom text cursor
   unfolding loadChargesFrom
   at-charges = ap (λ x. x .next) present-is
 
-  charges-is : charges ≡ signedListAfter text (loadChargesFrom text cursor) chargesName mostPlaces
-  charges-is = signed-list-moved text _ _ at-charges chargesName mostPlaces charges (r .charges-read)
+  charges-is : charges ≡ signedListAfter text (loadChargesFrom text cursor) chargesName sectorPlaces
+  charges-is = signed-list-moved text _ _ at-charges chargesName sectorPlaces charges (r .charges-read)
 
   pub at-balances : charges .next ≡ loadBalancesFrom text cursor
   unfolding loadBalancesFrom
   at-balances = ap (λ x. x .next) charges-is
 
-  balances-is : balances ≡ signedListAfter text (loadBalancesFrom text cursor) balancesName mostBalances
-  balances-is = signed-list-moved text _ _ at-balances balancesName mostBalances balances (r .balances-read)
+  balances-is : balances ≡ signedListAfter text (loadBalancesFrom text cursor) balancesName mostDistributors
+  balances-is = signed-list-moved text _ _ at-balances balancesName mostDistributors balances (r .balances-read)
 
   pub load-read : _≡_ {A = LoadRead} (record {
     n = n .value;

@@ -5,6 +5,7 @@ use mathlib.Core.List.{List, [], _∷_}
 use Prim.Native.Nat.{ℕ}
 use lib.Dec.{eqb}
 use lib.ListN.{length}
+use Rattle.numbers.specs.Sizes.{mostDistributors, sectorPlaces}
 use Rattle.journal.specs.Token.{tokenStart, tokenEnd}
 use Rattle.journal.specs.Word.{isWord}
 use Rattle.journal.specs.Cursor.{readTo, brokenAt, numberAfter, mostWord}
@@ -20,13 +21,6 @@ use Rattle.journal.specs.declared.command.LoadRead.{LoadRead}
 -- "more than 8,192 words" cannot be read
 abbrev pub longestList : ℕ
 longestList = 8192
-
--- "K at most 320, 320 and 40"
-abbrev pub mostPlaces : ℕ
-mostPlaces = 320
-
-abbrev pub mostBalances : ℕ
-mostBalances = 40
 
 -- the words, byte by byte
 abbrev pub openName : List ℕ
@@ -162,22 +156,22 @@ unfoldable pub loadPresentFrom : List ℕ → Cursor → Cursor
 loadPresentFrom text cursor = numberAfter text (loadMonthFrom text cursor) mostWord .next
 
 unfoldable pub loadChargesFrom : List ℕ → Cursor → Cursor
-loadChargesFrom text cursor = listAfter text (loadPresentFrom text cursor) presentName mostPlaces 1 .next
+loadChargesFrom text cursor = listAfter text (loadPresentFrom text cursor) presentName sectorPlaces 1 .next
 
 unfoldable pub loadBalancesFrom : List ℕ → Cursor → Cursor
-loadBalancesFrom text cursor = signedListAfter text (loadChargesFrom text cursor) chargesName mostPlaces .next
+loadBalancesFrom text cursor = signedListAfter text (loadChargesFrom text cursor) chargesName sectorPlaces .next
 
 unfoldable pub loadAfter : List ℕ → Cursor → LoadRead
 loadAfter text cursor =
-    let balances = signedListAfter text (loadBalancesFrom text cursor) balancesName mostBalances in
+    let balances = signedListAfter text (loadBalancesFrom text cursor) balancesName mostDistributors in
     record {
       n = numberAt text cursor mostWord 0;
       months = numberAt text cursor mostWord 1;
       last = numberAt text cursor mostWord 2;
       fixed = numberAfter text (loadFixedFrom text cursor) 1 .value;
       month = numberAfter text (loadMonthFrom text cursor) mostWord .value;
-      present = listAfter text (loadPresentFrom text cursor) presentName mostPlaces 1 .count;
-      charges = signedListAfter text (loadChargesFrom text cursor) chargesName mostPlaces .count;
+      present = listAfter text (loadPresentFrom text cursor) presentName sectorPlaces 1 .count;
+      charges = signedListAfter text (loadChargesFrom text cursor) chargesName sectorPlaces .count;
       balances = balances .count;
       next = balances .next;
     }

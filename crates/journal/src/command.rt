@@ -3,9 +3,10 @@ ghost use mathlib.Core.Path.{_≡_};
 ghost use mathlib.Core.List.{_++_};
 ghost use Prim.Native.Nat.{_≤_};
 ghost use lib.ListN.{length, drop};
+ghost use Rattle.numbers.specs.Sizes.{mostDistributors, sectorPlaces};
 ghost use Rattle.journal.specs.Cursor.{mostWord};
 ghost use Rattle.journal.specs.List.{listWords, signedListWords};
-ghost use Rattle.journal.specs.Command.{longestList, mostPlaces, mostBalances, isUnknown, commandIn, commandAfter, seriesName, linesName, sectorsName, readingsName, lossesName, presentName, chargesName, balancesName};
+ghost use Rattle.journal.specs.Command.{longestList, isUnknown, commandIn, commandAfter, seriesName, linesName, sectorsName, readingsName, lossesName, presentName, chargesName, balancesName};
 ghost use Rattle.journal.specs.Command.{fixSeriesFrom, fixLinesFrom, fixSectorsFrom, fixAfter, settleReadingsFrom, settleLossesFrom, settleAfter, loadPresentFrom, loadChargesFrom, loadBalancesFrom, loadAfter};
 use crate::cursor::Cursor;
 use crate::cursor::next_number;
@@ -208,11 +209,11 @@ pub fn read_load(
     charges: &mut [i64],
     balances: &mut [i64],
 ) -> LoadRead
-    requires { ⌜ cursor .at ≤ length (now text) ⌝ ∗ ⌜ length (now present) ≡ mostPlaces ⌝ ∗ ⌜ length (now charges) ≡ mostPlaces ⌝ ∗ ⌜ length (now balances) ≡ mostBalances ⌝ }
+    requires { ⌜ cursor .at ≤ length (now text) ⌝ ∗ ⌜ length (now present) ≡ sectorPlaces ⌝ ∗ ⌜ length (now charges) ≡ sectorPlaces ⌝ ∗ ⌜ length (now balances) ≡ mostDistributors ⌝ }
     ensures { λ r. ⌜ r ≡ loadAfter (now (text .entry)) cursor ⌝ }
-    ensures { λ r. ⌜ now (present .exit) ≡ listWords (now (text .entry)) (loadPresentFrom (now (text .entry)) cursor) presentName mostPlaces 1 ++ drop (r .present) (now (present .entry)) ⌝ }
-    ensures { λ r. ⌜ now (charges .exit) ≡ signedListWords (now (text .entry)) (loadChargesFrom (now (text .entry)) cursor) chargesName mostPlaces ++ drop (r .charges) (now (charges .entry)) ⌝ }
-    ensures { λ r. ⌜ now (balances .exit) ≡ signedListWords (now (text .entry)) (loadBalancesFrom (now (text .entry)) cursor) balancesName mostBalances ++ drop (r .balances) (now (balances .entry)) ⌝ }
+    ensures { λ r. ⌜ now (present .exit) ≡ listWords (now (text .entry)) (loadPresentFrom (now (text .entry)) cursor) presentName sectorPlaces 1 ++ drop (r .present) (now (present .entry)) ⌝ }
+    ensures { λ r. ⌜ now (charges .exit) ≡ signedListWords (now (text .entry)) (loadChargesFrom (now (text .entry)) cursor) chargesName sectorPlaces ++ drop (r .charges) (now (charges .entry)) ⌝ }
+    ensures { λ r. ⌜ now (balances .exit) ≡ signedListWords (now (text .entry)) (loadBalancesFrom (now (text .entry)) cursor) balancesName mostDistributors ++ drop (r .balances) (now (balances .entry)) ⌝ }
 {
     let n = next_number(text, cursor, MOST_WORD);
     let months = next_number(text, n.next, MOST_WORD);

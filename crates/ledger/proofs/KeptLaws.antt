@@ -13,7 +13,7 @@ use borrow.Author.Tests.{leb-true, eqb-true, not-false}
 use Rattle.numbers.specs.Bounded.{anyBelow}
 use Rattle.numbers.specs.Signed.{signedSumBelow}
 use Rattle.numbers.specs.Rounding.{halfUp}
-use Rattle.numbers.specs.Sizes.{mostDistributors, sectorCount}
+use Rattle.numbers.specs.Sizes.{mostDistributors, sectorCount, sectorPlaces}
 use Rattle.numbers.proofs.BoolLaws.{and-left, and-right}
 use Rattle.numbers.proofs.ListLaws.{filled-at, filled-past}
 use Rattle.numbers.proofs.RoundingLaws.{away-size}
@@ -22,7 +22,7 @@ use Rattle.series.specs.Series.{lastMonth}
 use Rattle.fixing.specs.Limit.{Distributors, InRange, charge}
 use Rattle.fixing.specs.Charge.{sectorCharge}
 use Rattle.fixing.specs.Prices.{distributors}
-use Rattle.fixing.specs.Sector.{sectorPlaces, mostFactor, factorAt, sectorPresent, chargedPlaces, sectorCharges, noCharges}
+use Rattle.fixing.specs.Sector.{mostFactor, factorAt, sectorPresent, chargedPlaces, sectorCharges, noCharges}
 use Rattle.fixing.specs.Input.{inputAverages, inputEnergies}
 use Rattle.fixing.specs.Fixing.{acceptedFixing, fixingOf}
 use Rattle.fixing.specs.declared.fix.Fixing.{Fixing}

@@ -9,12 +9,11 @@ use borrow.Author.Tests.{ltb-false, leb-true, eqb-true, eqb-false, not-true, not
 use Rattle.numbers.specs.Bounded.{allBelow}
 use Rattle.numbers.specs.Signed.{withinSize}
 use Rattle.numbers.specs.Units.{between}
-use Rattle.numbers.specs.Sizes.{mostDistributors, sectorCount}
+use Rattle.numbers.specs.Sizes.{mostDistributors, sectorCount, sectorPlaces}
 use Rattle.numbers.proofs.BoolLaws.{and-left, and-right}
 use Rattle.numbers.proofs.TestLaws.{all-at, all-of}
 use Rattle.numbers.proofs.UnitLaws.{between-low, between-high, between-yes}
 use Rattle.series.specs.Series.{lastMonth}
-use Rattle.fixing.specs.Sector.{sectorPlaces}
 use Rattle.fixing.specs.declared.sector.SectorCharges.{SectorCharges}
 use Rattle.settlement.specs.Amount.{mostCharge}
 use Rattle.settlement.specs.Settlement.{mostPosition, oneSign}

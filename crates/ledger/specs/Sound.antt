@@ -9,10 +9,9 @@ use lib.IntN.{ℤ, pos, natAbs}
 use Rattle.numbers.specs.Bounded.{allBelow}
 use Rattle.numbers.specs.Signed.{withinSize}
 use Rattle.numbers.specs.Units.{between}
-use Rattle.numbers.specs.Sizes.{mostDistributors, sectorCount}
+use Rattle.numbers.specs.Sizes.{mostDistributors, sectorCount, sectorPlaces}
 use Rattle.numbers.specs.declared.units.Pesos.{Pesos}
 use Rattle.series.specs.Series.{lastMonth}
-use Rattle.fixing.specs.Sector.{sectorPlaces}
 use Rattle.fixing.specs.declared.sector.SectorCharges.{SectorCharges}
 use Rattle.settlement.specs.Amount.{mostCharge}
 use Rattle.settlement.specs.Settlement.{mostPosition, oneSign}

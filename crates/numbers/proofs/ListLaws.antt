@@ -9,7 +9,7 @@ use native.Mathlib.Omega.{arith}
 use native.Mathlib.Decide.{ℕ-discrete, decLt}
 use lib.Dec.{ltb}
 use lib.ListN.{length, getD, take, set, replicate, length-append, length-set, length-replicate, getD-replicate, List·getD-append, List·getD-eq-default}
-use lib.Seq.{take-suc-set, take-all, getD-at, ext-getD, getD-set-same, getD-set-other}
+use lib.Seq.{take-suc-set, take-all, take-at, getD-at, ext-getD, getD-set-same, getD-set-other}
 use borrow.Author.Tests.{lt-ltb, le-ltb, ltb-true}
 use Rattle.numbers.specs.Bounded.{listBelow, filledBelow}
 use Rattle.numbers.proofs.BoolLaws.{by-last}
@@ -115,3 +115,15 @@ module _ {A : Type 0} (size : ℕ) (empty : A) (k : ℕ) (f : ℕ → A) where
       go j (no q) (no r) =
           let h : j ≡ k = omega arith in
           rw (le-ltb j k (omega arith), lt-ltb j (k + 1) (omega arith)) (sym (ap f h ∙ e))
+
+-- what stands first in a list
+pub record Front {A : Type 0} (k : ℕ) (words list : List A) : Type 0 where
+  pub long : k ≤ length list
+  pub first : take k list ≡ words
+
+pub front : {A : Type 0} (k : ℕ) (words rest list : List A) → length words ≡ k → list ≡ words ++ rest → Front k words list
+front k words rest list e h =
+    record {
+      long = rw (h, length-append) (omega (arith, e));
+      first = ap (take k) h ∙ take-at words rest k e;
+    }

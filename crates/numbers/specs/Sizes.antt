@@ -8,3 +8,7 @@ mostDistributors = 40
 -- "Sector factors: 8n words": 8 sectors a distributor
 abbrev pub sectorCount : ℕ
 sectorCount = 8
+
+-- 8 sectors of 40 distributors
+abbrev pub sectorPlaces : ℕ
+sectorPlaces = 320

@@ -1,0 +1,282 @@
+-- Laws of the commands of a journal: what a command's words are, that each command reads on, and that command after
+-- command the journal's ledger is reached. Assumes nothing.
+use mathlib.Core.Path.{_≡_, refl, sym, _∙_, ap}
+use mathlib.Core.Bool.{Bool, true, false, cond, false≢true}
+use mathlib.Core.List.{List, _++_}
+use Prim.Native.Nat.{ℕ, zero, suc, _+_, _-_, _<_, _≤_}
+use native.Mathlib.Omega.{arith}
+use native.Mathlib.Decide.{decLt}
+use lib.Dec.{ltb}
+use lib.ListN.{length, take}
+use lib.IntN.{ℤ}
+use borrow.Author.Tests.{lt-ltb, le-ltb}
+use Rattle.numbers.specs.Sizes.{mostDistributors, sectorPlaces}
+use Rattle.journal.specs.Token.{tokenStart, tokenEnd}
+use Rattle.journal.specs.Cursor.{readTo, brokenAt, mostWord, Onward}
+use Rattle.journal.specs.List.{listAfter, listWords, signedListAfter, signedListWords}
+use Rattle.journal.specs.Command.{longestList, seriesName, linesName, sectorsName, readingsName, lossesName, presentName, chargesName, balancesName, isUnknown, commandIn, commandAfter}
+use Rattle.journal.specs.Command.{fixSeriesFrom, fixLinesFrom, fixSectorsFrom, fixAfter, settleReadingsFrom, settleLossesFrom, settleAfter, loadPresentFrom, loadChargesFrom, loadBalancesFrom, loadAfter}
+use Rattle.journal.specs.declared.cursor.Cursor.{Cursor}
+use Rattle.journal.specs.declared.command.Command.{Command}
+use Rattle.journal.specs.declared.command.Command.the-variants.{Open, Fix, Settle, Save, Load, Unknown, End}
+use Rattle.journal.specs.declared.command.CommandRead.{CommandRead}
+use Rattle.journal.specs.declared.command.FixRead.{FixRead}
+use Rattle.journal.specs.declared.command.SettleRead.{SettleRead}
+use Rattle.journal.specs.declared.command.LoadRead.{LoadRead}
+use Rattle.journal.proofs.TokenLaws.{token-start-least, token-start-most, token-end-least, token-some}
+use Rattle.journal.proofs.CursorLaws.{onward-same, onward-number}
+use Rattle.journal.proofs.ListLaws.{words-length, signed-words-length}
+use Rattle.journal.proofs.CommandLaws.{command-within, onward-fix, onward-settle, onward-load, fix-prices-most, settle-transfers-most}
+use Rattle.numbers.specs.Units.{between}
+use Rattle.ledger.specs.Ledger.{emptyLedger, openingOf}
+use Rattle.ledger.specs.Fix.{FixingCall}
+use Rattle.ledger.specs.Fix.{callOf as fixingCallOf}
+use Rattle.ledger.specs.Settle.{SettlementCall}
+use Rattle.ledger.specs.Settle.{callOf as settlementCallOf}
+use Rattle.ledger.specs.declared.book.Ledger.{Ledger}
+use Rattle.store.specs.Store.{loadedLedger}
+use Rattle.numbers.proofs.ListLaws.{Front, front}
+use Rattle.commands.specs.Replay.{unwritten, fixingCall, settlementCall, keptLedger, commandNext, commandLedger, stepOf, stepAfter, replayFrom}
+use Rattle.commands.specs.declared.run.Step.{Step}
+
+abbrev pub stepBy : Ledger → Cursor → Step
+stepBy book next = record { ledger = book; next = next }
+
+-- a command that is broken is not made; another is
+module _ (command : Command) (text : List ℕ) (cursor : Cursor) (book : Ledger) (next : Cursor) (e : next ≡ commandNext command text cursor) where
+  pub step-broken : next .broken ≡ true → stepBy book next ≡ stepOf command text cursor book
+  unfolding stepOf
+  step-broken b = rw (← e, b)
+
+  pub step-made : next .broken ≡ false → (after : Ledger) → after ≡ commandLedger command text cursor book → stepBy after next ≡ stepOf command text cursor book
+  unfolding stepOf
+  step-made b after h = rw (← e, b, h)
+
+-- commands that leave the ledger
+module _ (text : List ℕ) (cursor : Cursor) (book : Ledger) where
+  same : (b : Bool) → stepBy book cursor ≡ stepBy (cond b book book) cursor
+  same true = refl
+  same false = refl
+
+  pub step-save : stepBy book cursor ≡ stepOf Save text cursor book
+  unfolding stepOf
+  step-save = same (cursor .broken)
+
+  pub step-unknown : stepBy book cursor ≡ stepOf Unknown text cursor book
+  unfolding stepOf
+  step-unknown = same (cursor .broken)
+
+  pub step-end : stepBy book cursor ≡ stepOf End text cursor book
+  unfolding stepOf
+  step-end = same (cursor .broken)
+
+-- the step of the command that was read
+module _ (text : List ℕ) (at : ℕ) (book : Ledger) (read : CommandRead) (e : read ≡ commandAfter text at) where
+  pub step-read : (command : Command) → read .command ≡ command → (step : Step) → step ≡ stepOf command text (read .next) book → step ≡ stepAfter text at book
+  unfolding stepAfter
+  step-read command h step s =
+      s
+      ∙ ap (λ c. stepOf c text (read .next) book) (sym h)
+      ∙ ap (λ (r : CommandRead). stepOf (r .command) text (r .next) book) e
+
+  pub read-within : at ≤ length text → read .next .at ≤ length text
+  read-within p = rw e (command-within text at p)
+
+-- the words of a fixing stand first in the buffers, and make its call
+module _ (text : List ℕ) (cursor : Cursor) (read : FixRead) (e : read ≡ fixAfter text cursor) where
+  abbrev seriesWords : List ℕ
+  seriesWords = listWords text (fixSeriesFrom text cursor) seriesName longestList mostWord
+
+  abbrev lineWords : List ℕ
+  lineWords = listWords text (fixLinesFrom text cursor) linesName longestList mostWord
+
+  abbrev sectorWords : List ℕ
+  sectorWords = listWords text (fixSectorsFrom text cursor) sectorsName longestList mostWord
+
+  pub series-first : (rest list : List ℕ) → list ≡ seriesWords ++ rest → Front (read .series) seriesWords list
+  unfolding fixAfter
+  series-first rest list h =
+      front (read .series) seriesWords rest list
+      (words-length text (fixSeriesFrom text cursor) seriesName longestList mostWord ∙ sym (ap (λ (r : FixRead). r .series) e)) h
+
+  pub lines-first : (rest list : List ℕ) → list ≡ lineWords ++ rest → Front (read .lines) lineWords list
+  unfolding fixAfter
+  lines-first rest list h =
+      front (read .lines) lineWords rest list
+      (words-length text (fixLinesFrom text cursor) linesName longestList mostWord ∙ sym (ap (λ (r : FixRead). r .lines) e)) h
+
+  pub sectors-first : (rest list : List ℕ) → list ≡ sectorWords ++ rest → Front (read .sectors) sectorWords list
+  unfolding fixAfter
+  sectors-first rest list h =
+      front (read .sectors) sectorWords rest list
+      (words-length text (fixSectorsFrom text cursor) sectorsName longestList mostWord ∙ sym (ap (λ (r : FixRead). r .sectors) e)) h
+
+  pub prices-most : read .prices ≤ longestList
+  prices-most = rw e (fix-prices-most text cursor)
+
+  pub fixing-made : (series lines sectors : List ℕ) (k : ℕ) → series ≡ seriesWords → lines ≡ lineWords → sectors ≡ sectorWords → k ≡ read .prices → fixingCallOf (read .month) (read .dollar) (read .factor) (read .first) series lines sectors (unwritten k) ≡ fixingCall text cursor
+  unfolding fixingCall
+  fixing-made series lines sectors k p q r h =
+      rw (p, q, r, h)
+      (ap (λ (w : FixRead). fixingCallOf (w .month) (w .dollar) (w .factor) (w .first) seriesWords lineWords sectorWords (unwritten (w .prices))) e)
+
+-- the same of a settlement
+module _ (text : List ℕ) (cursor : Cursor) (read : SettleRead) (e : read ≡ settleAfter text cursor) where
+  abbrev readingWords : List ℕ
+  readingWords = listWords text (settleReadingsFrom text cursor) readingsName longestList mostWord
+
+  abbrev lossWords : List ℕ
+  lossWords = listWords text (settleLossesFrom text cursor) lossesName longestList mostWord
+
+  pub readings-first : (rest list : List ℕ) → list ≡ readingWords ++ rest → Front (read .readings) readingWords list
+  unfolding settleAfter
+  readings-first rest list h =
+      front (read .readings) readingWords rest list
+      (words-length text (settleReadingsFrom text cursor) readingsName longestList mostWord ∙ sym (ap (λ (r : SettleRead). r .readings) e)) h
+
+  pub losses-first : (rest list : List ℕ) → list ≡ lossWords ++ rest → Front (read .losses) lossWords list
+  unfolding settleAfter
+  losses-first rest list h =
+      front (read .losses) lossWords rest list
+      (words-length text (settleLossesFrom text cursor) lossesName longestList mostWord ∙ sym (ap (λ (r : SettleRead). r .losses) e)) h
+
+  pub transfers-most : read .transfers ≤ longestList
+  transfers-most = rw e (settle-transfers-most text cursor)
+
+  pub settlement-made : (readings losses : List ℕ) (k : ℕ) → readings ≡ readingWords → losses ≡ lossWords → k ≡ read .transfers → settlementCallOf (read .month) readings losses (unwritten k) ≡ settlementCall text cursor
+  unfolding settlementCall
+  settlement-made readings losses k p q h =
+      rw (p, q, h) (ap (λ (w : SettleRead). settlementCallOf (w .month) readingWords lossWords (unwritten (w .transfers))) e)
+
+-- and of a kept ledger
+module _ (text : List ℕ) (cursor : Cursor) (read : LoadRead) (e : read ≡ loadAfter text cursor) where
+  abbrev presentWords : List ℕ
+  presentWords = listWords text (loadPresentFrom text cursor) presentName sectorPlaces 1
+
+  abbrev chargeWords : List ℤ
+  chargeWords = signedListWords text (loadChargesFrom text cursor) chargesName sectorPlaces
+
+  abbrev balanceWords : List ℤ
+  balanceWords = signedListWords text (loadBalancesFrom text cursor) balancesName mostDistributors
+
+  pub present-first : (rest list : List ℕ) → list ≡ presentWords ++ rest → Front (read .present) presentWords list
+  unfolding loadAfter
+  present-first rest list h =
+      front (read .present) presentWords rest list
+      (words-length text (loadPresentFrom text cursor) presentName sectorPlaces 1 ∙ sym (ap (λ (r : LoadRead). r .present) e)) h
+
+  pub charges-first : (rest list : List ℤ) → list ≡ chargeWords ++ rest → Front (read .charges) chargeWords list
+  unfolding loadAfter
+  charges-first rest list h =
+      front (read .charges) chargeWords rest list
+      (signed-words-length text (loadChargesFrom text cursor) chargesName sectorPlaces ∙ sym (ap (λ (r : LoadRead). r .charges) e)) h
+
+  pub balances-first : (rest list : List ℤ) → list ≡ balanceWords ++ rest → Front (read .balances) balanceWords list
+  unfolding loadAfter
+  balances-first rest list h =
+      front (read .balances) balanceWords rest list
+      (signed-words-length text (loadBalancesFrom text cursor) balancesName mostDistributors ∙ sym (ap (λ (r : LoadRead). r .balances) e)) h
+
+  pub ledger-kept : (present : List ℕ) (charges balances : List ℤ) → present ≡ presentWords → charges ≡ chargeWords → balances ≡ balanceWords → loadedLedger (read .n) (read .months) (read .last) (read .fixed) (read .month) present charges balances ≡ keptLedger text cursor
+  unfolding keptLedger
+  ledger-kept present charges balances p q r =
+      rw (p, q, r)
+      (ap (λ (w : LoadRead). loadedLedger (w .n) (w .months) (w .last) (w .fixed) (w .month) presentWords chargeWords balanceWords) e)
+
+-- every command reads on
+pub command-onward : (command : Command) (text : List ℕ) (cursor : Cursor) → cursor .at ≤ length text → Onward text cursor (commandNext command text cursor)
+command-onward Open text cursor p = onward-number text cursor p mostWord
+command-onward Fix text cursor p = onward-fix text cursor p
+command-onward Settle text cursor p = onward-settle text cursor p
+command-onward Save text cursor p = onward-same text cursor p
+command-onward Load text cursor p = onward-load text cursor p
+command-onward Unknown text cursor p = onward-same text cursor p
+command-onward End text cursor p = onward-same text cursor p
+
+-- a command's word ends past where it was sought
+module _ (text : List ℕ) (at : ℕ) (p : at < length text) where
+  abbrev start : ℕ
+  start = tokenStart text at
+
+  abbrev end : ℕ
+  end = tokenEnd text start
+
+  most : start ≤ length text
+  most = token-start-most text at (omega arith)
+
+  ends-later : Dec (start < length text) → at < end
+  ends-later (yes q) = omega (arith, token-start-least text at, token-some text at q)
+  ends-later (no q) = omega (arith, most, token-end-least text start)
+
+  word-by : (b : Bool) → cond b (brokenAt start) (readTo end) .broken ≡ false → at < cond b (brokenAt start) (readTo end) .at
+  word-by true h = absurd (false≢true (sym h))
+  word-by false h = ends-later (decLt start (length text))
+
+  word-later : commandAfter text at .next .broken ≡ false → at < commandAfter text at .next .at
+  unfolding commandAfter
+  word-later h = word-by (isUnknown (commandIn text start end)) h
+
+  module _ (book : Ledger) where
+    onward : Onward text (commandAfter text at .next) (stepAfter text at book .next)
+    unfolding stepAfter stepOf
+    onward = command-onward (commandAfter text at .command) text (commandAfter text at .next) (command-within text at (omega arith))
+
+    pub step-within : stepAfter text at book .next .at ≤ length text
+    step-within = onward .within
+
+    pub step-later : stepAfter text at book .next .broken ≡ false → at < stepAfter text at book .next .at
+    step-later h = omega (arith, word-later (onward .whole h), onward .later h)
+
+-- past the text no command is made
+pub replay-none : (left : ℕ) (text : List ℕ) (at : ℕ) (book : Ledger) → length text ≤ at → replayFrom left text at book ≡ book
+unfolding replayFrom
+replay-none zero text at book h = refl
+replay-none (suc left) text at book h = rw (le-ltb at (length text) h)
+
+-- as many commands as bytes are enough: one command, and those after it
+module _ (k m : ℕ) (text : List ℕ) (same : (at : ℕ) (book : Ledger) → length text - at ≤ k → length text - at ≤ m → replayFrom k text at book ≡ replayFrom m text at book) (at : ℕ) (book : Ledger) (p : length text - at ≤ suc k) (q : length text - at ≤ suc m) where
+  abbrev step : Step
+  step = stepAfter text at book
+
+  by : (b : Bool) → at < length text → step .next .broken ≡ b → cond b (step .ledger) (replayFrom k text (step .next .at) (step .ledger)) ≡ cond b (step .ledger) (replayFrom m text (step .next .at) (step .ledger))
+  by true h e = refl
+  by false h e =
+      same (step .next .at) (step .ledger) (omega (arith, step-later text at h book e)) (omega (arith, step-later text at h book e))
+
+  one-more : Dec (at < length text) → replayFrom (suc k) text at book ≡ replayFrom (suc m) text at book
+  unfolding replayFrom
+  one-more (yes h) = rw (lt-ltb at (length text) h) (by (step .next .broken) h refl)
+  one-more (no h) = rw (le-ltb at (length text) (omega arith))
+
+enough : (k m : ℕ) (text : List ℕ) (at : ℕ) (book : Ledger) → length text - at ≤ k → length text - at ≤ m → replayFrom k text at book ≡ replayFrom m text at book
+enough zero m text at book p q = replay-none zero text at book (omega arith) ∙ sym (replay-none m text at book (omega arith))
+enough (suc k) zero text at book p q = replay-none (suc k) text at book (omega arith) ∙ sym (replay-none zero text at book (omega arith))
+enough (suc k) (suc m) text at book p q = one-more k m text (λ a b r s. enough k m text a b r s) at book p q (decLt at (length text))
+
+-- one command on: the journal's ledger is that of the rest, or, where the command is broken, the ledger at hand
+module _ (text : List ℕ) (at : ℕ) (p : at < length text) (book : Ledger) (step : Step) (e : step ≡ stepAfter text at book) where
+  unrolled : replayFrom (length text - at) text at book ≡ replayFrom (suc (length text - (at + 1))) text at book
+  unrolled = ap (λ k. replayFrom k text at book) (omega arith)
+
+  pub next-within : step .next .at ≤ length text
+  next-within = rw e (step-within text at p book)
+
+  pub next-later : step .next .broken ≡ false → at < step .next .at
+  next-later = rw e (step-later text at p book)
+
+  pub replay-broken : step .next .broken ≡ true → replayFrom (length text - at) text at book ≡ step .ledger
+  unfolding replayFrom
+  replay-broken b = unrolled ∙ rw (lt-ltb at (length text) p, ← e, b)
+
+  pub replay-on : step .next .broken ≡ false → replayFrom (length text - at) text at book ≡ replayFrom (length text - step .next .at) text (step .next .at) (step .ledger)
+  unfolding replayFrom
+  replay-on b =
+      let later : at < step .next .at = next-later b in
+      unrolled
+      ∙ rw (lt-ltb at (length text) p, ← e, b)
+      (enough (length text - (at + 1)) (length text - step .next .at) text (step .next .at) (step .ledger) (omega arith) (omega arith))
+
+-- before any command the ledger is the all-zero one
+pub opened-none : openingOf 0 .ledger ≡ emptyLedger 0
+unfolding openingOf between
+opened-none = refl

@@ -1,0 +1,122 @@
+-- The lists hold the words of the text, and a command that is broken is not made.
+use mathlib.Core.Path.{_≡_, sym, _∙_, ap}
+use Prim.Native.Nat.{_≤_}
+use native.Mathlib.Omega.{arith}
+use lib.ListN.{length, take}
+use lib.Seq.{length-take-le}
+use Rattle.journal.specs.Cursor.{mostWord}
+use Rattle.journal.specs.List.{listWords}
+use Rattle.journal.specs.Command.{longestList, seriesName, linesName, sectorsName, fixSeriesFrom, fixLinesFrom, fixSectorsFrom}
+use Rattle.journal.specs.declared.command.Command.the-variants.{Fix}
+use Rattle.journal.specs.declared.command.FixRead.{FixRead}
+use Rattle.ledger.specs.Fix.{fixingLedger}
+use Rattle.numbers.proofs.ListLaws.{Front}
+use Rattle.commands.proofs.ReplayLaws.{step-broken, step-made, series-first, lines-first, sectors-first, prices-most, fixing-made}
+use borrow.Author.Needs.{needs}
+use Rattle.commands.proofs.run.run_fix.Statement.{statement}
+use Rattle.commands.proofs.run.run_fix.Tie as tie
+
+read-fix-requires : tie.Need-read-fix-requires
+read-fix-requires c κs = search needs
+
+same-length : tie.Need-same-length
+same-length c = search needs
+
+same-length-2 : tie.Need-same-length-2
+same-length-2 c = search needs
+
+same-length-3 : tie.Need-same-length-3
+same-length-3 c = search needs
+
+-- what was read stands first in the lists
+module _ (d : tie.After-read-fix) where
+  abbrev s : tie.Start
+  s = d .before .before .before .before .before .before .before .before
+
+  seriesRead : Front (d .read-fix .result .series) (listWords (s .args .text .now) (fixSeriesFrom (s .args .text .now) (s .args .cursor)) seriesName longestList mostWord) (d .read-fix .last .1 .1 .0)
+  seriesRead = series-first _ _ _ (d .read-fix .ensures .0) _ _ (d .read-fix .ensures .1 .0)
+
+  linesRead : Front (d .read-fix .result .lines) (listWords (s .args .text .now) (fixLinesFrom (s .args .text .now) (s .args .cursor)) linesName longestList mostWord) (d .read-fix .last .1 .1 .1 .0)
+  linesRead = lines-first _ _ _ (d .read-fix .ensures .0) _ _ (d .read-fix .ensures .1 .1 .0)
+
+  sectorsRead : Front (d .read-fix .result .sectors) (listWords (s .args .text .now) (fixSectorsFrom (s .args .text .now) (s .args .cursor)) sectorsName longestList mostWord) (d .read-fix .last .1 .1 .1 .1 .0)
+  sectorsRead = sectors-first _ _ _ (d .read-fix .ensures .0) _ _ (d .read-fix .ensures .1 .1 .1)
+
+  pricesLong : d .read-fix .result .prices ≤ length (s .args .prices .now)
+  pricesLong = omega (arith, prices-most _ _ (d .read-fix .result) (d .read-fix .ensures .0), s .pre .1 .1 .1 .1)
+
+returns : tie.Need-returns
+returns c =
+    step-broken Fix _ _ _ _ (ap (λ (r : FixRead). r .next) (c .before .before .before .before .before .before .before .before .read-fix .ensures .0)) (c .if1 .taken)
+
+slice-reshare-prefix-make-fixing : tie.Need-slice-reshare-prefix-make-fixing
+slice-reshare-prefix-make-fixing c = seriesRead (c .before .before .before .before .before .before .before .before) .long
+
+slice-aggregate-make-fixing : tie.Need-slice-aggregate-make-fixing
+slice-aggregate-make-fixing c = sym (length-take-le _ _ (seriesRead (c .before .before .before .before .before .before .before .before .before) .long))
+
+slice-reshare-prefix-make-fixing-2 : tie.Need-slice-reshare-prefix-make-fixing-2
+slice-reshare-prefix-make-fixing-2 c = linesRead (c .before .before .before .before .before .before .before .before .before) .long
+
+slice-aggregate-make-fixing-2 : tie.Need-slice-aggregate-make-fixing-2
+slice-aggregate-make-fixing-2 c = sym (length-take-le _ _ (linesRead (c .before .before .before .before .before .before .before .before .before .before) .long))
+
+slice-reshare-prefix-make-fixing-3 : tie.Need-slice-reshare-prefix-make-fixing-3
+slice-reshare-prefix-make-fixing-3 c = sectorsRead (c .before .before .before .before .before .before .before .before .before .before) .long
+
+slice-aggregate-make-fixing-3 : tie.Need-slice-aggregate-make-fixing-3
+slice-aggregate-make-fixing-3 c = sym (length-take-le _ _ (sectorsRead (c .before .before .before .before .before .before .before .before .before .before .before) .long))
+
+slice-relend-prefix-make-fixing : tie.Need-slice-relend-prefix-make-fixing
+slice-relend-prefix-make-fixing c = pricesLong (c .before .before .before .before .before .before .before .before .before .before .before)
+
+slice-aggregate-make-fixing-4 : tie.Need-slice-aggregate-make-fixing-4
+slice-aggregate-make-fixing-4 c = sym (length-take-le _ _ (pricesLong (c .before .before .before .before .before .before .before .before .before .before .before .before)))
+
+make-fixing-requires : tie.Need-make-fixing-requires
+make-fixing-requires c κs = search needs
+
+same-length-4 : tie.Need-same-length-4
+same-length-4 c = search needs
+
+same-length-5 : tie.Need-same-length-5
+same-length-5 c = search needs
+
+same-length-6 : tie.Need-same-length-6
+same-length-6 c = search needs
+
+same-length-7 : tie.Need-same-length-7
+same-length-7 c = search needs
+
+returns-2 : tie.Need-returns-2
+returns-2 c =
+    let d = c .before .before .before .before .before .before .before .before .before .before .before .before .before .before in
+    step-made Fix _ _ _ _ (ap (λ (r : FixRead). r .next) (d .read-fix .ensures .0)) (c .before .before .before .before .before .before .if1 .left) _
+    (c .before .make-fixing .ensures
+    ∙ ap (fixingLedger (s d .args .ledger))
+    (fixing-made _ _ (d .read-fix .result) (d .read-fix .ensures .0) _ _ _ _ (seriesRead d .first) (linesRead d .first) (sectorsRead d .first)
+    (length-take-le _ _ (pricesLong d))))
+
+pub run-fix-spec : {M : Type 1} → statement M
+run-fix-spec =
+    tie.close
+    (tie.spec
+    read-fix-requires
+    same-length
+    same-length-2
+    same-length-3
+    returns
+    slice-reshare-prefix-make-fixing
+    slice-aggregate-make-fixing
+    slice-reshare-prefix-make-fixing-2
+    slice-aggregate-make-fixing-2
+    slice-reshare-prefix-make-fixing-3
+    slice-aggregate-make-fixing-3
+    slice-relend-prefix-make-fixing
+    slice-aggregate-make-fixing-4
+    make-fixing-requires
+    same-length-4
+    same-length-5
+    same-length-6
+    same-length-7
+    returns-2)

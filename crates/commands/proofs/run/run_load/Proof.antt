@@ -1,0 +1,115 @@
+-- The lists hold the words of the text, and a command that is broken is not made.
+use mathlib.Core.Path.{_≡_, sym, _∙_, ap}
+use Prim.Native.Nat.{_≤_}
+use lib.Seq.{length-take-le}
+use Rattle.numbers.specs.Sizes.{mostDistributors, sectorPlaces}
+use Rattle.journal.specs.List.{listWords, signedListWords}
+use Rattle.journal.specs.Command.{presentName, chargesName, balancesName, loadPresentFrom, loadChargesFrom, loadBalancesFrom}
+use Rattle.journal.specs.declared.command.Command.the-variants.{Load}
+use Rattle.journal.specs.declared.command.LoadRead.{LoadRead}
+use Rattle.journal.proofs.CommandLaws.{load-present-most, load-charges-most, load-balances-most}
+use Rattle.numbers.proofs.ListLaws.{Front}
+use Rattle.commands.proofs.ReplayLaws.{step-broken, step-made, present-first, charges-first, balances-first, ledger-kept}
+use borrow.Author.Needs.{needs}
+use Rattle.commands.proofs.run.run_load.Statement.{statement}
+use Rattle.commands.proofs.run.run_load.Tie as tie
+
+slice-aggregate-read-load : tie.Need-slice-aggregate-read-load
+slice-aggregate-read-load c = search needs
+
+slice-aggregate-read-load-2 : tie.Need-slice-aggregate-read-load-2
+slice-aggregate-read-load-2 c = search needs
+
+slice-aggregate-read-load-3 : tie.Need-slice-aggregate-read-load-3
+slice-aggregate-read-load-3 c = search needs
+
+read-load-requires : tie.Need-read-load-requires
+read-load-requires c κs = search needs
+
+returns : tie.Need-returns
+returns c =
+    step-broken Load _ _ _ _ (ap (λ (r : LoadRead). r .next) (c .before .before .before .before .before .read-load .ensures .0)) (c .if1 .taken)
+
+-- what was read stands first in the lists
+module _ (d : tie.After-read-load) where
+  abbrev s : tie.Start
+  s = d .before .before .before .before .before
+
+  presences : Front (d .read-load .result .present) (listWords (s .args .text .now) (loadPresentFrom (s .args .text .now) (s .args .cursor)) presentName sectorPlaces 1) (d .read-load .last .1 .1 .0)
+  presences = present-first _ _ _ (d .read-load .ensures .0) _ _ (d .read-load .ensures .1 .0)
+
+  charged : Front (d .read-load .result .charges) (signedListWords (s .args .text .now) (loadChargesFrom (s .args .text .now) (s .args .cursor)) chargesName sectorPlaces) (d .read-load .last .1 .1 .1 .0)
+  charged = charges-first _ _ _ (d .read-load .ensures .0) _ _ (d .read-load .ensures .1 .1 .0)
+
+  balanced : Front (d .read-load .result .balances) (signedListWords (s .args .text .now) (loadBalancesFrom (s .args .text .now) (s .args .cursor)) balancesName mostDistributors) (d .read-load .last .1 .1 .1 .1 .0)
+  balanced = balances-first _ _ _ (d .read-load .ensures .0) _ _ (d .read-load .ensures .1 .1 .1)
+
+  few : (d .read-load .result .present ≤ sectorPlaces) × (d .read-load .result .charges ≤ sectorPlaces) × (d .read-load .result .balances ≤ mostDistributors)
+  few =
+      rw (d .read-load .ensures .0)
+      (load-present-most (s .args .text .now) (s .args .cursor), load-charges-most (s .args .text .now) (s .args .cursor), load-balances-most (s .args .text .now) (s .args .cursor))
+
+array-share-prefix-present : tie.Need-array-share-prefix-present
+array-share-prefix-present c = presences (c .before .before .before .before .before) .long
+
+slice-aggregate-load : tie.Need-slice-aggregate-load
+slice-aggregate-load c = sym (length-take-le _ _ (presences (c .before .before .before .before .before .before) .long))
+
+array-share-prefix-charges : tie.Need-array-share-prefix-charges
+array-share-prefix-charges c = charged (c .before .before .before .before .before .before) .long
+
+slice-aggregate-load-2 : tie.Need-slice-aggregate-load-2
+slice-aggregate-load-2 c = sym (length-take-le _ _ (charged (c .before .before .before .before .before .before .before) .long))
+
+array-share-prefix-balances : tie.Need-array-share-prefix-balances
+array-share-prefix-balances c = balanced (c .before .before .before .before .before .before .before) .long
+
+slice-aggregate-load-3 : tie.Need-slice-aggregate-load-3
+slice-aggregate-load-3 c = sym (length-take-le _ _ (balanced (c .before .before .before .before .before .before .before .before) .long))
+
+load-requires : tie.Need-load-requires
+load-requires c κs =
+    let d = c .before .before .before .before .before .before .before .before in (
+      rw (length-take-le (d .read-load .result .present) (d .read-load .last .1 .1 .0) (presences d .long)) (few d .0),
+      (
+        rw (length-take-le (d .read-load .result .charges) (d .read-load .last .1 .1 .1 .0) (charged d .long)) (few d .1),
+        rw (length-take-le (d .read-load .result .balances) (d .read-load .last .1 .1 .1 .1 .0) (balanced d .long)) (few d .2),
+      ),
+    )
+
+slice-aggregate-print-outcome : tie.Need-slice-aggregate-print-outcome
+slice-aggregate-print-outcome c = search needs
+
+print-outcome-requires : tie.Need-print-outcome-requires
+print-outcome-requires c κs = search needs
+
+end-line-requires : tie.Need-end-line-requires
+end-line-requires c κs = search needs
+
+returns-2 : tie.Need-returns-2
+returns-2 c =
+    let d = c .before .before .before .before .before .before .before .before .before .before .before .before in
+    step-made Load _ _ _ _ (ap (λ (r : LoadRead). r .next) (d .read-load .ensures .0)) (c .before .before .before .before .before .before .before .if1 .left) _
+    (c .before .before .before .load .ensures
+    ∙ ledger-kept _ _ (d .read-load .result) (d .read-load .ensures .0) _ _ _ (presences d .first) (charged d .first) (balanced d .first))
+
+pub run-load-spec : {M : Type 1} → statement M
+run-load-spec =
+    tie.close
+    (tie.spec
+    slice-aggregate-read-load
+    slice-aggregate-read-load-2
+    slice-aggregate-read-load-3
+    read-load-requires
+    returns
+    array-share-prefix-present
+    slice-aggregate-load
+    array-share-prefix-charges
+    slice-aggregate-load-2
+    array-share-prefix-balances
+    slice-aggregate-load-3
+    load-requires
+    slice-aggregate-print-outcome
+    print-outcome-requires
+    end-line-requires
+    returns-2)

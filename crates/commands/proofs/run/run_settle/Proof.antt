@@ -1,0 +1,103 @@
+-- The lists hold the words of the text, and a command that is broken is not made.
+use mathlib.Core.Path.{_≡_, sym, _∙_, ap}
+use Prim.Native.Nat.{_≤_}
+use native.Mathlib.Omega.{arith}
+use lib.ListN.{length, take}
+use lib.Seq.{length-take-le}
+use Rattle.journal.specs.Cursor.{mostWord}
+use Rattle.journal.specs.List.{listWords}
+use Rattle.journal.specs.Command.{longestList, readingsName, lossesName, settleReadingsFrom, settleLossesFrom}
+use Rattle.journal.specs.declared.command.Command.the-variants.{Settle}
+use Rattle.journal.specs.declared.command.SettleRead.{SettleRead}
+use Rattle.ledger.specs.Settle.{settlementLedger}
+use Rattle.numbers.proofs.ListLaws.{Front}
+use Rattle.commands.proofs.ReplayLaws.{step-broken, step-made, readings-first, losses-first, transfers-most, settlement-made}
+use borrow.Author.Needs.{needs}
+use Rattle.commands.proofs.run.run_settle.Statement.{statement}
+use Rattle.commands.proofs.run.run_settle.Tie as tie
+
+read-settle-requires : tie.Need-read-settle-requires
+read-settle-requires c κs = search needs
+
+same-length : tie.Need-same-length
+same-length c = search needs
+
+same-length-2 : tie.Need-same-length-2
+same-length-2 c = search needs
+
+-- what was read stands first in the lists
+module _ (d : tie.After-read-settle) where
+  abbrev s : tie.Start
+  s = d .before .before .before .before .before .before
+
+  readingsRead : Front (d .read-settle .result .readings) (listWords (s .args .text .now) (settleReadingsFrom (s .args .text .now) (s .args .cursor)) readingsName longestList mostWord) (d .read-settle .last .1 .1 .0)
+  readingsRead = readings-first _ _ _ (d .read-settle .ensures .0) _ _ (d .read-settle .ensures .1 .0)
+
+  lossesRead : Front (d .read-settle .result .losses) (listWords (s .args .text .now) (settleLossesFrom (s .args .text .now) (s .args .cursor)) lossesName longestList mostWord) (d .read-settle .last .1 .1 .1 .0)
+  lossesRead = losses-first _ _ _ (d .read-settle .ensures .0) _ _ (d .read-settle .ensures .1 .1)
+
+  transfersLong : d .read-settle .result .transfers ≤ length (s .args .transfers .now)
+  transfersLong = omega (arith, transfers-most _ _ (d .read-settle .result) (d .read-settle .ensures .0), s .pre .1 .1 .1)
+
+returns : tie.Need-returns
+returns c =
+    step-broken Settle _ _ _ _ (ap (λ (r : SettleRead). r .next) (c .before .before .before .before .before .before .read-settle .ensures .0)) (c .if1 .taken)
+
+slice-reshare-prefix-make-settlement : tie.Need-slice-reshare-prefix-make-settlement
+slice-reshare-prefix-make-settlement c = readingsRead (c .before .before .before .before .before .before) .long
+
+slice-aggregate-make-settlement : tie.Need-slice-aggregate-make-settlement
+slice-aggregate-make-settlement c = sym (length-take-le _ _ (readingsRead (c .before .before .before .before .before .before .before) .long))
+
+slice-reshare-prefix-make-settlement-2 : tie.Need-slice-reshare-prefix-make-settlement-2
+slice-reshare-prefix-make-settlement-2 c = lossesRead (c .before .before .before .before .before .before .before) .long
+
+slice-aggregate-make-settlement-2 : tie.Need-slice-aggregate-make-settlement-2
+slice-aggregate-make-settlement-2 c = sym (length-take-le _ _ (lossesRead (c .before .before .before .before .before .before .before .before) .long))
+
+slice-relend-prefix-make-settlement : tie.Need-slice-relend-prefix-make-settlement
+slice-relend-prefix-make-settlement c = transfersLong (c .before .before .before .before .before .before .before .before)
+
+slice-aggregate-make-settlement-3 : tie.Need-slice-aggregate-make-settlement-3
+slice-aggregate-make-settlement-3 c = sym (length-take-le _ _ (transfersLong (c .before .before .before .before .before .before .before .before .before)))
+
+make-settlement-requires : tie.Need-make-settlement-requires
+make-settlement-requires c κs = search needs
+
+same-length-3 : tie.Need-same-length-3
+same-length-3 c = search needs
+
+same-length-4 : tie.Need-same-length-4
+same-length-4 c = search needs
+
+same-length-5 : tie.Need-same-length-5
+same-length-5 c = search needs
+
+returns-2 : tie.Need-returns-2
+returns-2 c =
+    let d = c .before .before .before .before .before .before .before .before .before .before .before in
+    step-made Settle _ _ _ _ (ap (λ (r : SettleRead). r .next) (d .read-settle .ensures .0)) (c .before .before .before .before .before .if1 .left) _
+    (c .before .make-settlement .ensures
+    ∙ ap (settlementLedger (s d .args .ledger))
+    (settlement-made _ _ (d .read-settle .result) (d .read-settle .ensures .0) _ _ _ (readingsRead d .first) (lossesRead d .first)
+    (length-take-le _ _ (transfersLong d))))
+
+pub run-settle-spec : {M : Type 1} → statement M
+run-settle-spec =
+    tie.close
+    (tie.spec
+    read-settle-requires
+    same-length
+    same-length-2
+    returns
+    slice-reshare-prefix-make-settlement
+    slice-aggregate-make-settlement
+    slice-reshare-prefix-make-settlement-2
+    slice-aggregate-make-settlement-2
+    slice-relend-prefix-make-settlement
+    slice-aggregate-make-settlement-3
+    make-settlement-requires
+    same-length-3
+    same-length-4
+    same-length-5
+    returns-2)

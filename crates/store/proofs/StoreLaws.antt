@@ -1,0 +1,160 @@
+-- A ledger that is saved and loaded again is the same ledger, sound or not. Assumes nothing.
+use mathlib.Core.Path.{_≡_, refl, sym, _∙_, ap, ap₂}
+use mathlib.Core.Bool.{Bool, true, false, cond, not, _&&_}
+use mathlib.Core.List.{List}
+use Prim.Native.Nat.{ℕ, _*_, _<_, _≤_}
+use native.Mathlib.Omega.{arith}
+use native.Mathlib.Decide.{decLt}
+use lib.Dec.{leb, ltb}
+use lib.ListN.{length, getD, take}
+use lib.Seq.{ext-getD}
+use lib.IntN.{ℤ, pos}
+use borrow.Author.Tests.{le-ltb, leb-true}
+use Rattle.numbers.specs.Bounded.{allBelow, listBelow, filledBelow}
+use Rattle.numbers.specs.Units.{noMoney}
+use Rattle.numbers.specs.declared.units.Pesos.{Pesos}
+use Rattle.numbers.proofs.BoolLaws.{and-left, and-right}
+use Rattle.numbers.proofs.TestLaws.{all-at}
+use Rattle.numbers.proofs.ListLaws.{list-length, list-at, filled-length, filled-at, filled-past, Front, front}
+use Rattle.numbers.specs.Sizes.{mostDistributors, sectorCount, sectorPlaces}
+use Rattle.fixing.specs.declared.sector.SectorCharges.{SectorCharges}
+use Rattle.settlement.specs.Month.{moneyAt, moneyBelow}
+use Rattle.ledger.specs.Sound.{presentIn, chargeIn, isZero}
+use Rattle.ledger.specs.declared.book.Ledger.{Ledger}
+use Rattle.ledger.proofs.SoundFacts.{or-else, zero-is}
+use Rattle.store.specs.Store.{truthWord, wordTruth, placeTest, placeKept, balanceTest, balanceKept, keptCount, presentWords, chargeWords, balanceWords, Saved, loadedForce, loadedBalances, loadedLedger}
+
+-- a list that is filled with another's first k values is the other, where that is empty from there on
+pub filled-back : {A : Type 0} (size : ℕ) (empty : A) (k : ℕ) (f : ℕ → A) (l : List A) → length l ≡ size → ((j : ℕ) → j < k → j < size → f j ≡ getD l j empty) → ((j : ℕ) → k ≤ j → j < size → getD l j empty ≡ empty) → filledBelow size empty k f ≡ l
+filled-back size empty k f l e h past =
+    ext-getD empty _ l (filled-length size empty f k ∙ sym e)
+    (λ j p. at j (omega (arith, filled-length size empty f k)) (decLt j k))
+  where
+    at : (j : ℕ) → j < size → Dec (j < k) → getD (filledBelow size empty k f) j empty ≡ getD l j empty
+    at j q (yes p) = filled-at size empty f k j p q ∙ h j p q
+    at j q (no p) = filled-past size empty f k j (omega arith) q ∙ sym (past j (omega arith) q)
+
+-- a truth is its word's
+pub truth-back : (b : Bool) → wordTruth (truthWord b) ≡ b
+unfolding wordTruth
+truth-back true = refl
+truth-back false = refl
+
+-- what is known where fewer than all words are kept
+record Kept (book : Ledger) : Type 0 where
+  few : book .n ≤ mostDistributors
+  places : (k : ℕ) → k < sectorPlaces → placeKept (book .n) (book .force) k ≡ true
+  balances : (i : ℕ) → i < mostDistributors → balanceKept (book .n) (book .balances) i ≡ true
+
+module _ (book : Ledger) where
+  abbrev emptyPast : Bool
+  emptyPast =
+      leb (book .n) mostDistributors
+      && (allBelow sectorPlaces (placeKept (book .n) (book .force))
+      && allBelow mostDistributors (balanceKept (book .n) (book .balances)))
+
+  kept-facts : emptyPast ≡ true → Kept book
+  kept-facts e =
+      let rest = and-right (leb (book .n) mostDistributors) _ e in
+      record {
+        few = leb-true (book .n) mostDistributors (and-left (leb (book .n) mostDistributors) _ e);
+        places = all-at sectorPlaces (placeKept (book .n) (book .force)) (and-left _ (allBelow mostDistributors (balanceKept (book .n) (book .balances))) rest);
+        balances = all-at mostDistributors (balanceKept (book .n) (book .balances)) (and-right (allBelow sectorPlaces (placeKept (book .n) (book .force))) _ rest);
+      }
+
+  -- at most all are kept; where fewer are, they are those of n, and what is past them is empty
+  kept-by : (b : Bool) → emptyPast ≡ b → cond b (book .n) mostDistributors ≤ mostDistributors
+  kept-by true e = kept-facts e .few
+  kept-by false e = omega arith
+
+  pub kept-most : keptCount book ≤ mostDistributors
+  unfolding keptCount
+  kept-most = kept-by emptyPast refl
+
+  fewer-by : (b : Bool) → emptyPast ≡ b → cond b (book .n) mostDistributors < mostDistributors → (cond b (book .n) mostDistributors ≡ book .n) × Kept book
+  fewer-by true e p = (refl, kept-facts e)
+  fewer-by false e p = absurd (omega arith)
+
+  fewer : keptCount book < mostDistributors → (keptCount book ≡ book .n) × Kept book
+  unfolding keptCount
+  fewer p = fewer-by emptyPast refl p
+
+  empty-place : (k : ℕ) → keptCount book * sectorCount ≤ k → k < sectorPlaces → (not (presentIn (book .force) k) && isZero (chargeIn (book .force) k)) ≡ true
+  unfolding placeKept placeTest
+  empty-place k p q =
+      let f = fewer (omega arith) in
+      or-else (ltb k (book .n * sectorCount)) _ (f .1 .places k q) (le-ltb k (book .n * sectorCount) (omega (arith, f .0)))
+
+  not-present : (b : Bool) → not b ≡ true → b ≡ false
+  not-present false e = refl
+  not-present true e = sym e
+
+  pub absent-past : (k : ℕ) → keptCount book * sectorCount ≤ k → k < sectorPlaces → presentIn (book .force) k ≡ false
+  absent-past k p q = not-present _ (and-left (not (presentIn (book .force) k)) _ (empty-place k p q))
+
+  pub uncharged-past : (k : ℕ) → keptCount book * sectorCount ≤ k → k < sectorPlaces → chargeIn (book .force) k ≡ pos 0
+  uncharged-past k p q = zero-is _ (and-right (not (presentIn (book .force) k)) _ (empty-place k p q))
+
+  pub balanced-past : (i : ℕ) → keptCount book ≤ i → i < mostDistributors → moneyAt (book .balances) i ≡ pos 0
+  unfolding balanceKept balanceTest
+  balanced-past i p q =
+      let f = fewer (omega arith) in
+      zero-is _ (or-else (ltb i (book .n)) _ (f .1 .balances i q) (le-ltb i (book .n) (omega (arith, f .0))))
+
+  abbrev places : ℕ
+  places = keptCount book * sectorCount
+
+  present-back : length (book .force .present) ≡ sectorPlaces → filledBelow sectorPlaces false (length (presentWords (book .force) places)) (λ k. wordTruth (getD (presentWords (book .force) places) k 0)) ≡ book .force .present
+  unfolding presentWords
+  present-back e =
+      let w : ℕ → ℕ = λ j. truthWord (presentIn (book .force) j) in
+      rw (list-length w places)
+      (filled-back sectorPlaces false places _ (book .force .present) e
+      (λ j p q. ap wordTruth (list-at w places 0 j p) ∙ truth-back _)
+      absent-past)
+
+  charges-back : length (book .force .charges) ≡ sectorPlaces → filledBelow sectorPlaces (pos 0) (length (chargeWords (book .force) places)) (λ k. getD (chargeWords (book .force) places) k (pos 0)) ≡ book .force .charges
+  unfolding chargeWords
+  charges-back e =
+      rw (list-length (chargeIn (book .force)) places)
+      (filled-back sectorPlaces (pos 0) places _ (book .force .charges) e
+      (λ j p q. list-at (chargeIn (book .force)) places (pos 0) j p)
+      uncharged-past)
+
+  balances-back : length (book .balances) ≡ mostDistributors → loadedBalances (balanceWords (book .balances) (keptCount book)) ≡ book .balances
+  unfolding loadedBalances balanceWords moneyBelow
+  balances-back e =
+      rw (list-length (moneyAt (book .balances)) (keptCount book))
+      (filled-back mostDistributors noMoney (keptCount book) _ (book .balances) e
+      (λ i p q. ap (λ (z : ℤ). money z) (list-at (moneyAt (book .balances)) (keptCount book) (pos 0) i p))
+      (λ i p q. ap (λ (z : ℤ). money z) (balanced-past i p q)))
+    where
+      money : ℤ → Pesos
+      money z = record { 0 = z }
+
+  -- "what `save` prints, `load` takes back as the same ledger"
+  pub loaded-back : length (book .force .present) ≡ sectorPlaces → length (book .force .charges) ≡ sectorPlaces → length (book .balances) ≡ mostDistributors → loadedLedger (book .n) (book .months) (book .last) (truthWord (book .fixed)) (book .month) (presentWords (book .force) places) (chargeWords (book .force) places) (balanceWords (book .balances) (keptCount book)) ≡ book
+  unfolding loadedLedger loadedForce
+  loaded-back p q r = rw (truth-back (book .fixed), present-back p, charges-back q, balances-back r)
+
+-- what is saved stands first in the lent lists
+module _ (book : Ledger) (count : ℕ) (present₀ present : List ℕ) (charges₀ charges balances₀ balances : List ℤ) (s : Saved book count present₀ present charges₀ charges balances₀ balances) where
+  pub saved-few : count ≤ mostDistributors
+  saved-few = rw (s .counted) (kept-most book)
+
+  pub present-first : Front (count * sectorCount) (presentWords (book .force) (count * sectorCount)) present
+  unfolding presentWords
+  present-first = front (count * sectorCount) _ _ present (list-length _ (count * sectorCount)) (s .presences)
+
+  pub charges-first : Front (count * sectorCount) (chargeWords (book .force) (count * sectorCount)) charges
+  unfolding chargeWords
+  charges-first = front (count * sectorCount) _ _ charges (list-length _ (count * sectorCount)) (s .charged)
+
+  pub balances-first : Front count (balanceWords (book .balances) count) balances
+  unfolding balanceWords
+  balances-first = front count _ _ balances (list-length _ count) (s .balanced)
+
+  -- and is loaded as the ledger that was saved
+  pub saved-back : length (book .force .present) ≡ sectorPlaces → length (book .force .charges) ≡ sectorPlaces → length (book .balances) ≡ mostDistributors → loadedLedger (book .n) (book .months) (book .last) (truthWord (book .fixed)) (book .month) (take (count * sectorCount) present) (take (count * sectorCount) charges) (take count balances) ≡ book
+  saved-back p q r =
+      rw (present-first .first, charges-first .first, balances-first .first, s .counted) (loaded-back book p q r)

@@ -1,0 +1,119 @@
+-- What is saved is loaded as the same ledger.
+use mathlib.Core.Path.{_≡_, sym, _∙_, ap}
+use mathlib.Core.List.{List, map}
+use Prim.Native.Nat.{ℕ, _*_, _≤_}
+use native.Mathlib.Omega.{arith}
+use lib.IntN.{ℤ}
+use lib.ListN.{length, take, length-map}
+use lib.Seq.{length-take-le}
+use Rattle.ledger.specs.declared.book.Ledger.{Ledger}
+use Rattle.store.specs.Store.{presentWords, chargeWords, balanceWords, loadedLedger}
+use Rattle.numbers.proofs.ListLaws.{Front}
+use Rattle.store.proofs.StoreLaws.{saved-few, present-first, charges-first, balances-first, saved-back}
+use borrow.Author.Needs.{needs}
+use Rattle.store.proofs.load.reload.Statement.{statement}
+use Rattle.store.proofs.load.reload.Tie as tie
+
+save-requires : tie.Need-save-requires
+save-requires c κs = search needs
+
+-- a list is as long as its image
+mapped : (A B : Type 0) (f : A → B) (l : List A) (n : ℕ) → length (map f l) ≡ n → length l ≡ n
+mapped A B f l n e = sym (length-map l f) ∙ e
+
+-- a ledger's lists have their lengths
+module _ (c : tie.Start) where
+  all-present : length (c .args .ledger .force .present) ≡ 320
+  all-present = search needs
+
+  all-charges : length (c .args .ledger .force .charges) ≡ 320
+  all-charges = search needs
+
+  all-balances : length (c .args .ledger .balances) ≡ 40
+  all-balances = search (needs, mapped)
+
+module _ (c : tie.After-save) where
+  few : c .save .result ≤ 40
+  few = saved-few _ _ _ _ _ _ _ _ (c .save .ensures)
+
+  abbrev book : Ledger
+  book = c .before .before .before .before .before .args .ledger
+
+  presences : Front (c .save .result * 8) (presentWords (book .force) (c .save .result * 8)) (c .save .last .1 .0)
+  presences = present-first _ _ _ _ _ _ _ _ (c .save .ensures)
+
+  charged : Front (c .save .result * 8) (chargeWords (book .force) (c .save .result * 8)) (c .save .last .1 .1 .0)
+  charged = charges-first _ _ _ _ _ _ _ _ (c .save .ensures)
+
+  balanced : Front (c .save .result) (balanceWords (book .balances) (c .save .result)) (c .save .last .1 .1 .1 .0)
+  balanced = balances-first _ _ _ _ _ _ _ _ (c .save .ensures)
+
+mul-places : tie.Need-mul-places
+mul-places c = omega (arith, few (c .before .before .before .before))
+
+truth-word-requires : tie.Need-truth-word-requires
+truth-word-requires c κs = search needs
+
+slice-reshare-prefix-load : tie.Need-slice-reshare-prefix-load
+slice-reshare-prefix-load c = presences (c .before .before .before .before .before) .long
+
+slice-aggregate-load : tie.Need-slice-aggregate-load
+slice-aggregate-load c = sym (length-take-le _ _ (presences (c .before .before .before .before .before .before) .long))
+
+slice-reshare-prefix-load-2 : tie.Need-slice-reshare-prefix-load-2
+slice-reshare-prefix-load-2 c = charged (c .before .before .before .before .before .before) .long
+
+slice-aggregate-load-2 : tie.Need-slice-aggregate-load-2
+slice-aggregate-load-2 c = sym (length-take-le _ _ (charged (c .before .before .before .before .before .before .before) .long))
+
+slice-reshare-prefix-load-3 : tie.Need-slice-reshare-prefix-load-3
+slice-reshare-prefix-load-3 c = balanced (c .before .before .before .before .before .before .before) .long
+
+slice-aggregate-load-3 : tie.Need-slice-aggregate-load-3
+slice-aggregate-load-3 c = sym (length-take-le _ _ (balanced (c .before .before .before .before .before .before .before .before) .long))
+
+load-requires : tie.Need-load-requires
+load-requires c κs =
+    let d = c .before .before .before .before .before .before .before .before in (
+      rw (length-take-le (d .save .result * 8) (d .save .last .1 .0) (presences d .long)) (omega (arith, few d)),
+      (
+        rw (length-take-le (d .save .result * 8) (d .save .last .1 .1 .0) (charged d .long)) (omega (arith, few d)),
+        rw (length-take-le (d .save .result) (d .save .last .1 .1 .1 .0) (balanced d .long)) (omega (arith, few d)),
+      ),
+    )
+
+same-length : tie.Need-same-length
+same-length c = search needs
+
+same-length-2 : tie.Need-same-length-2
+same-length-2 c = search needs
+
+same-length-3 : tie.Need-same-length-3
+same-length-3 c = search needs
+
+returns : tie.Need-returns
+returns c =
+    let d = c .before .before .before .before .before .before .before .before .before in
+    let s = d .before .before .before .before .before in
+    c .load .ensures
+    ∙ ap (λ w. loadedLedger (book d .n) (book d .months) (book d .last) w (book d .month) (take (d .save .result * 8) (d .save .last .1 .0)) (take (d .save .result * 8) (d .save .last .1 .1 .0)) (take (d .save .result) (d .save .last .1 .1 .1 .0))) (c .before .before .before .before .truth-word .ensures)
+    ∙ saved-back _ _ _ _ _ _ _ _ (d .save .ensures) (all-present s) (all-charges s) (all-balances s)
+
+pub reload-spec : {M : Type 1} → statement M
+reload-spec =
+    tie.close
+    (tie.spec
+    save-requires
+    mul-places
+    truth-word-requires
+    slice-reshare-prefix-load
+    slice-aggregate-load
+    slice-reshare-prefix-load-2
+    slice-aggregate-load-2
+    slice-reshare-prefix-load-3
+    slice-aggregate-load-3
+    load-requires
+    same-length
+    same-length-2
+    same-length-3
+    returns)

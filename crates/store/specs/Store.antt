@@ -1,0 +1,87 @@
+-- Kept ledgers (../shared/JOURNAL.md, `save` and `load`): a ledger as words, and words as a ledger. Assumes nothing.
+use mathlib.Core.Bool.{Bool, true, false, cond, not, _&&_, _||_}
+use mathlib.Core.Path.{_≡_}
+use mathlib.Core.List.{List, _++_}
+use Prim.Native.Nat.{ℕ, _*_}
+use lib.Dec.{leb, ltb, eqb}
+use lib.ListN.{length, getD, drop}
+use lib.IntN.{ℤ, pos}
+use Rattle.numbers.specs.Bounded.{allBelow, listBelow, filledBelow}
+use Rattle.numbers.specs.declared.units.Pesos.{Pesos}
+use Rattle.numbers.specs.Sizes.{mostDistributors, sectorCount, sectorPlaces}
+use Rattle.fixing.specs.declared.sector.SectorCharges.{SectorCharges}
+use Rattle.settlement.specs.Month.{moneyAt, moneyBelow}
+use Rattle.ledger.specs.Sound.{presentIn, chargeIn, isZero}
+use Rattle.ledger.specs.declared.book.Ledger.{Ledger}
+
+-- "FIXED and the words of `present` are 0 or 1"
+abbrev pub truthWord : Bool → ℕ
+truthWord true = 1
+truthWord false = 0
+
+unfoldable pub wordTruth : ℕ → Bool
+wordTruth word = not (eqb word 0)
+
+-- whether a sector's place is one of n distributors', or empty
+unfoldable pub placeTest : ℕ → Bool → ℤ → ℕ → Bool
+placeTest n present charge k = ltb k (n * sectorCount) || (not present && isZero charge)
+
+unfoldable pub placeKept : ℕ → SectorCharges → ℕ → Bool
+placeKept n force k = placeTest n (presentIn force k) (chargeIn force k) k
+
+-- whether a balance is one of n distributors', or zero
+unfoldable pub balanceTest : ℕ → ℤ → ℕ → Bool
+balanceTest n balance i = ltb i n || isZero balance
+
+unfoldable pub balanceKept : ℕ → List Pesos → ℕ → Bool
+balanceKept n balances i = balanceTest n (moneyAt balances i) i
+
+-- "where N is above 40 or a word past N is not zero, all 320, 320 and 40": for how many distributors words are kept
+unfoldable pub keptCount : Ledger → ℕ
+keptCount book =
+    cond
+    (leb (book .n) mostDistributors
+    && (allBelow sectorPlaces (placeKept (book .n) (book .force))
+    && allBelow mostDistributors (balanceKept (book .n) (book .balances))))
+    (book .n)
+    mostDistributors
+
+-- the words of `present`, `charges` and `balances`, the first k
+unfoldable pub presentWords : SectorCharges → ℕ → List ℕ
+presentWords force k = listBelow k (λ j. truthWord (presentIn force j))
+
+unfoldable pub chargeWords : SectorCharges → ℕ → List ℤ
+chargeWords force k = listBelow k (chargeIn force)
+
+unfoldable pub balanceWords : List Pesos → ℕ → List ℤ
+balanceWords balances k = listBelow k (moneyAt balances)
+
+-- what `save` writes into lent lists of 320, 320 and 40 words, and how many distributors' words these are
+pub record Saved (book : Ledger) (count : ℕ) (present₀ present : List ℕ) (charges₀ charges balances₀ balances : List ℤ) : Type 0 where
+  pub counted : count ≡ keptCount book
+  pub presences : present ≡ presentWords (book .force) (count * sectorCount) ++ drop (count * sectorCount) present₀
+  pub charged : charges ≡ chargeWords (book .force) (count * sectorCount) ++ drop (count * sectorCount) charges₀
+  pub balanced : balances ≡ balanceWords (book .balances) count ++ drop count balances₀
+
+-- "`load` sets the ledger as given, sound or not, parts not given being zero"
+unfoldable pub loadedForce : List ℕ → List ℤ → SectorCharges
+loadedForce present charges =
+    record {
+      present = filledBelow sectorPlaces false (length present) (λ k. wordTruth (getD present k 0));
+      charges = filledBelow sectorPlaces (pos 0) (length charges) (λ k. getD charges k (pos 0));
+    }
+
+unfoldable pub loadedBalances : List ℤ → List Pesos
+loadedBalances balances = moneyBelow (length balances) (λ i. getD balances i (pos 0))
+
+unfoldable pub loadedLedger : ℕ → ℕ → ℕ → ℕ → ℕ → List ℕ → List ℤ → List ℤ → Ledger
+loadedLedger n months last fixed month present charges balances =
+    record {
+      n = n;
+      months = months;
+      last = last;
+      fixed = wordTruth fixed;
+      month = month;
+      force = loadedForce present charges;
+      balances = loadedBalances balances;
+    }

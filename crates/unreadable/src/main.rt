@@ -1,0 +1,134 @@
+// Journals that cannot be read, one of each kind of error: what was read before the error stands as printed.
+ghost use mathlib.Core.Path.{_≡_};
+ghost use lib.ListN.{length};
+use commands::run::replay;
+use libc::STDOUT_FILENO;
+
+// Replays a journal under a title.
+fn report(title: &[u8], text: &[u8]) {
+    io::write_all(STDOUT_FILENO, b"# ");
+    io::write_all(STDOUT_FILENO, title);
+    io::write_all(STDOUT_FILENO, b"\n");
+    replay(text);
+}
+
+// Replays the first bytes of a text under a title.
+fn report_first(title: &[u8], text: &[u8], count: usize) {
+    if count <= text.len() {
+        report(title, &text[..count]);
+    }
+}
+
+// Words.
+fn words() {
+    report(b"an unknown word", b"open 3\nopne 3\n");
+    report(b"a word that goes on", b"opened 3\n");
+    report(b"a number for a word", b"open 3\n3\n");
+    report(
+        b"a list by another's name",
+        b"settle 0 losses 0 readings 0 transfers 0\n",
+    );
+    report(b"a comment in a word", b"op#en\n");
+}
+
+// Numbers.
+fn numbers() {
+    report(b"a missing number", b"open\n");
+    report(b"a malformed number", b"open 3x\n");
+    report(
+        b"the largest number of 64 bits",
+        b"open 18446744073709551615\n",
+    );
+    report(b"a number past 64 bits", b"open 18446744073709551616\n");
+    report(b"a sign where none may stand", b"open -3\n");
+    report(
+        b"a sign without digits",
+        b"load 1 0 0 0 0 present 0 charges 1 - balances 0\n",
+    );
+    report(
+        b"the least signed number",
+        b"load 1 0 0 0 0 present 0 charges 1 -9223372036854775808 balances 0\nsave\n",
+    );
+    report(
+        b"one below it",
+        b"load 1 0 0 0 0 present 0 charges 1 -9223372036854775809 balances 0\n",
+    );
+    report(
+        b"one above the largest",
+        b"load 1 0 0 0 0 present 0 charges 0 balances 1 9223372036854775808\n",
+    );
+    report(
+        b"FIXED of 2",
+        b"load 1 0 0 2 0 present 0 charges 0 balances 0\n",
+    );
+    report(
+        b"a presence of 2",
+        b"load 1 0 0 1 0 present 3 0 1 2 charges 0 balances 0\n",
+    );
+}
+
+// Lists.
+fn lists() {
+    report(
+        b"a list too long",
+        b"open 3\nfix 0 1 1 0 series 8193 1 2 3\n",
+    );
+    report(
+        b"a lent list too long",
+        b"settle 0 readings 0 losses 0 transfers 8193\n",
+    );
+    report(
+        b"the longest lent list",
+        b"settle 0 readings 0 losses 0 transfers 8192\n",
+    );
+    report(
+        b"321 presences",
+        b"load 1 0 0 0 0 present 321 charges 0 balances 0\n",
+    );
+    report(
+        b"321 charges",
+        b"load 1 0 0 0 0 present 0 charges 321 balances 0\n",
+    );
+    report(
+        b"41 balances",
+        b"load 1 0 0 0 0 present 0 charges 0 balances 41\n",
+    );
+    report(
+        b"a list that ends too early",
+        b"open 3\nsettle 0 readings 3 1 2",
+    );
+    report(
+        b"a list with a word in it",
+        b"settle 0 readings 3 1 2 losses 0 transfers 0\n",
+    );
+}
+
+// One blank more than the longest text.
+fn blanks() -> [u8; 524289]
+    ensures { λ r. ⌜ 524289 ≡ length r ⌝ }
+{
+    [b' '; 524289]
+}
+
+// Texts.
+fn texts() {
+    report(b"an empty text", b"");
+    report(b"blanks alone", b" \t\r\n");
+    report(
+        b"a comment at the end without a line end",
+        b"open 3 # three",
+    );
+    report(b"a comment that ends a token", b"open 3#three\nsave");
+    report(b"a carriage return", b"open 3\r\nsave\r\n");
+    report(b"an error in a comment", b"# opne 3\nopen 41\nsave");
+    let long = blanks();
+    report(b"a text too long", &long);
+    report_first(b"the longest text", &long, 524288);
+}
+
+fn main() {
+    words();
+    numbers();
+    lists();
+    texts();
+}
