@@ -12,6 +12,7 @@ use crate::call::make_opening;
 use crate::call::make_saving;
 use crate::call::make_settlement;
 use journal::command::Command;
+use journal::command::MOST_WORD;
 use journal::command::next_command;
 use journal::command::read_fix;
 use journal::command::read_load;
@@ -27,8 +28,6 @@ use text::print_named;
 
 // The longest journal, in bytes.
 const LONGEST_TEXT: usize = 524288;
-
-const MOST_WORD: u64 = 18446744073709551615;
 
 // The ledger after a command, and how far the text is read.
 pub struct Step {

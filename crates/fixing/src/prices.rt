@@ -1,5 +1,5 @@
 // The call on averages and energies alone: limit, surcharge, rounds, residue and final prices of 1 to 40
-// distributors. It has no lines and no ledger in it.
+// distributors; and their charges. It has no lines and no ledger in it.
 ghost use mathlib.Core.Path.{_≡_};
 ghost use Prim.Native.Nat.{ℕ, _+_, _*_, _<_, _≤_, min};
 ghost use lib.ListN.{getD, replicate};

@@ -21,7 +21,7 @@ use crate::word::is_word;
 pub const LONGEST_LIST: u64 = 8192;
 
 // The largest number of 64 bits.
-const MOST_WORD: u64 = 18446744073709551615;
+pub const MOST_WORD: u64 = 18446744073709551615;
 
 pub enum Command {
     Open,
