@@ -8,6 +8,8 @@ were worked with it."""
 import re
 import sys
 
+sys.set_int_max_str_digits(0)
+
 
 def half_up(a, b):
     assert a >= 0 and b > 0
@@ -245,7 +247,7 @@ def settle(book, month, readings, losses, out):
     return 0, new, transfers
 
 
-# A journal of calls (the text form that `replay` will read), answered by the model.
+# A journal of calls (the text form that `replay` reads), answered by the model.
 MOST_BYTES, MOST_WORDS = 524_288, 8_192
 
 

@@ -3,17 +3,19 @@
 use mathlib.Core.Path.{_≡_, refl, sym, _∙_, ap}
 use mathlib.Core.Bool.{Bool, true, false, cond, false≢true}
 use mathlib.Core.List.{List, _++_}
-use Prim.Native.Nat.{ℕ, zero, suc, _+_, _-_, _<_, _≤_}
+use Prim.Native.Nat.{ℕ, zero, suc, _+_, _-_, _^_, _<_, _≤_}
 use native.Mathlib.Omega.{arith}
 use native.Mathlib.Decide.{decLt}
-use lib.Dec.{ltb}
-use lib.ListN.{length, take}
-use lib.IntN.{ℤ}
-use borrow.Author.Tests.{lt-ltb, le-ltb}
+use lib.Dec.{ltb, eqb}
+use lib.ListN.{length}
+use lib.IntN.{ℤ, pos, negsuc}
+use mir.Syntax.{w64}
+use mir.Val.{SFits, ofZ}
+use borrow.Author.Tests.{lt-ltb, le-ltb, ne-eqb}
 use Rattle.numbers.specs.Sizes.{mostDistributors, sectorPlaces}
 use Rattle.journal.specs.Token.{tokenStart, tokenEnd}
 use Rattle.journal.specs.Cursor.{readTo, brokenAt, mostWord, Onward}
-use Rattle.journal.specs.List.{listAfter, listWords, signedListAfter, signedListWords}
+use Rattle.journal.specs.List.{listWords, signedListWords}
 use Rattle.journal.specs.Command.{longestList, seriesName, linesName, sectorsName, readingsName, lossesName, presentName, chargesName, balancesName, isUnknown, commandIn, commandAfter}
 use Rattle.journal.specs.Command.{fixSeriesFrom, fixLinesFrom, fixSectorsFrom, fixAfter, settleReadingsFrom, settleLossesFrom, settleAfter, loadPresentFrom, loadChargesFrom, loadBalancesFrom, loadAfter}
 use Rattle.journal.specs.declared.cursor.Cursor.{Cursor}
@@ -27,16 +29,15 @@ use Rattle.journal.proofs.TokenLaws.{token-start-least, token-start-most, token
 use Rattle.journal.proofs.CursorLaws.{onward-same, onward-number}
 use Rattle.journal.proofs.ListLaws.{words-length, signed-words-length}
 use Rattle.journal.proofs.CommandLaws.{command-within, onward-fix, onward-settle, onward-load, fix-prices-most, settle-transfers-most}
+use Rattle.numbers.specs.Signed.{isNegative}
 use Rattle.numbers.specs.Units.{between}
 use Rattle.ledger.specs.Ledger.{emptyLedger, openingOf}
-use Rattle.ledger.specs.Fix.{FixingCall}
 use Rattle.ledger.specs.Fix.{callOf as fixingCallOf}
-use Rattle.ledger.specs.Settle.{SettlementCall}
 use Rattle.ledger.specs.Settle.{callOf as settlementCallOf}
 use Rattle.ledger.specs.declared.book.Ledger.{Ledger}
 use Rattle.store.specs.Store.{loadedLedger}
 use Rattle.numbers.proofs.ListLaws.{Front, front}
-use Rattle.commands.specs.Replay.{unwritten, fixingCall, settlementCall, keptLedger, commandNext, commandLedger, stepOf, stepAfter, replayFrom}
+use Rattle.commands.specs.Replay.{unwritten, fixingCall, settlementCall, keptLedger, commandNext, commandLedger, stepOf, stepAfter, readWith, replayFrom, isUnwritten}
 use Rattle.commands.specs.declared.run.Step.{Step}
 
 abbrev pub stepBy : Ledger → Cursor → Step
@@ -228,7 +229,7 @@ module _ (text : List ℕ) (at : ℕ) (p : at < length text) where
     step-later h = omega (arith, word-later (onward .whole h), onward .later h)
 
 -- past the text no command is made
-pub replay-none : (left : ℕ) (text : List ℕ) (at : ℕ) (book : Ledger) → length text ≤ at → replayFrom left text at book ≡ book
+pub replay-none : (left : ℕ) (text : List ℕ) (at : ℕ) (book : Ledger) → length text ≤ at → replayFrom left text at book ≡ readWith book at
 unfolding replayFrom
 replay-none zero text at book h = refl
 replay-none (suc left) text at book h = rw (le-ltb at (length text) h)
@@ -238,7 +239,7 @@ module _ (k m : ℕ) (text : List ℕ) (same : (at : ℕ) (book : Ledger) → le
   abbrev step : Step
   step = stepAfter text at book
 
-  by : (b : Bool) → at < length text → step .next .broken ≡ b → cond b (step .ledger) (replayFrom k text (step .next .at) (step .ledger)) ≡ cond b (step .ledger) (replayFrom m text (step .next .at) (step .ledger))
+  by : (b : Bool) → at < length text → step .next .broken ≡ b → cond b step (replayFrom k text (step .next .at) (step .ledger)) ≡ cond b step (replayFrom m text (step .next .at) (step .ledger))
   by true h e = refl
   by false h e =
       same (step .next .at) (step .ledger) (omega (arith, step-later text at h book e)) (omega (arith, step-later text at h book e))
@@ -264,7 +265,7 @@ module _ (text : List ℕ) (at : ℕ) (p : at < length text) (book : Ledger) (st
   pub next-later : step .next .broken ≡ false → at < step .next .at
   next-later = rw e (step-later text at p book)
 
-  pub replay-broken : step .next .broken ≡ true → replayFrom (length text - at) text at book ≡ step .ledger
+  pub replay-broken : step .next .broken ≡ true → replayFrom (length text - at) text at book ≡ step
   unfolding replayFrom
   replay-broken b = unrolled ∙ rw (lt-ltb at (length text) p, ← e, b)
 
@@ -280,3 +281,11 @@ module _ (text : List ℕ) (at : ℕ) (p : at < length text) (book : Ledger) (st
 pub opened-none : openingOf 0 .ledger ≡ emptyLedger 0
 unfolding openingOf between
 opened-none = refl
+
+-- a word's bits are those of -1 where it is -1
+pub unwritten-bits : (z : ℤ) → SFits w64 z → eqb (ofZ w64 z) 18446744073709551615 ≡ isUnwritten z
+unfolding isUnwritten isNegative
+unwritten-bits (pos n) f = ne-eqb n 18446744073709551615 (λ e. omega (arith, f .sfits))
+unwritten-bits (negsuc zero) f = refl
+unwritten-bits (negsuc (suc n)) f =
+    ne-eqb (2 ^ 64 - suc (suc n)) 18446744073709551615 (λ e. omega (arith, f .sfits)) ∙ sym (ne-eqb (suc (suc n)) 1 (λ e. omega arith))

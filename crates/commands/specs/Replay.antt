@@ -1,14 +1,15 @@
--- What a journal does to the ledger (../shared/JOURNAL.md): each command is the call of the words that its text holds.
+-- What a journal does to the ledger (docs/JOURNAL.md): each command is the call of the words that its text holds.
 -- What is printed is not said here. Assumes nothing.
-use mathlib.Core.Bool.{Bool, cond}
+use mathlib.Core.Bool.{Bool, cond, _&&_}
 use mathlib.Core.List.{List}
 use Prim.Native.Nat.{ℕ, zero, suc}
-use lib.Dec.{ltb}
-use lib.ListN.{length}
-use lib.IntN.{ℤ, negsuc}
-use Rattle.numbers.specs.Bounded.{listBelow}
+use lib.Dec.{ltb, eqb}
+use lib.ListN.{length, getD}
+use lib.IntN.{ℤ, pos, negsuc, natAbs}
+use Rattle.numbers.specs.Bounded.{allBelow, listBelow}
+use Rattle.numbers.specs.Signed.{isNegative}
 use Rattle.numbers.specs.Sizes.{mostDistributors, sectorPlaces}
-use Rattle.journal.specs.Cursor.{numberAfter, mostWord}
+use Rattle.journal.specs.Cursor.{readTo, brokenAt, numberAfter, mostWord}
 use Rattle.journal.specs.List.{listWords, signedListWords}
 use Rattle.journal.specs.Command.{longestList, seriesName, linesName, sectorsName, readingsName, lossesName, presentName, chargesName, balancesName, commandAfter}
 use Rattle.journal.specs.Command.{fixSeriesFrom, fixLinesFrom, fixSectorsFrom, fixAfter, settleReadingsFrom, settleLossesFrom, settleAfter, loadPresentFrom, loadChargesFrom, loadBalancesFrom, loadAfter}
@@ -86,19 +87,34 @@ stepOf command text cursor book =
 unfoldable pub stepAfter : List ℕ → ℕ → Ledger → Step
 stepAfter text at book = let read = commandAfter text at in stepOf (read .command) text (read .next) book
 
+-- the text is read up to a place, with a ledger
+abbrev pub readWith : Ledger → ℕ → Step
+readWith book at = record { ledger = book; next = readTo at }
+
 -- command after command from a place on, among so many at most, until one is broken or the text ends
-unfoldable pub replayFrom : ℕ → List ℕ → ℕ → Ledger → Ledger
-replayFrom zero text at book = book
+unfoldable pub replayFrom : ℕ → List ℕ → ℕ → Ledger → Step
+replayFrom zero text at book = readWith book at
 replayFrom (suc left) text at book =
     let step = stepAfter text at book in
     cond (ltb at (length text))
-    (cond (step .next .broken) (step .ledger) (replayFrom left text (step .next .at) (step .ledger)))
-    book
+    (cond (step .next .broken) step (replayFrom left text (step .next .at) (step .ledger)))
+    (readWith book at)
 
 -- "more than 524,288 bytes" cannot be read
 abbrev pub longestText : ℕ
 longestText = 524288
 
--- the ledger after a journal; "before any `open` or `load` the ledger is the all-zero one"
-unfoldable pub replayed : List ℕ → Ledger
-replayed text = cond (ltb longestText (length text)) (emptyLedger 0) (replayFrom (length text) text 0 (emptyLedger 0))
+-- the ledger after a journal, and the error's byte where it is broken; "before any `open` or `load` the ledger is the
+-- all-zero one"; "a text too long prints that line alone, with B 524288"
+unfoldable pub replayed : List ℕ → Step
+replayed text =
+    cond (ltb longestText (length text))
+    (record { ledger = emptyLedger 0; next = brokenAt longestText })
+    (replayFrom (length text) text 0 (emptyLedger 0))
+
+-- whether a lent list is as it was lent: "if a word of it is no longer -1"
+unfoldable pub isUnwritten : ℤ → Bool
+isUnwritten word = isNegative word && eqb (natAbs word) 1
+
+unfoldable pub allUnwritten : List ℤ → Bool
+allUnwritten list = allBelow (length list) (λ k. isUnwritten (getD list k (pos 0)))

@@ -1,7 +1,7 @@
 // Lines of answers.
 ghost use mathlib.Core.Path.{_≡_};
 ghost use lib.ListN.{length};
-ghost use Rattle.commands.specs.Replay.{unwritten};
+ghost use Rattle.commands.specs.Replay.{unwritten, allUnwritten};
 use fixing::verdict::Verdict;
 use ledger::fix::FixingAnswer;
 use libc::STDOUT_FILENO;
@@ -84,10 +84,10 @@ pub fn print_prices(prices: &[i64]) {
 }
 
 // Writes the transfer and the balance of a distributor.
-fn print_transfer(i: usize, transfer: i64, balance: i64) {
+fn print_transfer(i: usize, transfer: i64, balance: Pesos) {
     io::print_decimal(STDOUT_FILENO, i as u64);
     print_next(STDOUT_FILENO, transfer);
-    print_next(STDOUT_FILENO, balance);
+    print_next(STDOUT_FILENO, balance.0);
     end_line();
 }
 
@@ -97,7 +97,7 @@ pub fn print_transfers(transfers: &[i64], balances: [Pesos; 40]) {
     while i < 40 {
         let balance = balances[i];
         if i < transfers.len() {
-            print_transfer(i, transfers[i], balance.0);
+            print_transfer(i, transfers[i], balance);
         }
         i += 1;
     }
@@ -143,7 +143,9 @@ pub fn lend(list: &mut [i64])
 }
 
 // Whether no word of a lent list was written.
-fn is_unwritten(list: &[i64]) -> bool {
+fn is_unwritten(list: &[i64]) -> bool
+    ensures { λ r. ⌜ r ≡ allUnwritten (now (list .entry)) ⌝ }
+{
     let mut k: usize = 0;
     while k < list.len() {
         if list[k] != UNWRITTEN {

@@ -18,7 +18,9 @@ use journal::command::read_fix;
 use journal::command::read_load;
 use journal::command::read_settle;
 use journal::cursor::Cursor;
+use journal::cursor::broken_at;
 use journal::cursor::next_number;
+use journal::cursor::read_to;
 use ledger::book::Ledger;
 use ledger::open::open;
 use libc::STDIN_FILENO;
@@ -169,11 +171,6 @@ fn run_command(
     }
 }
 
-fn print_error(at: usize) {
-    print_named(STDOUT_FILENO, b"journal error at byte", at as u64);
-    end_line();
-}
-
 // Lists of the longest length, from functions so that no goal of the loop below writes their words out.
 fn words() -> [u64; 8192]
     ensures { λ r. ⌜ length r ≡ longestList ⌝ }
@@ -187,14 +184,15 @@ fn signed_words() -> [i64; 8192]
     [0; 8192]
 }
 
-// Makes the commands of a journal, in their order, and writes their answers; the ledger after them.
-pub fn replay(text: &[u8]) -> Ledger
+// Makes the commands of a journal, in their order, and writes their answers: the ledger after them, and how far the text
+// was read.
+pub fn replay(text: &[u8]) -> Step
     ensures { λ r. ⌜ r ≡ replayed (now (text .entry)) ⌝ }
 {
     let none = open(0).ledger;
     if text.len() > LONGEST_TEXT {
-        print_error(LONGEST_TEXT);
-        return none;
+        let next = broken_at(LONGEST_TEXT);
+        return Step { ledger: none, next };
     }
     let mut series = words();
     let mut lines = words();
@@ -213,14 +211,24 @@ pub fn replay(text: &[u8]) -> Ledger
             &mut prices,
         );
         let next = step.next;
-        ledger = step.ledger;
         if next.broken {
-            print_error(next.at);
-            return ledger;
+            return step;
         }
+        ledger = step.ledger;
         at = next.at;
     }
-    ledger
+    let next = read_to(at);
+    Step { ledger, next }
+}
+
+// Replays a journal, and writes a line where it cannot be read.
+pub fn print_replay(text: &[u8]) {
+    let step = replay(text);
+    let next = step.next;
+    if next.broken {
+        print_named(STDOUT_FILENO, b"journal error at byte", next.at as u64);
+        end_line();
+    }
 }
 
 // One byte more than the longest journal, so that a longer one is told.
@@ -234,5 +242,5 @@ fn text_buffer() -> [u8; 524289]
 pub fn replay_input() {
     let mut text = text_buffer();
     let count = io::read_full(STDIN_FILENO, &mut text);
-    replay(&text[..count]);
+    print_replay(&text[..count]);
 }

@@ -28,13 +28,15 @@ pub struct SignedRead {
     pub next: Cursor,
 }
 
-fn read_to(at: usize) -> Cursor
+// The text is read up to a place.
+pub fn read_to(at: usize) -> Cursor
     ensures { λ r. ⌜ r ≡ readTo at ⌝ }
 {
     Cursor { at, broken: false }
 }
 
-fn broken_at(at: usize) -> Cursor
+// The token at a place cannot be read.
+pub fn broken_at(at: usize) -> Cursor
     ensures { λ r. ⌜ r ≡ brokenAt at ⌝ }
 {
     Cursor { at, broken: true }

@@ -1,4 +1,4 @@
--- Kept ledgers (../shared/JOURNAL.md, `save` and `load`): a ledger as words, and words as a ledger. Assumes nothing.
+-- Kept ledgers (docs/JOURNAL.md, `save` and `load`): a ledger as words, and words as a ledger. Assumes nothing.
 use mathlib.Core.Bool.{Bool, true, false, cond, not, _&&_, _||_}
 use mathlib.Core.Path.{_≡_}
 use mathlib.Core.List.{List, _++_}

@@ -10,7 +10,7 @@ use Rattle.journal.specs.Command.{longestList}
 use Rattle.ledger.specs.Ledger.{emptyLedger, openingOf}
 use Rattle.ledger.specs.declared.open.Opening.{Opening}
 use Rattle.commands.specs.Replay.{longestText, stepAfter, replayFrom, replayed}
-use Rattle.commands.proofs.ReplayLaws.{next-within, next-later, replay-none, replay-broken, replay-on, opened-none}
+use Rattle.commands.proofs.ReplayLaws.{stepBy, next-within, next-later, replay-none, replay-broken, replay-on, opened-none}
 use Rattle.commands.proofs.run.replay.Statement.{statement}
 use Rattle.commands.proofs.run.replay.Tie as tie
 
@@ -41,12 +41,14 @@ module _ (d : tie.After-run-command Inv-loop μ-loop) where
 open-requires : tie.Need-open-requires Inv-loop μ-loop
 open-requires c κs = search needs
 
-print-error-requires : tie.Need-print-error-requires Inv-loop μ-loop
-print-error-requires c κs = search needs
+broken-at-requires : tie.Need-broken-at-requires Inv-loop μ-loop
+broken-at-requires c κs = search needs
 
 returns : tie.Need-returns Inv-loop μ-loop
 unfolding replayed
-returns c = rw (lt-ltb longestText (length (c .before .before .before .before .before .args .text .now)) (c .before .if1 .taken)) (none (c .before .before .before))
+returns c =
+    rw (lt-ltb longestText (length (c .before .before .before .before .before .args .text .now)) (c .before .if1 .taken))
+    (ap₂ stepBy (none (c .before .before .before)) (c .broken-at .ensures))
 
 words-requires : tie.Need-words-requires Inv-loop μ-loop
 words-requires c κs = search needs
@@ -88,18 +90,16 @@ run-command-requires : tie.Need-run-command-requires Inv-loop μ-loop
 run-command-requires c κs =
     let l = c .before .before .before .before .before in (l .loop .inv .0, (l .loop .inv .1, (l .loop .inv .2, (l .loop .inv .3, l .loop .inv .4))))
 
-print-error-requires-2 : tie.Need-print-error-requires-2 Inv-loop μ-loop
-print-error-requires-2 c κs = search needs
-
 returns-2 : tie.Need-returns-2 Inv-loop μ-loop
 unfolding replayed
 returns-2 c =
-    rw (le-ltb longestText (length (c .before .before .before .before .before .before .before .before .before .before .before .before .before .before .before .before .before .before .before .before .before .before .before .args .text .now)) (c .before .before .before .before .before .before .before .before .before .before .before .before .before .before .before .before .before .before .before .if1 .left))
-    (sym (replay-broken _ _ (inside (c .before .before .before .before .before .before .before .before)) _ _ (stepped (c .before .before .before .before .before .before .before .before)) (c .before .if2 .taken)) ∙ c .before .before .before .before .before .before .before .before .before .before .before .before .before .before .loop .inv .5)
+    let d = c .before .before .before .before .before .before in
+    rw (le-ltb longestText (length (text d)) (c .before .before .before .before .before .before .before .before .before .before .before .before .before .before .before .before .before .if1 .left))
+    (sym (replay-broken _ _ (inside d) _ _ (stepped d) (c .if2 .taken)) ∙ c .before .before .before .before .before .before .before .before .before .before .before .before .loop .inv .5)
 
 loop-less : tie.Need-loop-less Inv-loop μ-loop
 loop-less c = let d = c .before .before .before .before .before .before .before in
-    omega (arith, inside d, next-later _ _ (inside d) _ _ (stepped d) (c .if2 .left))
+    omega (arith, inside d, next-later _ _ (inside d) _ _ (stepped d) (c .before .if2 .left))
 
 loop-again : tie.Need-loop-again Inv-loop μ-loop
 loop-again c =
@@ -109,16 +109,21 @@ loop-again c =
       search needs,
       search needs,
       search needs,
-      sym (replay-on _ _ (inside d) _ _ (stepped d) (c .if2 .left)) ∙ d .before .before .before .before .before .before .loop .inv .5,
+      sym (replay-on _ _ (inside d) _ _ (stepped d) (c .before .if2 .left)) ∙ d .before .before .before .before .before .before .loop .inv .5,
     )
+
+read-to-requires : tie.Need-read-to-requires Inv-loop μ-loop
+read-to-requires c κs = search needs
 
 returns-3 : tie.Need-returns-3 Inv-loop μ-loop
 unfolding replayed
 returns-3 c =
-    let l = c .before in
-    let text = c .before .before .before .before .before .before .before .before .before .before .args .text .now in
-    rw (le-ltb longestText (length text) (c .before .before .before .before .before .before .if1 .left))
-    (sym (replay-none (length text - l .loop .at) text (l .loop .at) (l .loop .ledger) (omega arith)) ∙ l .loop .inv .5)
+    let l = c .before .before in
+    let text = c .before .before .before .before .before .before .before .before .before .before .before .args .text .now in
+    rw (le-ltb longestText (length text) (c .before .before .before .before .before .before .before .if1 .left))
+    (ap (stepBy (l .loop .ledger)) (c .read-to .ensures)
+    ∙ sym (replay-none (length text - l .loop .at) text (l .loop .at) (l .loop .ledger) (omega arith))
+    ∙ l .loop .inv .5)
 
 pub replay-spec : {M : Type 1} → statement M
 replay-spec =
@@ -127,7 +132,7 @@ replay-spec =
     Inv-loop
     μ-loop
     open-requires
-    print-error-requires
+    broken-at-requires
     returns
     words-requires
     words-requires-2
@@ -139,8 +144,8 @@ replay-spec =
     slice-aggregate-run-command-3
     slice-aggregate-run-command-4
     run-command-requires
-    print-error-requires-2
     returns-2
     loop-less
     loop-again
+    read-to-requires
     returns-3)
