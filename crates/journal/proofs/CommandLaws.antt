@@ -18,7 +18,7 @@ use Rattle.journal.specs.declared.command.Command.{Command}
 use Rattle.journal.specs.declared.command.Command.the-variants.{Open, Fix, Settle, Save, Load, Unknown, End}
 use Rattle.journal.specs.declared.command.CommandRead.{CommandRead}
 use Rattle.journal.proofs.TokenLaws.{token-start-least, token-start-most, token-end-most, token-some}
-use Rattle.journal.proofs.CursorLaws.{onward-join, onward-number, number-most}
+use Rattle.journal.proofs.CursorLaws.{onward-join, onward-number}
 use Rattle.journal.proofs.ListLaws.{count-most, onward-cursor, onward-count, onward-list, onward-signed-list, list-most, signed-list-most}
 
 -- a token's command, word by word
@@ -194,37 +194,13 @@ module _ (text : List ℕ) (cursor : Cursor) (p : cursor .at ≤ length text) wh
 
 -- no list is longer than it may be
 module _ (text : List ℕ) (cursor : Cursor) where
-  pub fix-series-most : fixAfter text cursor .series ≤ longestList
-  unfolding fixAfter
-  fix-series-most = list-most text _ seriesName longestList mostWord
-
-  pub fix-lines-most : fixAfter text cursor .lines ≤ longestList
-  unfolding fixAfter
-  fix-lines-most = list-most text _ linesName longestList mostWord
-
-  pub fix-sectors-most : fixAfter text cursor .sectors ≤ longestList
-  unfolding fixAfter
-  fix-sectors-most = list-most text _ sectorsName longestList mostWord
-
   pub fix-prices-most : fixAfter text cursor .prices ≤ longestList
   unfolding fixAfter
   fix-prices-most = count-most text _ pricesName longestList
 
-  pub settle-readings-most : settleAfter text cursor .readings ≤ longestList
-  unfolding settleAfter
-  settle-readings-most = list-most text _ readingsName longestList mostWord
-
-  pub settle-losses-most : settleAfter text cursor .losses ≤ longestList
-  unfolding settleAfter
-  settle-losses-most = list-most text _ lossesName longestList mostWord
-
   pub settle-transfers-most : settleAfter text cursor .transfers ≤ longestList
   unfolding settleAfter
   settle-transfers-most = count-most text _ transfersName longestList
-
-  pub load-fixed-most : loadAfter text cursor .fixed ≤ 1
-  unfolding loadAfter
-  load-fixed-most = number-most text _ 1
 
   pub load-present-most : loadAfter text cursor .present ≤ sectorPlaces
   unfolding loadAfter
