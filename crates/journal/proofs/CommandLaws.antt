@@ -60,13 +60,13 @@ commandRead command next = record { command = command; next = next }
 
 -- the next command is that of the next token
 module _ (text : List ℕ) (at start end : ℕ) (s : start ≡ tokenStart text at) (e : end ≡ tokenEnd text start) (command : Command) (c : command ≡ commandIn text start end) where
-  pub command-broken : isUnknown command ≡ true → commandRead command (brokenAt start) ≡ commandAfter text at
+  pub command-broken : isUnknown command ≡ true → (next : Cursor) → next ≡ brokenAt start → commandRead command next ≡ commandAfter text at
   unfolding commandAfter
-  command-broken h = rw (← s, ← e, ← c, h)
+  command-broken h next q = rw (q, ← s, ← e, ← c, h)
 
-  pub command-read : isUnknown command ≡ false → commandRead command (readTo end) ≡ commandAfter text at
+  pub command-read : isUnknown command ≡ false → (next : Cursor) → next ≡ readTo end → commandRead command next ≡ commandAfter text at
   unfolding commandAfter
-  command-read h = rw (← s, ← e, ← c, h)
+  command-read h next q = rw (q, ← s, ← e, ← c, h)
 
 module _ (text : List ℕ) (at : ℕ) (p : at ≤ length text) where
   abbrev start : ℕ

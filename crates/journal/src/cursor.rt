@@ -28,13 +28,13 @@ pub struct SignedRead {
     pub next: Cursor,
 }
 
-fn read_to(at: usize) -> Cursor
+pub(crate) fn read_to(at: usize) -> Cursor
     ensures { λ r. ⌜ r ≡ readTo at ⌝ }
 {
     Cursor { at, broken: false }
 }
 
-fn broken_at(at: usize) -> Cursor
+pub(crate) fn broken_at(at: usize) -> Cursor
     ensures { λ r. ⌜ r ≡ brokenAt at ⌝ }
 {
     Cursor { at, broken: true }
