@@ -1,10 +1,9 @@
 -- Laws of the commands' text: a command by its word, how far a command reaches, and how long its lists are.
 -- Assumes nothing.
-use mathlib.Core.Path.{_≡_, refl, _∙_, ap}
-use mathlib.Core.Bool.{Bool, true, false, cond, false≢true}
+use mathlib.Core.Path.{_≡_}
+use mathlib.Core.Bool.{Bool, true, false, cond}
 use mathlib.Core.List.{List}
-use Prim.Native.Nat.{ℕ, _≤_, _<_}
-use native.Mathlib.Omega.{arith}
+use Prim.Native.Nat.{ℕ, _≤_}
 use lib.ListN.{length}
 use borrow.Author.Tests.{eq-eqb, ne-eqb}
 use Rattle.numbers.specs.Sizes.{mostDistributors, sectorPlaces}
@@ -17,8 +16,8 @@ use Rattle.journal.specs.declared.cursor.Cursor.{Cursor}
 use Rattle.journal.specs.declared.command.Command.{Command}
 use Rattle.journal.specs.declared.command.Command.the-variants.{Open, Fix, Settle, Save, Load, Unknown, End}
 use Rattle.journal.specs.declared.command.CommandRead.{CommandRead}
-use Rattle.journal.proofs.TokenLaws.{token-start-least, token-start-most, token-end-most, token-some}
-use Rattle.journal.proofs.CursorLaws.{onward-join, onward-number, number-most}
+use Rattle.journal.proofs.TokenLaws.{token-start-most, token-end-most}
+use Rattle.journal.proofs.CursorLaws.{onward-join, onward-number}
 use Rattle.journal.proofs.ListLaws.{count-most, onward-cursor, onward-count, onward-list, onward-signed-list, list-most, signed-list-most}
 
 -- a token's command, word by word
@@ -61,32 +60,13 @@ commandRead command next = record { command = command; next = next }
 
 -- the next command is that of the next token
 module _ (text : List ℕ) (at start end : ℕ) (s : start ≡ tokenStart text at) (e : end ≡ tokenEnd text start) (command : Command) (c : command ≡ commandIn text start end) where
-  pub command-broken : isUnknown command ≡ true → commandRead command (brokenAt start) ≡ commandAfter text at
+  pub command-broken : isUnknown command ≡ true → (next : Cursor) → next ≡ brokenAt start → commandRead command next ≡ commandAfter text at
   unfolding commandAfter
-  command-broken h = rw (← s, ← e, ← c, h)
+  command-broken h next q = rw (q, ← s, ← e, ← c, h)
 
-  pub command-read : isUnknown command ≡ false → commandRead command (readTo end) ≡ commandAfter text at
+  pub command-read : isUnknown command ≡ false → (next : Cursor) → next ≡ readTo end → commandRead command next ≡ commandAfter text at
   unfolding commandAfter
-  command-read h = rw (← s, ← e, ← c, h)
-
--- a command is a call's or the ledger's, where it is none of an unknown word and the text's end
-abbrev pub isCommand : Command → Bool
-isCommand Open = true
-isCommand Fix = true
-isCommand Settle = true
-isCommand Save = true
-isCommand Load = true
-isCommand Unknown = false
-isCommand End = false
-
-known : (command : Command) → isCommand command ≡ true → isUnknown command ≡ false
-known Open h = refl
-known Fix h = refl
-known Settle h = refl
-known Save h = refl
-known Load h = refl
-known Unknown h = absurd (false≢true h)
-known End h = refl
+  command-read h next q = rw (q, ← s, ← e, ← c, h)
 
 module _ (text : List ℕ) (at : ℕ) (p : at ≤ length text) where
   abbrev start : ℕ
@@ -103,19 +83,6 @@ module _ (text : List ℕ) (at : ℕ) (p : at ≤ length text) where
       go : (b : Bool) → cond b (brokenAt start) (readTo end) .at ≤ length text
       go true = token-start-most text at p
       go false = token-end-most text start (token-start-most text at p)
-
-  some-token : isCommand (commandIn text start end) ≡ true → start ≡ length text → ⊥
-  some-token h q = false≢true (ap isCommand (command-end text start end q) ∙ h)
-
-  -- and past where it was sought, so that reading command after command ends
-  pub command-on : (command : Command) → commandAfter text at .command ≡ command → isCommand command ≡ true → (commandAfter text at .next .broken ≡ false) × (at < commandAfter text at .next .at)
-  unfolding commandAfter
-  command-on command e h =
-      let found : isCommand (commandIn text start end) ≡ true = ap isCommand e ∙ h in
-      let past : start ≡ length text → ⊥ = some-token found in
-      let within : start ≤ length text = token-start-most text at p in
-      rw (known (commandIn text start end) found)
-      (refl, omega (arith, token-start-least text at, token-some text at (omega arith)))
 
 -- onward by one more thing read
 module _ (text : List ℕ) (cursor middle : Cursor) (o : Onward text cursor middle) where
@@ -194,37 +161,13 @@ module _ (text : List ℕ) (cursor : Cursor) (p : cursor .at ≤ length text) wh
 
 -- no list is longer than it may be
 module _ (text : List ℕ) (cursor : Cursor) where
-  pub fix-series-most : fixAfter text cursor .series ≤ longestList
-  unfolding fixAfter
-  fix-series-most = list-most text _ seriesName longestList mostWord
-
-  pub fix-lines-most : fixAfter text cursor .lines ≤ longestList
-  unfolding fixAfter
-  fix-lines-most = list-most text _ linesName longestList mostWord
-
-  pub fix-sectors-most : fixAfter text cursor .sectors ≤ longestList
-  unfolding fixAfter
-  fix-sectors-most = list-most text _ sectorsName longestList mostWord
-
   pub fix-prices-most : fixAfter text cursor .prices ≤ longestList
   unfolding fixAfter
   fix-prices-most = count-most text _ pricesName longestList
 
-  pub settle-readings-most : settleAfter text cursor .readings ≤ longestList
-  unfolding settleAfter
-  settle-readings-most = list-most text _ readingsName longestList mostWord
-
-  pub settle-losses-most : settleAfter text cursor .losses ≤ longestList
-  unfolding settleAfter
-  settle-losses-most = list-most text _ lossesName longestList mostWord
-
   pub settle-transfers-most : settleAfter text cursor .transfers ≤ longestList
   unfolding settleAfter
   settle-transfers-most = count-most text _ transfersName longestList
-
-  pub load-fixed-most : loadAfter text cursor .fixed ≤ 1
-  unfolding loadAfter
-  load-fixed-most = number-most text _ 1
 
   pub load-present-most : loadAfter text cursor .present ≤ sectorPlaces
   unfolding loadAfter

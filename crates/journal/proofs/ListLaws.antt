@@ -1,14 +1,13 @@
--- Laws of a list's reading: number by number, by its count, how far it reaches, and where its words stand.
+-- Laws of a list's reading: number by number, by its count, how far it reaches, and how long it is.
 -- Assumes nothing.
 use mathlib.Core.Path.{_≡_, refl, _∙_, ap}
-use mathlib.Core.List.{List, _++_}
-use Prim.Native.Nat.{ℕ, zero, suc, _+_, _≤_, _<_}
+use mathlib.Core.List.{List}
+use Prim.Native.Nat.{ℕ, zero, suc, _+_, _≤_}
 use native.Mathlib.Numerals.{add-one}
-use lib.ListN.{length, getD, take}
+use lib.ListN.{length}
 use lib.IntN.{ℤ}
-use lib.Seq.{take-at}
 use Rattle.numbers.specs.Bounded.{listBelow}
-use Rattle.numbers.proofs.ListLaws.{list-length, list-at}
+use Rattle.numbers.proofs.ListLaws.{list-length}
 use Rattle.journal.specs.Cursor.{wordAfter, numberAfter, signedAfter, Onward}
 use Rattle.journal.specs.List.{cursorAfter, numberAt, signedCursorAfter, signedAt, countAfter, listAfter, listWords, signedListAfter, signedListWords}
 use Rattle.journal.specs.declared.cursor.Cursor.{Cursor}
@@ -128,7 +127,7 @@ pub number-at-most : (text : List ℕ) (cursor : Cursor) (most k : ℕ) → numb
 unfolding numberAt
 number-at-most text cursor most k = number-most text (cursorAfter k text cursor most) most
 
--- a list's count is not above the longest, and its words stand first where it is read
+-- a list's count is not above the longest, and its words are as many as its count
 module _ (text : List ℕ) (cursor : Cursor) (name : List ℕ) (longest : ℕ) where
   pub list-most : (most : ℕ) → listAfter text cursor name longest most .count ≤ longest
   unfolding listAfter
@@ -145,15 +144,3 @@ module _ (text : List ℕ) (cursor : Cursor) (name : List ℕ) (longest : ℕ) w
   pub signed-words-length : length (signedListWords text cursor name longest) ≡ signedListAfter text cursor name longest .count
   unfolding signedListAfter signedListWords
   signed-words-length = list-length _ (countAfter text cursor name longest .value)
-
-  pub words-most : (most k : ℕ) → k < listAfter text cursor name longest most .count → getD (listWords text cursor name longest most) k 0 ≤ most
-  unfolding listAfter listWords
-  words-most most k p =
-      let count = countAfter text cursor name longest in
-      rw (list-at (numberAt text (count .next) most) (count .value) 0 k p) (number-at-most text (count .next) most k)
-
-  pub words-first : (most : ℕ) (rest : List ℕ) → take (listAfter text cursor name longest most .count) (listWords text cursor name longest most ++ rest) ≡ listWords text cursor name longest most
-  words-first most rest = take-at _ rest _ (words-length most)
-
-  pub signed-words-first : (rest : List ℤ) → take (signedListAfter text cursor name longest .count) (signedListWords text cursor name longest ++ rest) ≡ signedListWords text cursor name longest
-  signed-words-first rest = take-at _ rest _ signed-words-length

@@ -1,4 +1,4 @@
--- The commands of a journal (../shared/JOURNAL.md, "Input"): which one stands next, and what its text holds.
+-- The commands of a journal (docs/JOURNAL.md, "Input"): which one stands next, and what its text holds.
 -- Assumes nothing.
 use mathlib.Core.Bool.{Bool, true, false, cond}
 use mathlib.Core.List.{List, [], _∷_}

@@ -1,11 +1,11 @@
 -- Reading on from a place in a journal: the next word or number. Assumes nothing.
-use mathlib.Core.Bool.{Bool, true, false, cond}
+use mathlib.Core.Bool.{true, false, cond}
 use mathlib.Core.Path.{_≡_}
 use mathlib.Core.List.{List}
-use Prim.Native.Nat.{ℕ, zero, suc, _^_, _-_, _≤_}
+use Prim.Native.Nat.{ℕ, _^_, _-_, _≤_}
 use lib.Dec.{leb}
 use lib.ListN.{length}
-use lib.IntN.{ℤ, pos}
+use lib.IntN.{pos}
 use Rattle.journal.specs.Token.{tokenStart, tokenEnd}
 use Rattle.journal.specs.Word.{isWord}
 use Rattle.journal.specs.Number.{numberIn, signedIn}

@@ -9,8 +9,10 @@ ghost use Rattle.journal.specs.List.{listWords, signedListWords};
 ghost use Rattle.journal.specs.Command.{longestList, isUnknown, commandIn, commandAfter, seriesName, linesName, sectorsName, readingsName, lossesName, presentName, chargesName, balancesName};
 ghost use Rattle.journal.specs.Command.{fixSeriesFrom, fixLinesFrom, fixSectorsFrom, fixAfter, settleReadingsFrom, settleLossesFrom, settleAfter, loadPresentFrom, loadChargesFrom, loadBalancesFrom, loadAfter};
 use crate::cursor::Cursor;
+use crate::cursor::broken_at;
 use crate::cursor::next_number;
 use crate::cursor::next_word;
+use crate::cursor::read_to;
 use crate::list::read_list;
 use crate::list::read_signed_list;
 use crate::token::token_end;
@@ -124,16 +126,10 @@ pub fn next_command(text: &[u8], at: usize) -> CommandRead
     let end = token_end(text, start);
     let command = command_in(text, start, end);
     if is_unknown(command) {
-        let next = Cursor {
-            at: start,
-            broken: true,
-        };
+        let next = broken_at(start);
         return CommandRead { command, next };
     }
-    let next = Cursor {
-        at: end,
-        broken: false,
-    };
+    let next = read_to(end);
     CommandRead { command, next }
 }
 
@@ -155,10 +151,10 @@ pub fn read_fix(
     let dollar = next_number(text, month.next, MOST_WORD);
     let factor = next_number(text, dollar.next, MOST_WORD);
     let first = next_number(text, factor.next, MOST_WORD);
-    let serial = read_list(text, first.next, b"series", MOST_WORD, series);
-    let lined = read_list(text, serial.next, b"lines", MOST_WORD, lines);
-    let sectored = read_list(text, lined.next, b"sectors", MOST_WORD, sectors);
-    let named = next_word(text, sectored.next, b"prices");
+    let series_read = read_list(text, first.next, b"series", MOST_WORD, series);
+    let lines_read = read_list(text, series_read.next, b"lines", MOST_WORD, lines);
+    let sectors_read = read_list(text, lines_read.next, b"sectors", MOST_WORD, sectors);
+    let named = next_word(text, sectors_read.next, b"prices");
     let prices = next_number(text, named, LONGEST_LIST);
     let next = prices.next;
     FixRead {
@@ -166,9 +162,9 @@ pub fn read_fix(
         dollar: dollar.value,
         factor: factor.value,
         first: first.value,
-        series: serial.count,
-        lines: lined.count,
-        sectors: sectored.count,
+        series: series_read.count,
+        lines: lines_read.count,
+        sectors: sectors_read.count,
         prices: prices.value as usize,
         next,
     }
@@ -187,15 +183,15 @@ pub fn read_settle(
     ensures { λ r. ⌜ now (losses .exit) ≡ listWords (now (text .entry)) (settleLossesFrom (now (text .entry)) cursor) lossesName longestList mostWord ++ drop (r .losses) (now (losses .entry)) ⌝ }
 {
     let month = next_number(text, cursor, MOST_WORD);
-    let read = read_list(text, month.next, b"readings", MOST_WORD, readings);
-    let lost = read_list(text, read.next, b"losses", MOST_WORD, losses);
-    let named = next_word(text, lost.next, b"transfers");
+    let readings_read = read_list(text, month.next, b"readings", MOST_WORD, readings);
+    let losses_read = read_list(text, readings_read.next, b"losses", MOST_WORD, losses);
+    let named = next_word(text, losses_read.next, b"transfers");
     let transfers = next_number(text, named, LONGEST_LIST);
     let next = transfers.next;
     SettleRead {
         month: month.value,
-        readings: read.count,
-        losses: lost.count,
+        readings: readings_read.count,
+        losses: losses_read.count,
         transfers: transfers.value as usize,
         next,
     }
@@ -220,19 +216,19 @@ pub fn read_load(
     let last = next_number(text, months.next, MOST_WORD);
     let fixed = next_number(text, last.next, 1);
     let month = next_number(text, fixed.next, MOST_WORD);
-    let placed = read_list(text, month.next, b"present", 1, present);
-    let charged = read_signed_list(text, placed.next, b"charges", charges);
-    let balanced = read_signed_list(text, charged.next, b"balances", balances);
-    let next = balanced.next;
+    let present_read = read_list(text, month.next, b"present", 1, present);
+    let charges_read = read_signed_list(text, present_read.next, b"charges", charges);
+    let balances_read = read_signed_list(text, charges_read.next, b"balances", balances);
+    let next = balances_read.next;
     LoadRead {
         n: n.value as usize,
         months: months.value,
         last: last.value,
         fixed: fixed.value,
         month: month.value,
-        present: placed.count,
-        charges: charged.count,
-        balances: balanced.count,
+        present: present_read.count,
+        charges: charges_read.count,
+        balances: balances_read.count,
         next,
     }
 }

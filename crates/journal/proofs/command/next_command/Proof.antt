@@ -18,19 +18,25 @@ command-in-requires c κs = token-within _ _ _ (c .before .before .before .pre) 
 is-unknown-requires : tie.Need-is-unknown-requires
 is-unknown-requires c κs = search needs
 
+broken-at-requires : tie.Need-broken-at-requires
+broken-at-requires c κs = search needs
+
 returns : tie.Need-returns
 returns c =
-    let u = c .before in
+    let u = c .before .before in
     let i = u .before in
     let t = i .before in
-    command-broken _ _ _ _ (t .before .token-start .ensures) (t .token-end .ensures) _ (i .command-in .ensures) (sym (u .is-unknown .ensures) ∙ c .if1 .taken)
+    command-broken _ _ _ _ (t .before .token-start .ensures) (t .token-end .ensures) _ (i .command-in .ensures) (sym (u .is-unknown .ensures) ∙ c .before .if1 .taken) _ (c .broken-at .ensures)
+
+read-to-requires : tie.Need-read-to-requires
+read-to-requires c κs = search needs
 
 returns-2 : tie.Need-returns-2
 returns-2 c =
-    let u = c .before in
+    let u = c .before .before in
     let i = u .before in
     let t = i .before in
-    command-read _ _ _ _ (t .before .token-start .ensures) (t .token-end .ensures) _ (i .command-in .ensures) (sym (u .is-unknown .ensures) ∙ c .if1 .left)
+    command-read _ _ _ _ (t .before .token-start .ensures) (t .token-end .ensures) _ (i .command-in .ensures) (sym (u .is-unknown .ensures) ∙ c .before .if1 .left) _ (c .read-to .ensures)
 
 pub next-command-spec : {M : Type 1} → statement M
 next-command-spec =
@@ -40,5 +46,7 @@ next-command-spec =
     token-end-requires
     command-in-requires
     is-unknown-requires
+    broken-at-requires
     returns
+    read-to-requires
     returns-2)

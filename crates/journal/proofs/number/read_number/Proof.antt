@@ -4,13 +4,12 @@ use mathlib.Core.Bool.{true}
 use mathlib.Core.List.{List}
 use Prim.Native.Nat.{ℕ, _≤_, _<_, _-_, _+_, _*_, _^_}
 use native.Mathlib.Omega.{arith}
-use lib.ListN.{length}
 use borrow.Author.Needs.{needs}
 use borrow.Author.Tests.{not-true, not-false, ltb-true, ltb-false}
 use Rattle.numbers.specs.Bounded.{allBelow}
 use Rattle.numbers.proofs.TestLaws.{all-more}
 use Rattle.journal.specs.Token.{byteAt}
-use Rattle.journal.specs.Number.{digitsValue, readable, numberIn}
+use Rattle.journal.specs.Number.{digitsValue, numberIn}
 use Rattle.journal.proofs.NumberLaws.{digit-least, digit-most, digitAt, value-next, none-readable, no-digit, too-large, all-readable}
 use Rattle.journal.proofs.number.read_number.Statement.{statement}
 use Rattle.journal.proofs.number.read_number.Tie as tie
