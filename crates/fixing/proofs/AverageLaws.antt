@@ -9,11 +9,13 @@ use native.Mathlib.Decide.{ℕ-discrete}
 use native.Mathlib.Nat.{mul-le-mul, one-mul}
 use lib.Dec.{eqb}
 use lib.ListN.{getD, set, length, length-set, replicate, getD-replicate}
+use lib.IntN.{ℤ, pos, _+ℤ_}
 use lib.Seq.{getD-set-same, getD-set-other, ext-getD}
 use borrow.Author.Tests.{eq-eqb, ne-eqb, eqb-true}
 use Rattle.numbers.specs.Bounded.{sumBelow, anyBelow, allBelow, listBelow}
-use Rattle.numbers.specs.Units.{noPrice, noEnergy}
+use Rattle.numbers.specs.Units.{noPrice, noEnergy, noMoney}
 use Rattle.numbers.specs.declared.units.PesoPrice.{PesoPrice}
+use Rattle.numbers.specs.declared.units.Pesos.{Pesos}
 use Rattle.numbers.proofs.SumLaws.{sum-step, sum-same, sum-le, sum-part, sum-add, sum-scale, sum-le-sum}
 use Rattle.numbers.proofs.TestLaws.{any-none, all-at}
 use Rattle.numbers.proofs.ListLaws.{list-length, list-at, filled-at}
@@ -40,33 +42,41 @@ module _ (price : ℕ → ℕ) (lines : List ℕ) (i j : ℕ) where
       go true = omega arith
       go false = omega arith
 
--- a pass over the lines: after j lines each place holds what the lines passed add up to
-pub record Held (price : ℕ → ℕ) (lines : List ℕ) (j : ℕ) (out : List ℕ) : Type 0 where
+-- a pass over the lines: after j lines each place holds what the lines passed come to
+pub record Held (price : ℕ → ℕ) (lines : List ℕ) (j : ℕ) (out : List Pesos) : Type 0 where
   pub wide : length out ≡ 40
-  pub sums : (i : ℕ) → i < 40 → getD out i 0 ≡ linesAmount price j lines i
+  pub sums : (i : ℕ) → i < 40 → getD out i noMoney .0 ≡ pos (linesAmount price j lines i)
 
 module _ (price : ℕ → ℕ) (lines : List ℕ) where
-  pub held-more : (j : ℕ) (out : List ℕ) (own amount : ℕ) → own < 40 → own ≡ distributorOf lines j → amount ≡ price j * energyOf lines j → Held price lines j out → Held price lines (j + 1) (set out own (getD out own 0 + amount))
+  pub held-none : Held price lines 0 (replicate 40 noMoney)
+  unfolding linesAmount sumBelow
+  held-none = record { wide = refl; sums = λ i p. ap (λ (m : Pesos). m .0) (getD-replicate 40 i noMoney noMoney p) }
+
+  pub held-more : (j : ℕ) (out : List Pesos) (own : ℕ) (sum : Pesos) → own < 40 → own ≡ distributorOf lines j → sum .0 ≡ getD out own noMoney .0 +ℤ pos (price j * energyOf lines j) → Held price lines j out → Held price lines (j + 1) (set out own sum)
   unfolding linesAmount
-  held-more j out own amount p q r h =
+  held-more j out own sum p q r h =
       record {
         wide = length-set out own _ ∙ h .wide;
         sums = λ i k. rw (sum-step j (lineAmount price lines i)) (go i k (ℕ-discrete i own));
       }
     where
-      go : (i : ℕ) → i < 40 → Dec (i ≡ own) → getD (set out own (getD out own 0 + amount)) i 0 ≡ sumBelow j (lineAmount price lines i) + lineAmount price lines i j
+      go : (i : ℕ) → i < 40 → Dec (i ≡ own) → getD (set out own sum) i noMoney .0 ≡ pos (sumBelow j (lineAmount price lines i) + lineAmount price lines i j)
       go i k (yes e) =
-          rw (e, getD-set-same out own (getD out own 0 + amount) 0 (omega (arith, h .wide)))
-          (omega (arith, h .sums own p, amount-own price lines own j (sym q)))
+          rw (e, getD-set-same out own sum noMoney (omega (arith, h .wide)))
+          (r ∙ ap (λ (z : ℤ). z +ℤ pos (price j * energyOf lines j)) (h .sums own p)
+          ∙ ap (λ m. pos (sumBelow j (lineAmount price lines own) + m)) (sym (amount-own price lines own j (sym q))))
       go i k (no e) =
-          rw (getD-set-other out own i (getD out own 0 + amount) 0 e)
-          (omega (arith, h .sums i k, amount-other price lines i j (λ t. e (sym (q ∙ t)))))
+          rw (getD-set-other out own i sum noMoney e)
+          (h .sums i k ∙ ap pos (omega (arith, amount-other price lines i j (λ t. e (sym (q ∙ t))))))
 
-  pub held-done : (count : ℕ) (out : List ℕ) → Held price lines count out → out ≡ listBelow 40 (linesAmount price count lines)
+  pub held-done : (count : ℕ) (out : List Pesos) → Held price lines count out → out ≡ listBelow 40 (λ i. record { 0 = pos (linesAmount price count lines i) })
   held-done count out h =
-      ext-getD 0 out (listBelow 40 (linesAmount price count lines))
-      (h .wide ∙ sym (list-length (linesAmount price count lines) 40))
-      (λ i p. let k : i < 40 = omega (arith, h .wide) in h .sums i k ∙ sym (list-at (linesAmount price count lines) 40 0 i k))
+      ext-getD noMoney out (listBelow 40 amount)
+      (h .wide ∙ sym (list-length amount 40))
+      (λ i p. let k : i < 40 = omega (arith, h .wide) in ap {B = Pesos} (λ (z : ℤ). record { 0 = z }) (h .sums i k) ∙ sym (list-at amount 40 noMoney i k))
+    where
+      amount : ℕ → Pesos
+      amount i = record { 0 = pos (linesAmount price count lines i) }
 
 -- bounds: a line's amount, and what lines add up to
 module _ (n : ℕ) (prices : List PesoPrice) (lines : List ℕ) (count : ℕ) (ok : PricedLines n prices lines count) where

@@ -5,13 +5,15 @@ use mathlib.Core.Bool.{Bool, true, cond}
 use mathlib.Core.List.{List}
 use Prim.Native.Nat.{ℕ, _*_, _^_, _≤_, _<_}
 use lib.ListN.{getD}
+use lib.IntN.{natAbs}
 use lib.Dec.{eqb}
 use Rattle.numbers.specs.Bounded.{sumBelow, allBelow, anyBelow, filledBelow}
 use Rattle.numbers.specs.Rounding.{halfUp}
-use Rattle.numbers.specs.Units.{noPrice, noEnergy, leastPrice, mostPrice}
+use Rattle.numbers.specs.Units.{noPrice, noEnergy, noMoney, leastPrice, mostPrice}
 use Rattle.numbers.specs.Sizes.{mostDistributors}
 use Rattle.numbers.specs.declared.units.PesoPrice.{PesoPrice}
 use Rattle.numbers.specs.declared.units.Energy.{Energy}
+use Rattle.numbers.specs.declared.units.Pesos.{Pesos}
 use Rattle.supply.specs.Line.{distributorOf, energyOf}
 use Rattle.supply.specs.Range.{CheckedLines}
 
@@ -60,9 +62,9 @@ pub record PricedLines (n : ℕ) (prices : List PesoPrice) (lines : List ℕ) (c
   pub priced : (j : ℕ) → j < count → getD prices j noPrice .0 ≤ mostPrice
 
 -- amounts and energies that can be divided
-pub record Divisible (n : ℕ) (amounts : List ℕ) (energies : List Energy) : Type 0 where
+pub record Divisible (n : ℕ) (amounts : List Pesos) (energies : List Energy) : Type 0 where
   pub few : n ≤ mostDistributors
-  pub small : (i : ℕ) → i < n → getD amounts i 0 < 2 ^ 62
+  pub small : (i : ℕ) → i < n → natAbs (getD amounts i noMoney .0) < 2 ^ 62
   pub some : (i : ℕ) → i < n → 1 ≤ getD energies i noEnergy .0
   pub most : (i : ℕ) → i < n → getD energies i noEnergy .0 < 2 ^ 62
 

@@ -2,6 +2,9 @@
 use fixing::sector::SectorCharges;
 use numbers::units::Pesos;
 
+// The greatest month number.
+pub const LAST_MONTH: u64 = 1199;
+
 pub struct Ledger {
     // How many distributors: 1 to 40 in a sound ledger.
     pub n: usize,

@@ -7,6 +7,7 @@ ghost use Rattle.numbers.specs.Bounded.{listBelow};
 ghost use Rattle.ledger.specs.Ledger.{fixedLedger};
 ghost use Rattle.ledger.specs.Turn.{fixingTurn};
 ghost use Rattle.ledger.specs.Fix.{callOf, linesWhole, fixingLengths, priceWord, PricesSmall, answerNumber, isPassed, acceptedAnswer, Fixed};
+use crate::book::LAST_MONTH;
 use crate::book::Ledger;
 use crate::sound::sound;
 use fixing::fix::fix_input;
@@ -18,6 +19,7 @@ use numbers::signed::difference;
 use numbers::units::PesoPrice;
 use numbers::units::Pesos;
 use numbers::units::is_between;
+use supply::line::LINE_WORDS;
 
 pub enum FixingAnswer {
     Accepted {
@@ -37,10 +39,6 @@ pub struct FixingOutcome {
     pub answer: FixingAnswer,
     pub ledger: Ledger,
 }
-
-const LINE_WORDS: usize = 26;
-
-const LAST_MONTH: u64 = 1199;
 
 impl Ledger {
     // The ledger with a new fixing in force.

@@ -8,6 +8,7 @@ ghost use Rattle.settlement.specs.Month.{moneyAt};
 ghost use Rattle.ledger.specs.Ledger.{settledLedger};
 ghost use Rattle.ledger.specs.Turn.{settlementTurn};
 ghost use Rattle.ledger.specs.Settle.{callOf, settlementLengths, Due, answerNumber, Settlement};
+use crate::book::LAST_MONTH;
 use crate::book::Ledger;
 use crate::sound::sound;
 use numbers::units::Pesos;
@@ -31,8 +32,6 @@ pub struct SettlementOutcome {
     pub answer: SettlementAnswer,
     pub ledger: Ledger,
 }
-
-const LAST_MONTH: u64 = 1199;
 
 impl Ledger {
     // The ledger with one month more settled.

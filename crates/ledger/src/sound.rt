@@ -8,6 +8,7 @@ ghost use Rattle.settlement.specs.Settlement.{oneSign};
 ghost use Rattle.settlement.specs.Month.{moneyAt};
 ghost use Rattle.ledger.specs.Sound.{placeTest, forceSound, nothingPresent, unsetZero, monthsSound, balanceTest, balanceSound};
 ghost use Rattle.ledger.specs.Sound.{sound as soundLedger};
+use crate::book::LAST_MONTH;
 use crate::book::Ledger;
 use fixing::sector::SectorCharges;
 use numbers::signed::within_size;
@@ -21,8 +22,6 @@ const PLACES: usize = 320;
 const MOST_CHARGE: u64 = 10500000;
 
 const MOST_BALANCE: u64 = 1000000000000000;
-
-const LAST_MONTH: u64 = 1199;
 
 // One sector's place: empty past n, no charge where the sector is absent, a charge within its bounds.
 fn place_sound(n: usize, present: bool, charge: i64, k: usize) -> bool
@@ -84,10 +83,10 @@ fn months_sound(months: u64, last: u64, fixed: bool, month: u64) -> bool
 }
 
 // One balance: zero past n and till a month is settled, and within its bounds.
-fn balance_sound(n: usize, months: u64, balance: i64, i: usize) -> bool
-    ensures { λ r. ⌜ r ≡ balanceTest n months balance i ⌝ }
+fn balance_sound(n: usize, months: u64, balance: Pesos, i: usize) -> bool
+    ensures { λ r. ⌜ r ≡ balanceTest n months (balance .0) i ⌝ }
 {
-    ((i < n && months != 0) || balance == 0) && within_size(balance, MOST_BALANCE)
+    ((i < n && months != 0) || balance.0 == 0) && within_size(balance.0, MOST_BALANCE)
 }
 
 // Every balance.
@@ -97,7 +96,7 @@ fn each_balance_sound(n: usize, months: u64, balances: [Pesos; 40]) -> bool
     let mut i: usize = 0;
     while i < 40 {
         let balance = balances[i];
-        if !balance_sound(n, months, balance.0, i) {
+        if !balance_sound(n, months, balance, i) {
             return false;
         }
         i += 1;

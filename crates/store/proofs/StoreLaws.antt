@@ -22,7 +22,7 @@ use Rattle.settlement.specs.Month.{moneyAt, moneyBelow}
 use Rattle.ledger.specs.Sound.{presentIn, chargeIn, isZero}
 use Rattle.ledger.specs.declared.book.Ledger.{Ledger}
 use Rattle.ledger.proofs.SoundFacts.{or-else, zero-is}
-use Rattle.store.specs.Store.{truthWord, wordTruth, placeTest, placeKept, balanceTest, balanceKept, keptCount, presentWords, chargeWords, balanceWords, Saved, loadedForce, loadedBalances, loadedLedger}
+use Rattle.store.specs.Store.{truthWord, wordTruth, withinOrEmpty, placeKept, withinOrZero, balanceKept, keptCount, presentWords, chargeWords, balanceWords, Saved, loadedForce, loadedBalances, loadedLedger}
 
 -- a list that is filled with another's first k values is the other, where that is empty from there on
 pub filled-back : {A : Type 0} (size : ℕ) (empty : A) (k : ℕ) (f : ℕ → A) (l : List A) → length l ≡ size → ((j : ℕ) → j < k → j < size → f j ≡ getD l j empty) → ((j : ℕ) → k ≤ j → j < size → getD l j empty ≡ empty) → filledBelow size empty k f ≡ l
@@ -80,7 +80,7 @@ module _ (book : Ledger) where
   fewer p = fewer-by emptyPast refl p
 
   empty-place : (k : ℕ) → keptCount book * sectorCount ≤ k → k < sectorPlaces → (not (presentIn (book .force) k) && isZero (chargeIn (book .force) k)) ≡ true
-  unfolding placeKept placeTest
+  unfolding placeKept withinOrEmpty
   empty-place k p q =
       let f = fewer (omega arith) in
       or-else (ltb k (book .n * sectorCount)) _ (f .1 .places k q) (le-ltb k (book .n * sectorCount) (omega (arith, f .0)))
@@ -96,7 +96,7 @@ module _ (book : Ledger) where
   uncharged-past k p q = zero-is _ (and-right (not (presentIn (book .force) k)) _ (empty-place k p q))
 
   pub balanced-past : (i : ℕ) → keptCount book ≤ i → i < mostDistributors → moneyAt (book .balances) i ≡ pos 0
-  unfolding balanceKept balanceTest
+  unfolding balanceKept withinOrZero
   balanced-past i p q =
       let f = fewer (omega arith) in
       zero-is _ (or-else (ltb i (book .n)) _ (f .1 .balances i q) (le-ltb i (book .n) (omega (arith, f .0))))

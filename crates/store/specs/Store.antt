@@ -23,18 +23,18 @@ unfoldable pub wordTruth : ℕ → Bool
 wordTruth word = not (eqb word 0)
 
 -- whether a sector's place is one of n distributors', or empty
-unfoldable pub placeTest : ℕ → Bool → ℤ → ℕ → Bool
-placeTest n present charge k = ltb k (n * sectorCount) || (not present && isZero charge)
+unfoldable pub withinOrEmpty : ℕ → Bool → ℤ → ℕ → Bool
+withinOrEmpty n present charge k = ltb k (n * sectorCount) || (not present && isZero charge)
 
 unfoldable pub placeKept : ℕ → SectorCharges → ℕ → Bool
-placeKept n force k = placeTest n (presentIn force k) (chargeIn force k) k
+placeKept n force k = withinOrEmpty n (presentIn force k) (chargeIn force k) k
 
 -- whether a balance is one of n distributors', or zero
-unfoldable pub balanceTest : ℕ → ℤ → ℕ → Bool
-balanceTest n balance i = ltb i n || isZero balance
+unfoldable pub withinOrZero : ℕ → ℤ → ℕ → Bool
+withinOrZero n balance i = ltb i n || isZero balance
 
 unfoldable pub balanceKept : ℕ → List Pesos → ℕ → Bool
-balanceKept n balances i = balanceTest n (moneyAt balances i) i
+balanceKept n balances i = withinOrZero n (moneyAt balances i) i
 
 -- "where N is above 40 or a word past N is not zero, all 320, 320 and 40": for how many distributors words are kept
 unfoldable pub keptCount : Ledger → ℕ

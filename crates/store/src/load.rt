@@ -6,11 +6,10 @@ ghost use lib.ListN.{length, getD};
 ghost use lib.IntN.{pos};
 ghost use Rattle.numbers.specs.Bounded.{filledBelow};
 ghost use Rattle.numbers.specs.Sizes.{mostDistributors, sectorPlaces};
-ghost use Rattle.store.specs.Store.{wordTruth, loadedForce, loadedBalances, loadedLedger};
+ghost use Rattle.store.specs.Store.{wordTruth, loadedBalances, loadedLedger};
 use crate::save::save;
 use crate::save::truth_word;
 use fixing::sector::SectorCharges;
-use fixing::sector::no_charges;
 use ledger::book::Ledger;
 use numbers::units::Pesos;
 

@@ -4,7 +4,7 @@ ghost use Prim.Native.Nat.{_≤_};
 ghost use lib.ListN.{length};
 ghost use Rattle.numbers.specs.Bounded.{allBelow};
 ghost use Rattle.numbers.specs.Sizes.{mostDistributors, sectorPlaces};
-ghost use Rattle.store.specs.Store.{truthWord, placeTest, placeKept, balanceTest, balanceKept, keptCount, presentWords, chargeWords, balanceWords, Saved};
+ghost use Rattle.store.specs.Store.{truthWord, withinOrEmpty, placeKept, withinOrZero, balanceKept, keptCount, presentWords, chargeWords, balanceWords, Saved};
 use fixing::sector::SectorCharges;
 use ledger::book::Ledger;
 use numbers::units::Pesos;
@@ -23,16 +23,16 @@ pub fn truth_word(truth: bool) -> u64
 // Whether a sector's place is one of n distributors', or empty.
 fn place_kept(n: usize, present: bool, charge: i64, k: usize) -> bool
     requires { ⌜ n ≤ 40 ⌝ }
-    ensures { λ r. ⌜ r ≡ placeTest n present charge k ⌝ }
+    ensures { λ r. ⌜ r ≡ withinOrEmpty n present charge k ⌝ }
 {
     k < n * SECTORS || (!present && charge == 0)
 }
 
 // Whether a balance is one of n distributors', or zero.
-fn balance_kept(n: usize, balance: i64, i: usize) -> bool
-    ensures { λ r. ⌜ r ≡ balanceTest n balance i ⌝ }
+fn balance_kept(n: usize, balance: Pesos, i: usize) -> bool
+    ensures { λ r. ⌜ r ≡ withinOrZero n (balance .0) i ⌝ }
 {
-    i < n || balance == 0
+    i < n || balance.0 == 0
 }
 
 // Whether the sector places past n distributors are empty.
@@ -59,7 +59,7 @@ fn balances_kept(n: usize, balances: [Pesos; 40]) -> bool
     let mut i: usize = 0;
     while i < 40 {
         let balance = balances[i];
-        if !balance_kept(n, balance.0, i) {
+        if !balance_kept(n, balance, i) {
             return false;
         }
         i += 1;
@@ -68,7 +68,7 @@ fn balances_kept(n: usize, balances: [Pesos; 40]) -> bool
 }
 
 // For how many distributors words are kept.
-pub fn kept_count(ledger: Ledger) -> usize
+fn kept_count(ledger: Ledger) -> usize
     ensures { λ r. ⌜ r ≡ keptCount ledger ⌝ }
 {
     let n = ledger.n;

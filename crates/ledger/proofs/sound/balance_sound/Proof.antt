@@ -4,13 +4,13 @@ use mathlib.Core.Bool.{_&&_, _||_}
 use mathlib.Core.Logic.{⊎-elim}
 use lib.Dec.{ltb}
 use mir.Facts.{toZ-ofZ}
-use borrow.Author.Tests.{lt-ltb, le-ltb, eq-eqb, ne-eqb}
+use borrow.Author.Tests.{lt-ltb, le-ltb}
 use Rattle.numbers.specs.Signed.{withinSize}
 use Rattle.settlement.specs.Settlement.{mostPosition}
 use Rattle.ledger.specs.Ledger.{anySettled}
 use Rattle.ledger.specs.Sound.{isZero, balanceTest}
 use Rattle.ledger.proofs.SoundLaws.{zero-bits}
-use borrow.Author.Needs.{needs}
+use borrow.Author.Needs.{needs, sfits-of}
 use Rattle.ledger.proofs.sound.balance_sound.Statement.{statement}
 use Rattle.ledger.proofs.sound.balance_sound.Tie as tie
 
@@ -23,11 +23,11 @@ own c =
     (λ w. rw (le-ltb _ _ (w .0 .left)) (sym (w .1 ∙ le-ltb _ _ (w .0 .left))))
     (c .if1 .came)
 
-settled : (c : tie.Joined2) → ((ltb (c .before .before .args .i) (c .before .before .args .n) && anySettled (c .before .before .args .months)) || isZero (c .before .before .args .balance)) ≡ c .if2 .if3
+settled : (c : tie.Joined2) → ((ltb (c .before .before .args .i) (c .before .before .args .n) && anySettled (c .before .before .args .months)) || isZero (c .before .before .args .balance .0)) ≡ c .if2 .if3
 settled c =
     ⊎-elim
     (λ w. rw (own (c .before), w .0 .taken) (sym (w .1 ∙ w .0 .taken)))
-    (λ w. rw (own (c .before), w .0 .left) (sym (w .1 ∙ zero-bits _ (c .before .before .fits .balance))))
+    (λ w. rw (own (c .before), w .0 .left) (sym (w .3 ∙ zero-bits (c .before .before .args .balance .0) (sfits-of (w .2 .given .0 .1)))))
     (c .if2 .came)
 
 within-size-requires : tie.Need-within-size-requires
@@ -35,8 +35,8 @@ within-size-requires c κs = search needs
 
 returns : tie.Need-returns
 unfolding balanceTest
-returns c = let t = c .before in
-    rw (settled (t .before), t .if3 .taken) (c .within-size .ensures ∙ ap (withinSize mostPosition) (toZ-ofZ (t .before .before .before .fits .balance)))
+returns c = let t = c .before .before in
+    rw (settled (t .before), t .if3 .taken) (c .within-size .ensures ∙ ap (withinSize mostPosition) (toZ-ofZ (sfits-of (c .before .struct-told2 .given .0 .1))))
 
 returns-2 : tie.Need-returns-2
 unfolding balanceTest

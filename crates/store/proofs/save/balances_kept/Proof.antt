@@ -1,14 +1,13 @@
 -- The invariant: the balances passed are kept or zero.
-use mathlib.Core.Path.{_≡_, refl, sym, _∙_, ap}
-use mathlib.Core.Bool.{Bool, true, not}
+use mathlib.Core.Path.{_≡_, refl, sym, _∙_}
+use mathlib.Core.Bool.{Bool, true}
 use Prim.Native.Nat.{ℕ, _≤_, _-_}
 use native.Mathlib.Omega.{arith}
-use mir.Facts.{toZ-ofZ}
-use borrow.Author.Needs.{needs, sfits-of}
+use borrow.Author.Needs.{needs}
 use borrow.Author.Tests.{not-true, not-false}
 use Rattle.numbers.specs.Bounded.{allBelow}
 use Rattle.numbers.proofs.TestLaws.{all-more, all-fails}
-use Rattle.store.specs.Store.{balanceTest, balanceKept}
+use Rattle.store.specs.Store.{balanceKept}
 use Rattle.store.proofs.save.balances_kept.Statement.{statement}
 use Rattle.store.proofs.save.balances_kept.Tie as tie
 
@@ -22,13 +21,9 @@ abbrev μ-loop : tie.MeasureT-loop
 abbrev test : tie.At-loop Inv-loop μ-loop → ℕ → Bool
 test l = balanceKept (l .before .args .n) (l .before .args .t2)
 
-told : (c : tie.After-balance-kept Inv-loop μ-loop) → test (c .before .before .before .before) (c .before .before .before .before .loop .i) ≡ c .balance-kept .result
+told : (c : tie.After-balance-kept Inv-loop μ-loop) → test (c .before .before .before) (c .before .before .before .loop .i) ≡ c .balance-kept .result
 unfolding balanceKept
-told c =
-    let l = c .before .before .before .before in
-    sym
-    (c .balance-kept .ensures
-    ∙ ap (λ z. balanceTest (l .before .args .n) z (l .loop .i)) (toZ-ofZ (sfits-of (c .before .struct-told .given .0 .1))))
+told c = sym (c .balance-kept .ensures)
 
 loop-holds : tie.Need-loop-holds Inv-loop μ-loop
 unfolding allBelow
@@ -44,7 +39,7 @@ balance-kept-requires : tie.Need-balance-kept-requires Inv-loop μ-loop
 balance-kept-requires c κs = search needs
 
 returns : tie.Need-returns Inv-loop μ-loop
-returns c = let l = c .before .before .before .before .before in
+returns c = let l = c .before .before .before .before in
     sym (all-fails 40 (test l) (l .loop .i) (omega arith) (told (c .before) ∙ not-true _ (c .if1 .taken)))
 
 add-i : tie.Need-add-i Inv-loop μ-loop
@@ -54,7 +49,7 @@ loop-less : tie.Need-loop-less Inv-loop μ-loop
 loop-less c = omega arith
 
 loop-again : tie.Need-loop-again Inv-loop μ-loop
-loop-again c = let l = c .before .before .before .before .before in
+loop-again c = let l = c .before .before .before .before in
     (omega arith, all-more (l .loop .i) (test l) (l .loop .inv .1) (told (c .before) ∙ not-false _ (c .if1 .left)))
 
 returns-2 : tie.Need-returns-2 Inv-loop μ-loop

@@ -2,7 +2,7 @@
 use mathlib.Core.Path.{_≡_, sym, _∙_}
 use borrow.Author.Tests.{lt-ltb, le-ltb}
 use Rattle.ledger.proofs.SoundLaws.{zero-bits}
-use Rattle.store.specs.Store.{placeTest}
+use Rattle.store.specs.Store.{withinOrEmpty}
 use borrow.Author.Needs.{needs}
 use Rattle.store.proofs.save.place_kept.Statement.{statement}
 use Rattle.store.proofs.save.place_kept.Tie as tie
@@ -11,16 +11,16 @@ mul-if1 : tie.Need-mul-if1
 mul-if1 c = search needs
 
 returns : tie.Need-returns
-unfolding placeTest
+unfolding withinOrEmpty
 returns c = rw (lt-ltb _ _ (c .if1 .taken))
 
 returns-2 : tie.Need-returns-2
-unfolding placeTest
+unfolding withinOrEmpty
 returns-2 c =
     rw (le-ltb _ _ (c .before .if1 .left), c .if2 .taken) (zero-bits _ (c .before .before .fits .charge))
 
 returns-3 : tie.Need-returns-3
-unfolding placeTest
+unfolding withinOrEmpty
 returns-3 c = rw (le-ltb _ _ (c .before .if1 .left), c .if2 .left)
 
 pub place-kept-spec : {M : Type 1} → statement M

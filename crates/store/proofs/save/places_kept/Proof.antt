@@ -9,7 +9,7 @@ use borrow.Author.Tests.{not-true, not-false}
 use Rattle.numbers.specs.Bounded.{allBelow}
 use Rattle.numbers.proofs.TestLaws.{all-more, all-fails}
 use Rattle.ledger.specs.Sound.{presentIn, chargeIn}
-use Rattle.store.specs.Store.{placeTest, placeKept}
+use Rattle.store.specs.Store.{withinOrEmpty, placeKept}
 use Rattle.store.proofs.save.places_kept.Statement.{statement}
 use Rattle.store.proofs.save.places_kept.Tie as tie
 
@@ -25,7 +25,7 @@ unfolding placeKept
 told c =
     let l = c .before .before .before .before in
     let force = l .before .args .t2 in
-    sym (c .place-kept .ensures ∙ ap (λ z. placeTest (l .before .args .n) (presentIn force (l .loop .k)) z (l .loop .k)) (toZ-ofZ (sfits-of (c .before .charge .given))))
+    sym (c .place-kept .ensures ∙ ap (λ z. withinOrEmpty (l .before .args .n) (presentIn force (l .loop .k)) z (l .loop .k)) (toZ-ofZ (sfits-of (c .before .charge .given))))
 
 loop-holds : tie.Need-loop-holds Inv-loop μ-loop
 unfolding allBelow
