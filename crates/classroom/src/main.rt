@@ -7,8 +7,11 @@ use ledger::open::open;
 use libc::STDOUT_FILENO;
 use numbers::units::PesoPrice;
 use numbers::units::Pesos;
-use text::print_named;
-use text::print_next;
+use text::number::write_decimal;
+use text::number::write_named;
+use text::number::write_signed_word;
+use text::write::write_byte;
+use text::write::write_text;
 
 // Three lines of no terms: distributor, base price, offer and purchase factor, energy, then 21 zeros.
 fn lines() -> [u64; 78] {
@@ -40,23 +43,34 @@ fn sectors() -> [u64; 24] {
     sectors
 }
 
+// Prints the first bytes of a line.
+fn print(line: &[u8], count: usize) {
+    if count <= line.len() {
+        io::write_all(STDOUT_FILENO, &line[..count]);
+    }
+}
+
 // The first line: the four numbers of the fixing.
 fn print_fixing(limit: PesoPrice, surcharge: PesoPrice, rounds: u64, residue: Pesos) {
-    print_named(STDOUT_FILENO, b"limit", limit.0);
-    print_named(STDOUT_FILENO, b" surcharge", surcharge.0);
-    print_named(STDOUT_FILENO, b" rounds", rounds);
-    io::write_all(STDOUT_FILENO, b" residue");
-    print_next(STDOUT_FILENO, residue.0);
-    io::write_all(STDOUT_FILENO, b"\n");
+    let mut line = io::buffer();
+    let end = write_named(&mut line, 0, b"limit", limit.0);
+    let end = write_named(&mut line, end, b" surcharge", surcharge.0);
+    let end = write_named(&mut line, end, b" rounds", rounds);
+    let end = write_text(&mut line, end, b" residue");
+    let end = write_signed_word(&mut line, end, residue.0);
+    let end = write_byte(&mut line, end, b'\n');
+    print(&line, end);
 }
 
 // A distributor's line: number, average, final price, charge.
 fn print_distributor(number: u64, average: i64, price: i64, charge: i64) {
-    io::print_decimal(STDOUT_FILENO, number);
-    print_next(STDOUT_FILENO, average);
-    print_next(STDOUT_FILENO, price);
-    print_next(STDOUT_FILENO, charge);
-    io::write_all(STDOUT_FILENO, b"\n");
+    let mut line = io::buffer();
+    let end = write_decimal(&mut line, 0, number);
+    let end = write_signed_word(&mut line, end, average);
+    let end = write_signed_word(&mut line, end, price);
+    let end = write_signed_word(&mut line, end, charge);
+    let end = write_byte(&mut line, end, b'\n');
+    print(&line, end);
 }
 
 fn main() {

@@ -8,10 +8,8 @@ use native.Mathlib.Omega.{arith}
 use native.Mathlib.Decide.{decLt}
 use lib.Dec.{ltb, eqb}
 use lib.ListN.{length}
-use lib.IntN.{ℤ, pos, negsuc}
-use mir.Syntax.{w64}
-use mir.Val.{SFits, ofZ}
-use borrow.Author.Tests.{lt-ltb, le-ltb, ne-eqb}
+use lib.IntN.{ℤ}
+use borrow.Author.Tests.{lt-ltb, le-ltb}
 use Rattle.numbers.specs.Sizes.{mostDistributors, sectorPlaces}
 use Rattle.journal.specs.Token.{tokenStart, tokenEnd}
 use Rattle.journal.specs.Cursor.{readTo, brokenAt, mostWord, Onward}
@@ -29,7 +27,6 @@ use Rattle.journal.proofs.TokenLaws.{token-start-least, token-start-most, token
 use Rattle.journal.proofs.CursorLaws.{onward-same, onward-number}
 use Rattle.journal.proofs.ListLaws.{words-length, signed-words-length}
 use Rattle.journal.proofs.CommandLaws.{command-within, onward-fix, onward-settle, onward-load, fix-prices-most, settle-transfers-most}
-use Rattle.numbers.specs.Signed.{isNegative}
 use Rattle.numbers.specs.Units.{between}
 use Rattle.ledger.specs.Ledger.{emptyLedger, openingOf}
 use Rattle.ledger.specs.Fix.{callOf as fixingCallOf}
@@ -37,7 +34,7 @@ use Rattle.ledger.specs.Settle.{callOf as settlementCallOf}
 use Rattle.ledger.specs.declared.book.Ledger.{Ledger}
 use Rattle.store.specs.Store.{loadedLedger}
 use Rattle.numbers.proofs.ListLaws.{Front, front}
-use Rattle.commands.specs.Replay.{unwritten, fixingCall, settlementCall, keptLedger, commandNext, commandLedger, stepOf, stepAfter, readWith, replayFrom, isUnwritten}
+use Rattle.commands.specs.Replay.{unwritten, fixingCall, settlementCall, keptLedger, commandNext, commandLedger, stepOf, stepAfter, readWith, replayFrom, longestText, replayed}
 use Rattle.commands.specs.declared.run.Step.{Step}
 
 abbrev pub stepBy : Ledger → Cursor → Step
@@ -282,10 +279,11 @@ pub opened-none : openingOf 0 .ledger ≡ emptyLedger 0
 unfolding openingOf between
 opened-none = refl
 
--- a word's bits are those of -1 where it is -1
-pub unwritten-bits : (z : ℤ) → SFits w64 z → eqb (ofZ w64 z) 18446744073709551615 ≡ isUnwritten z
-unfolding isUnwritten isNegative
-unwritten-bits (pos n) f = ne-eqb n 18446744073709551615 (λ e. omega (arith, f .sfits))
-unwritten-bits (negsuc zero) f = refl
-unwritten-bits (negsuc (suc n)) f =
-    ne-eqb (2 ^ 64 - suc (suc n)) 18446744073709551615 (λ e. omega (arith, f .sfits)) ∙ sym (ne-eqb (suc (suc n)) 1 (λ e. omega arith))
+-- a text that is not too long, and one that is
+pub short : (text : List ℕ) → length text ≤ longestText → {step : Step} → step ≡ replayFrom (length text) text 0 (emptyLedger 0) → step ≡ replayed text
+unfolding replayed
+short text p e = rw (le-ltb longestText (length text) p) e
+
+pub long : (text : List ℕ) → longestText < length text → (book : Ledger) (next : Cursor) → book ≡ emptyLedger 0 → next ≡ brokenAt longestText → stepBy book next ≡ replayed text
+unfolding replayed
+long text p book next h k = rw (lt-ltb longestText (length text) p, h, k)

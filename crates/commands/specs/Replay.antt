@@ -1,13 +1,13 @@
--- What a journal does to the ledger (docs/JOURNAL.md): each command is the call of the words that its text holds.
--- What is printed is not said here. Assumes nothing.
-use mathlib.Core.Bool.{Bool, cond, _&&_}
-use mathlib.Core.List.{List}
-use Prim.Native.Nat.{ℕ, zero, suc}
-use lib.Dec.{ltb, eqb}
-use lib.ListN.{length, getD}
-use lib.IntN.{ℤ, pos, negsuc, natAbs}
-use Rattle.numbers.specs.Bounded.{allBelow, listBelow}
-use Rattle.numbers.specs.Signed.{isNegative}
+-- What a journal does to the ledger, and what it answers (docs/JOURNAL.md): each command is the call of the words that its
+-- text holds. Assumes nothing.
+use mathlib.Core.Path.{_≡_}
+use mathlib.Core.Bool.{cond}
+use mathlib.Core.List.{List, []}
+use Prim.Native.Nat.{ℕ, zero, suc, _≤_}
+use lib.Dec.{ltb}
+use lib.ListN.{length, take}
+use lib.IntN.{ℤ, negsuc}
+use Rattle.numbers.specs.Bounded.{listBelow}
 use Rattle.numbers.specs.Sizes.{mostDistributors, sectorPlaces}
 use Rattle.journal.specs.Cursor.{readTo, brokenAt, numberAfter, mostWord}
 use Rattle.journal.specs.List.{listWords, signedListWords}
@@ -17,12 +17,16 @@ use Rattle.journal.specs.declared.cursor.Cursor.{Cursor}
 use Rattle.journal.specs.declared.command.Command.{Command}
 use Rattle.journal.specs.declared.command.Command.the-variants.{Open, Fix, Settle, Save, Load, Unknown, End}
 use Rattle.ledger.specs.Ledger.{emptyLedger, openingOf}
-use Rattle.ledger.specs.Fix.{FixingCall, fixingLedger}
+use Rattle.ledger.specs.Fix.{FixingCall, fixingAnswer, fixingLedger, fixingList}
 use Rattle.ledger.specs.Fix.{callOf as fixingCallOf}
-use Rattle.ledger.specs.Settle.{SettlementCall, settlementLedger}
+use Rattle.ledger.specs.Settle.{SettlementCall, settlementAnswer, settlementLedger, settlementList}
 use Rattle.ledger.specs.Settle.{callOf as settlementCallOf}
 use Rattle.ledger.specs.declared.book.Ledger.{Ledger}
 use Rattle.store.specs.Store.{loadedLedger}
+use Rattle.text.specs.Buffer.{bufferOf, written}
+use Rattle.answers.specs.Answer.{openingText, loadingText, fixingText, settlementText, savingText}
+use Rattle.commands.specs.declared.call.Made.{Made}
+use Rattle.commands.specs.declared.run.Answered.{Answered}
 use Rattle.commands.specs.declared.run.Step.{Step}
 
 -- a lent list: "it is lent with every word -1"
@@ -77,15 +81,40 @@ commandLedger Load text cursor book = keptLedger text cursor
 commandLedger Unknown text cursor book = book
 commandLedger End text cursor book = book
 
+-- what a fixing and a settlement answer
+unfoldable pub fixingAnswered : Ledger → FixingCall → List ℕ
+fixingAnswered book call = fixingText (fixingAnswer book call) (fixingList book call)
+
+unfoldable pub settlementAnswered : Ledger → SettlementCall → List ℕ
+settlementAnswered book call =
+    settlementText (settlementAnswer book call) (settlementList book call) (settlementLedger book call .balances)
+
+-- what a command answers
+abbrev pub commandAnswer : Command → List ℕ → Cursor → Ledger → List ℕ
+commandAnswer Open text cursor book = openingText (openingOf (numberAfter text cursor mostWord .value) .answer)
+commandAnswer Fix text cursor book = fixingAnswered book (fixingCall text cursor)
+commandAnswer Settle text cursor book = settlementAnswered book (settlementCall text cursor)
+commandAnswer Save text cursor book = savingText book
+commandAnswer Load text cursor book = loadingText
+commandAnswer Unknown text cursor book = []
+commandAnswer End text cursor book = []
+
 -- "the broken command is not made"
 unfoldable pub stepOf : Command → List ℕ → Cursor → Ledger → Step
 stepOf command text cursor book =
     let next = commandNext command text cursor in
     record { ledger = cond (next .broken) book (commandLedger command text cursor book); next = next }
 
+unfoldable pub answerOf : Command → List ℕ → Cursor → Ledger → List ℕ
+answerOf command text cursor book =
+    cond (commandNext command text cursor .broken) [] (commandAnswer command text cursor book)
+
 -- the command that stands next
 unfoldable pub stepAfter : List ℕ → ℕ → Ledger → Step
 stepAfter text at book = let read = commandAfter text at in stepOf (read .command) text (read .next) book
+
+unfoldable pub answerAfter : List ℕ → ℕ → Ledger → List ℕ
+answerAfter text at book = let read = commandAfter text at in answerOf (read .command) text (read .next) book
 
 -- the text is read up to a place, with a ledger
 abbrev pub readWith : Ledger → ℕ → Step
@@ -112,9 +141,26 @@ replayed text =
     (record { ledger = emptyLedger 0; next = brokenAt longestText })
     (replayFrom (length text) text 0 (emptyLedger 0))
 
--- whether a lent list is as it was lent: "if a word of it is no longer -1"
-unfoldable pub isUnwritten : ℤ → Bool
-isUnwritten word = isNegative word && eqb (natAbs word) 1
+-- the size of the buffer for an answer: none is longer
+abbrev pub longestAnswer : ℕ
+longestAnswer = 262144
 
-unfoldable pub allUnwritten : List ℤ → Bool
-allUnwritten list = allBelow (length list) (λ k. isUnwritten (getD list k (pos 0)))
+-- a command that cannot be read
+abbrev pub unansweredBy : Ledger → Cursor → Answered
+unansweredBy book next = record { step = record { ledger = book; next = next }; count = 0 }
+
+-- a call that was made: its ledger, and its answer at the start of a buffer
+pub record CallMade (made : Made) (book : Ledger) (answer found left : List ℕ) : Type 0 where
+  pub booked : made .ledger ≡ book
+  pub answered : bufferOf left (made .count) ≡ written answer (bufferOf found 0)
+
+-- a command that was read, and made where it is whole
+pub record CommandMade (made : Answered) (step : Step) (answer found left : List ℕ) : Type 0 where
+  pub stepped : made .step ≡ step
+  pub answered : bufferOf left (made .count) ≡ written answer (bufferOf found 0)
+
+-- a command's answer as it is printed: the first bytes of the buffer
+pub record CommandAnswered (made : Answered) (step : Step) (answer left : List ℕ) : Type 0 where
+  pub stepped : made .step ≡ step
+  pub within : made .count ≤ length left
+  pub printed : take (made .count) left ≡ answer

@@ -4,13 +4,13 @@ ghost use Prim.Native.Nat.{_≤_};
 ghost use lib.ListN.{length};
 ghost use Rattle.journal.specs.Command.{longestList};
 ghost use Rattle.journal.specs.declared.command.Command.the-variants.{Open, Fix, Settle, Load};
-ghost use Rattle.commands.specs.Replay.{stepOf, stepAfter, replayed};
-use crate::answer::end_line;
-use crate::answer::print_outcome;
+ghost use Rattle.commands.specs.Replay.{stepOf, answerOf, stepAfter, answerAfter, replayed, longestAnswer, longestText, unansweredBy, CommandMade, CommandAnswered};
 use crate::call::make_fixing;
-use crate::call::make_opening;
-use crate::call::make_saving;
 use crate::call::make_settlement;
+use answers::outcome::write_error;
+use answers::outcome::write_loading;
+use answers::outcome::write_opening;
+use answers::saving::write_saving;
 use journal::command::Command;
 use journal::command::MOST_WORD;
 use journal::command::next_command;
@@ -23,10 +23,8 @@ use journal::cursor::next_number;
 use journal::cursor::read_to;
 use ledger::book::Ledger;
 use ledger::open::open;
-use libc::STDIN_FILENO;
 use libc::STDOUT_FILENO;
 use store::load::load;
-use text::print_named;
 
 // The longest journal, in bytes.
 const LONGEST_TEXT: usize = 524288;
@@ -37,17 +35,35 @@ pub struct Step {
     pub next: Cursor,
 }
 
-fn run_open(text: &[u8], cursor: Cursor, ledger: Ledger) -> Step
+// A command's step, and how many bytes its answer has.
+pub struct Answered {
+    pub step: Step,
+    pub count: usize,
+}
+
+// A command that cannot be read: the ledger stays, and nothing is answered.
+fn unanswered(ledger: Ledger, next: Cursor) -> Answered
+    ensures { λ r. ⌜ r ≡ unansweredBy ledger next ⌝ }
+{
+    let step = Step { ledger, next };
+    Answered { step, count: 0 }
+}
+
+fn run_open(text: &[u8], cursor: Cursor, ledger: Ledger, buffer: &mut [u8]) -> Answered
     requires { ⌜ cursor .at ≤ length (now text) ⌝ }
-    ensures { λ r. ⌜ r ≡ stepOf Open (now (text .entry)) cursor ledger ⌝ }
+    ensures { λ r. ⌜ CommandMade r (stepOf Open (now (text .entry)) cursor ledger) (answerOf Open (now (text .entry)) cursor ledger) (now (buffer .entry)) (now (buffer .exit)) ⌝ }
 {
     let read = next_number(text, cursor, MOST_WORD);
     let next = read.next;
     if next.broken {
-        return Step { ledger, next };
+        return unanswered(ledger, next);
     }
-    let ledger = make_opening(read.value as usize);
-    Step { ledger, next }
+    let opening = open(read.value as usize);
+    let answer = opening.answer;
+    let ledger = opening.ledger;
+    let count = write_opening(buffer, 0, answer);
+    let step = Step { ledger, next };
+    Answered { step, count }
 }
 
 fn run_fix(
@@ -58,28 +74,35 @@ fn run_fix(
     lines: &mut [u64],
     sectors: &mut [u64],
     prices: &mut [i64],
-) -> Step
+    buffer: &mut [u8],
+) -> Answered
     requires { ⌜ cursor .at ≤ length (now text) ⌝ ∗ ⌜ length (now series) ≡ longestList ⌝ ∗ ⌜ length (now lines) ≡ longestList ⌝ ∗ ⌜ length (now sectors) ≡ longestList ⌝ ∗ ⌜ length (now prices) ≡ longestList ⌝ }
-    ensures { λ r. ⌜ r ≡ stepOf Fix (now (text .entry)) cursor ledger ⌝ }
+    ensures { λ r. ⌜ CommandMade r (stepOf Fix (now (text .entry)) cursor ledger) (answerOf Fix (now (text .entry)) cursor ledger) (now (buffer .entry)) (now (buffer .exit)) ⌝ }
 {
     let read = read_fix(text, cursor, series, lines, sectors);
     let next = read.next;
     if next.broken {
-        return Step { ledger, next };
+        return unanswered(ledger, next);
     }
     let values = read.series;
     let words = read.lines;
     let factors = read.sectors;
-    let count = read.prices;
-    let ledger = make_fixing(
+    let lent = read.prices;
+    let made = make_fixing(
         ledger,
         read,
         &series[..values],
         &lines[..words],
         &sectors[..factors],
-        &mut prices[..count],
+        &mut prices[..lent],
+        buffer,
     );
-    Step { ledger, next }
+    let ledger = made.ledger;
+    let step = Step { ledger, next };
+    Answered {
+        step,
+        count: made.count,
+    }
 }
 
 fn run_settle(
@@ -89,31 +112,38 @@ fn run_settle(
     readings: &mut [u64],
     losses: &mut [u64],
     transfers: &mut [i64],
-) -> Step
+    buffer: &mut [u8],
+) -> Answered
     requires { ⌜ cursor .at ≤ length (now text) ⌝ ∗ ⌜ length (now readings) ≡ longestList ⌝ ∗ ⌜ length (now losses) ≡ longestList ⌝ ∗ ⌜ length (now transfers) ≡ longestList ⌝ }
-    ensures { λ r. ⌜ r ≡ stepOf Settle (now (text .entry)) cursor ledger ⌝ }
+    ensures { λ r. ⌜ CommandMade r (stepOf Settle (now (text .entry)) cursor ledger) (answerOf Settle (now (text .entry)) cursor ledger) (now (buffer .entry)) (now (buffer .exit)) ⌝ }
 {
     let read = read_settle(text, cursor, readings, losses);
     let next = read.next;
     if next.broken {
-        return Step { ledger, next };
+        return unanswered(ledger, next);
     }
     let words = read.readings;
     let factors = read.losses;
-    let count = read.transfers;
-    let ledger = make_settlement(
+    let lent = read.transfers;
+    let made = make_settlement(
         ledger,
         read.month,
         &readings[..words],
         &losses[..factors],
-        &mut transfers[..count],
+        &mut transfers[..lent],
+        buffer,
     );
-    Step { ledger, next }
+    let ledger = made.ledger;
+    let step = Step { ledger, next };
+    Answered {
+        step,
+        count: made.count,
+    }
 }
 
-fn run_load(text: &[u8], cursor: Cursor, ledger: Ledger) -> Step
+fn run_load(text: &[u8], cursor: Cursor, ledger: Ledger, buffer: &mut [u8]) -> Answered
     requires { ⌜ cursor .at ≤ length (now text) ⌝ }
-    ensures { λ r. ⌜ r ≡ stepOf Load (now (text .entry)) cursor ledger ⌝ }
+    ensures { λ r. ⌜ CommandMade r (stepOf Load (now (text .entry)) cursor ledger) (answerOf Load (now (text .entry)) cursor ledger) (now (buffer .entry)) (now (buffer .exit)) ⌝ }
 {
     let mut present = [0u64; 320];
     let mut charges = [0i64; 320];
@@ -121,7 +151,7 @@ fn run_load(text: &[u8], cursor: Cursor, ledger: Ledger) -> Step
     let read = read_load(text, cursor, &mut present, &mut charges, &mut balances);
     let next = read.next;
     if next.broken {
-        return Step { ledger, next };
+        return unanswered(ledger, next);
     }
     let places = read.present;
     let charged = read.charges;
@@ -136,12 +166,12 @@ fn run_load(text: &[u8], cursor: Cursor, ledger: Ledger) -> Step
         &charges[..charged],
         &balances[..balanced],
     );
-    print_outcome(b"load", 0);
-    end_line();
-    Step { ledger, next }
+    let count = write_loading(buffer, 0);
+    let step = Step { ledger, next };
+    Answered { step, count }
 }
 
-// One command, from its word on.
+// One command, from its word on, and its answer as the first bytes of the buffer.
 fn run_command(
     text: &[u8],
     at: usize,
@@ -150,24 +180,27 @@ fn run_command(
     lines: &mut [u64],
     sectors: &mut [u64],
     prices: &mut [i64],
-) -> Step
+    buffer: &mut [u8],
+) -> Answered
     requires { ⌜ at ≤ length (now text) ⌝ ∗ ⌜ length (now series) ≡ longestList ⌝ ∗ ⌜ length (now lines) ≡ longestList ⌝ ∗ ⌜ length (now sectors) ≡ longestList ⌝ ∗ ⌜ length (now prices) ≡ longestList ⌝ }
-    ensures { λ r. ⌜ r ≡ stepAfter (now (text .entry)) at ledger ⌝ }
+    requires { ⌜ length (now buffer) ≡ longestAnswer ⌝ }
+    ensures { λ r. ⌜ CommandAnswered r (stepAfter (now (text .entry)) at ledger) (answerAfter (now (text .entry)) at ledger) (now (buffer .exit)) ⌝ }
 {
     let read = next_command(text, at);
     let next = read.next;
     let command = read.command;
     match command {
-        Command::Open => run_open(text, next, ledger),
-        Command::Fix => run_fix(text, next, ledger, series, lines, sectors, prices),
-        Command::Settle => run_settle(text, next, ledger, series, lines, prices),
+        Command::Open => run_open(text, next, ledger, buffer),
+        Command::Fix => run_fix(text, next, ledger, series, lines, sectors, prices, buffer),
+        Command::Settle => run_settle(text, next, ledger, series, lines, prices, buffer),
         Command::Save => {
-            make_saving(ledger);
-            Step { ledger, next }
+            let count = write_saving(buffer, 0, ledger);
+            let step = Step { ledger, next };
+            Answered { step, count }
         }
-        Command::Load => run_load(text, next, ledger),
-        Command::Unknown => Step { ledger, next },
-        Command::End => Step { ledger, next },
+        Command::Load => run_load(text, next, ledger, buffer),
+        Command::Unknown => unanswered(ledger, next),
+        Command::End => unanswered(ledger, next),
     }
 }
 
@@ -184,24 +217,33 @@ fn signed_words() -> [i64; 8192]
     [0; 8192]
 }
 
-// Makes the commands of a journal, in their order, and writes their answers: the ledger after them, and how far the text
-// was read.
-pub fn replay(text: &[u8]) -> Step
+fn answer_buffer() -> [u8; 262144]
+    ensures { λ r. ⌜ length r ≡ longestAnswer ⌝ }
+{
+    [0; 262144]
+}
+
+// Writes where the text cannot be read.
+fn print_error(next: Cursor) {
+    let mut buffer = io::buffer();
+    let count = write_error(&mut buffer, 0, next.at);
+    io::write_all(STDOUT_FILENO, &buffer[..count]);
+}
+
+// Makes the commands of a text that is not too long, in their order, and prints their answers.
+fn run_commands(text: &[u8]) -> Step
+    requires { ⌜ length (now text) ≤ longestText ⌝ }
     ensures { λ r. ⌜ r ≡ replayed (now (text .entry)) ⌝ }
 {
-    let none = open(0).ledger;
-    if text.len() > LONGEST_TEXT {
-        let next = broken_at(LONGEST_TEXT);
-        return Step { ledger: none, next };
-    }
     let mut series = words();
     let mut lines = words();
     let mut sectors = words();
     let mut prices = signed_words();
-    let mut ledger = none;
+    let mut buffer = answer_buffer();
+    let mut ledger = open(0).ledger;
     let mut at: usize = 0;
     while at < text.len() {
-        let step = run_command(
+        let answered = run_command(
             text,
             at,
             ledger,
@@ -209,7 +251,11 @@ pub fn replay(text: &[u8]) -> Step
             &mut lines,
             &mut sectors,
             &mut prices,
+            &mut buffer,
         );
+        let count = answered.count;
+        io::write_all(STDOUT_FILENO, &buffer[..count]);
+        let step = answered.step;
         let next = step.next;
         if next.broken {
             return step;
@@ -221,26 +267,21 @@ pub fn replay(text: &[u8]) -> Step
     Step { ledger, next }
 }
 
-// Replays a journal, and writes a line where it cannot be read.
-pub fn print_replay(text: &[u8]) {
-    let step = replay(text);
+// Makes the commands of a journal, in their order, and prints their answers, and a line where it cannot be read: the
+// ledger after them, and how far the text was read.
+pub fn replay(text: &[u8]) -> Step
+    ensures { λ r. ⌜ r ≡ replayed (now (text .entry)) ⌝ }
+{
+    let step = if text.len() > LONGEST_TEXT {
+        let ledger = open(0).ledger;
+        let next = broken_at(LONGEST_TEXT);
+        Step { ledger, next }
+    } else {
+        run_commands(text)
+    };
     let next = step.next;
     if next.broken {
-        print_named(STDOUT_FILENO, b"journal error at byte", next.at as u64);
-        end_line();
+        print_error(next);
     }
-}
-
-// One byte more than the longest journal, so that a longer one is told.
-fn text_buffer() -> [u8; 524289]
-    ensures { λ r. ⌜ 524289 ≡ length r ⌝ }
-{
-    [0; 524289]
-}
-
-// Replays the journal on standard input.
-pub fn replay_input() {
-    let mut text = text_buffer();
-    let count = io::read_full(STDIN_FILENO, &mut text);
-    print_replay(&text[..count]);
+    step
 }

@@ -1,6 +1,6 @@
 -- What an accepted call passed: each check of its list, and for a fixing what its input comes to. Assumes nothing.
-use mathlib.Core.Path.{_≡_, refl, ap}
-use mathlib.Core.Bool.{Bool, true, false, _&&_, false≢true}
+use mathlib.Core.Path.{_≡_, refl, sym, _∙_, ap}
+use mathlib.Core.Bool.{Bool, true, false, cond, _&&_, false≢true}
 use mathlib.Core.List.{[], _∷_}
 use Prim.Native.Nat.{ℕ, _*_, _%_, _≤_}
 use native.Mathlib.Omega.{arith}
@@ -11,6 +11,7 @@ use Rattle.numbers.specs.Checks.{refusedUnless, firstOf}
 use Rattle.numbers.specs.Units.{between}
 use Rattle.numbers.specs.Sizes.{sectorCount}
 use Rattle.numbers.proofs.BoolLaws.{and-left, and-right}
+use Rattle.numbers.proofs.ListLaws.{list-length}
 use Rattle.numbers.proofs.UnitLaws.{between-low, between-high}
 use Rattle.series.specs.Series.{wordCount, valuesInRange}
 use Rattle.supply.specs.Line.{lineWords, mostLines}
@@ -33,7 +34,7 @@ use Rattle.settlement.specs.Settlement.{positionsInRange}
 use Rattle.settlement.specs.Month.{moneyAt}
 use Rattle.ledger.specs.Sound.{sound}
 use Rattle.ledger.specs.Turn.{fixingTurn, settlementTurn}
-use Rattle.ledger.specs.Fix.{FixingCall, linesWhole, fixingLengths, fromVerdict, fixingChecks, fixingAnswer, isAccepted, isPassed, acceptedAnswer}
+use Rattle.ledger.specs.Fix.{FixingCall, linesWhole, fixingLengths, fromVerdict, fixingChecks, fixingAnswer, isAccepted, isPassed, acceptedAnswer, priceList, fixingList}
 use Rattle.ledger.specs.Settle.{SettlementCall, settlementLengths, settlementChecks, settlementAnswer, isSettled, positionsOf, Due}
 use Rattle.ledger.specs.declared.book.Ledger.{Ledger}
 use Rattle.ledger.specs.declared.fix.FixingAnswer.the-variants.{Unsound, WrongLength, OutOfTurn}
@@ -62,6 +63,17 @@ fixing-passed book call h = go (sound book) refl (fixingLengths (book .n) call) 
     go true p true q true r NoLine s k = absurd (false≢true k)
     go true p true q true r (MonthMissing line term) s k = absurd (false≢true k)
     go true p true q true r (OutOfBounds line) s k = absurd (false≢true k)
+
+-- the list of a fixing is as long as the list lent
+pub fixing-list-length : (book : Ledger) (call : FixingCall) → length (fixingList book call) ≡ length (call .prices)
+unfolding fixingList priceList fixingLengths
+fixing-list-length book call = kept (isAccepted (fixingAnswer book call)) refl
+  where
+    kept : (b : Bool) → isAccepted (fixingAnswer book call) ≡ b → length (cond b (priceList (book .n) (fixingOf (book .n) (call .input))) (call .prices)) ≡ length (call .prices)
+    kept true e =
+        let sized = and-right (eqb (length (call .input .sectors)) (book .n * sectorCount)) (eqb (length (call .prices)) (book .n * 3)) (and-right (linesWhole (call .input .lines)) _ (and-right (eqb (length (call .input .series)) wordCount) _ (fixing-passed book call e .lengths))) in
+        list-length _ (book .n * 3) ∙ sym (eqb-true (length (call .prices)) (book .n * 3) sized)
+    kept false e = refl
 
 -- the checks that a passed input passed
 pub record InputPassed (n : ℕ) (input : FixingInput) : Type 0 where

@@ -7,7 +7,6 @@ use ledger::open::open;
 use ledger::settle::number as settlement_number;
 use ledger::settle::settle;
 use libc::STDOUT_FILENO;
-use text::print_named;
 
 const LINES: usize = 256;
 
@@ -107,7 +106,8 @@ fn main() {
     let book = opening.ledger;
     let lines = lines();
     let fixings = fix_often(book, &lines);
-    print_named(STDOUT_FILENO, b"fixings", fixings);
+    io::write_all(STDOUT_FILENO, b"fixings ");
+    io::print_decimal(STDOUT_FILENO, fixings);
     let series = [10000u64; 240];
     let sectors = [10000u64; 320];
     let mut prices = [0i64; 120];
@@ -124,6 +124,7 @@ fn main() {
     );
     let fixed = outcome.ledger;
     let settlements = settle_often(fixed);
-    print_named(STDOUT_FILENO, b" settlements", settlements);
+    io::write_all(STDOUT_FILENO, b" settlements ");
+    io::print_decimal(STDOUT_FILENO, settlements);
     io::write_all(STDOUT_FILENO, b"\n");
 }

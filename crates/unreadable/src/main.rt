@@ -1,7 +1,7 @@
 // Journals that cannot be read, one of each kind of error: what was read before the error stands as printed.
 ghost use mathlib.Core.Path.{_≡_};
 ghost use lib.ListN.{length};
-use commands::run::print_replay;
+use commands::run::replay;
 use libc::STDOUT_FILENO;
 
 // Replays a journal under a title.
@@ -9,7 +9,7 @@ fn report(title: &[u8], text: &[u8]) {
     io::write_all(STDOUT_FILENO, b"# ");
     io::write_all(STDOUT_FILENO, title);
     io::write_all(STDOUT_FILENO, b"\n");
-    print_replay(text);
+    replay(text);
 }
 
 // Replays the first bytes of a text under a title.

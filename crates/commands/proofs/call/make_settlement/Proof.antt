@@ -1,25 +1,27 @@
--- The ledger is that of the open call, with the list as lent.
-use mathlib.Core.Path.{_≡_, _∙_, ap}
+-- The ledger and the answer are those of the open call, with the list as lent.
+use mathlib.Core.Path.{_≡_, _∙_, ap, ap₂}
 use mathlib.Core.List.{List}
 use lib.IntN.{ℤ}
 use lib.ListN.{length}
+use Rattle.ledger.specs.Settle.{SettlementCall, callOf, settlementAnswer, settlementLedger, settlementList}
 use Rattle.ledger.specs.declared.book.Ledger.{Ledger}
-use Rattle.ledger.specs.Settle.{callOf, settlementLedger}
-use Rattle.commands.specs.Replay.{unwritten}
+use Rattle.text.specs.Buffer.{bufferOf, written}
+use Rattle.answers.specs.Answer.{settlementText}
+use Rattle.commands.specs.Replay.{unwritten, settlementAnswered}
 use borrow.Author.Needs.{needs}
 use Rattle.commands.proofs.call.make_settlement.Statement.{statement}
 use Rattle.commands.proofs.call.make_settlement.Tie as tie
 
--- the ledger is that of the open call, with the list as lent
+-- the call, with the list as lent
 module _ (d : tie.After-settle) where
   abbrev s : tie.Start
-  s = d .before .before .before .before .before .before .before
+  s = d .before .before .before .before .before .before .before .before
 
-  abbrev ledgerBy : List ℤ → Ledger
-  ledgerBy list = settlementLedger (s .args .ledger) (callOf (s .args .month) (s .args .readings .now) (s .args .losses .now) list)
+  abbrev callBy : List ℤ → SettlementCall
+  callBy list = callOf (s .args .month) (s .args .readings .now) (s .args .losses .now) list
 
-  booked : d .settle .result .ledger ≡ ledgerBy (unwritten (length (s .args .transfers .now)))
-  booked = d .settle .ensures .booked ∙ ap ledgerBy (d .before .before .before .lend .ensures)
+  lent : d .before .before .before .lend .last .0 ≡ unwritten (length (s .args .transfers .now))
+  lent = d .before .before .before .lend .ensures
 
 lend-requires : tie.Need-lend-requires
 lend-requires c κs = search needs
@@ -27,35 +29,28 @@ lend-requires c κs = search needs
 settle-requires : tie.Need-settle-requires
 settle-requires c κs = search needs
 
-number-requires : tie.Need-number-requires
-number-requires c κs = search needs
-
-slice-aggregate-print-outcome : tie.Need-slice-aggregate-print-outcome
-slice-aggregate-print-outcome c = search needs
-
-print-outcome-requires : tie.Need-print-outcome-requires
-print-outcome-requires c κs = search needs
-
-end-line-requires : tie.Need-end-line-requires
-end-line-requires c κs = search needs
-
-print-transfers-requires : tie.Need-print-transfers-requires
-print-transfers-requires c κs = search needs
-
-print-changed-requires : tie.Need-print-changed-requires
-print-changed-requires c κs = search needs
+write-settlement-requires : tie.Need-write-settlement-requires
+write-settlement-requires c κs = search needs
 
 same-length : tie.Need-same-length
 same-length c = search needs
 
-returns : tie.Need-returns
-returns c = booked (c .before .before .before .before .before .before .before .before .before .before)
-
 same-length-2 : tie.Need-same-length-2
 same-length-2 c = search needs
 
-returns-2 : tie.Need-returns-2
-returns-2 c = booked (c .before .before .before .before .before .before .before .before .before)
+returns : tie.Need-returns
+unfolding settlementAnswered
+returns c =
+    let w = c .before .before in
+    let d = w .before .before .before .before .before .before in
+    record {
+      booked = d .settle .ensures .booked ∙ ap (λ list. settlementLedger (s d .args .ledger) (callBy d list)) (lent d);
+      answered =
+          w .write-settlement .ensures
+          ∙ ap₂ (λ answer list. written (settlementText answer list (d .settle .result .ledger .balances)) (bufferOf (s d .args .buffer .now) 0)) (d .settle .ensures .answered) (d .settle .ensures .listed)
+          ∙ ap (λ (book : Ledger). written (settlementText (settlementAnswer (s d .args .ledger) (callBy d (d .before .before .before .lend .last .0))) (settlementList (s d .args .ledger) (callBy d (d .before .before .before .lend .last .0))) (book .balances)) (bufferOf (s d .args .buffer .now) 0)) (d .settle .ensures .booked)
+          ∙ ap (λ list. written (settlementAnswered (s d .args .ledger) (callBy d list)) (bufferOf (s d .args .buffer .now) 0)) (lent d);
+    }
 
 pub make-settlement-spec : {M : Type 1} → statement M
 make-settlement-spec =
@@ -63,13 +58,7 @@ make-settlement-spec =
     (tie.spec
     lend-requires
     settle-requires
-    number-requires
-    slice-aggregate-print-outcome
-    print-outcome-requires
-    end-line-requires
-    print-transfers-requires
-    print-changed-requires
+    write-settlement-requires
     same-length
-    returns
     same-length-2
-    returns-2)
+    returns)

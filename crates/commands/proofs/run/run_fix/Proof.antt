@@ -11,13 +11,18 @@ use Rattle.journal.specs.declared.command.Command.the-variants.{Fix}
 use Rattle.journal.specs.declared.command.FixRead.{FixRead}
 use Rattle.ledger.specs.Fix.{fixingLedger}
 use Rattle.numbers.proofs.ListLaws.{Front}
-use Rattle.commands.proofs.ReplayLaws.{step-broken, step-made, series-first, lines-first, sectors-first, prices-most, fixing-made}
+use Rattle.commands.specs.Replay.{fixingAnswered}
+use Rattle.commands.proofs.ReplayLaws.{series-first, lines-first, sectors-first, prices-most, fixing-made}
+use Rattle.commands.proofs.AnswerLaws.{command-broken, call-made}
 use borrow.Author.Needs.{needs}
 use Rattle.commands.proofs.run.run_fix.Statement.{statement}
 use Rattle.commands.proofs.run.run_fix.Tie as tie
 
 read-fix-requires : tie.Need-read-fix-requires
 read-fix-requires c κs = search needs
+
+unanswered-requires : tie.Need-unanswered-requires
+unanswered-requires c κs = search needs
 
 same-length : tie.Need-same-length
 same-length c = search needs
@@ -31,7 +36,7 @@ same-length-3 c = search needs
 -- what was read stands first in the lists
 module _ (d : tie.After-read-fix) where
   abbrev s : tie.Start
-  s = d .before .before .before .before .before .before .before .before
+  s = d .before .before .before .before .before .before .before .before .before
 
   seriesRead : Front (d .read-fix .result .series) (listWords (s .args .text .now) (fixSeriesFrom (s .args .text .now) (s .args .cursor)) seriesName longestList mostWord) (d .read-fix .last .1 .1 .0)
   seriesRead = series-first _ _ _ (d .read-fix .ensures .0) _ _ (d .read-fix .ensures .1 .0)
@@ -47,7 +52,7 @@ module _ (d : tie.After-read-fix) where
 
 returns : tie.Need-returns
 returns c =
-    step-broken Fix _ _ _ _ (ap (λ (r : FixRead). r .next) (c .before .before .before .before .before .before .before .before .read-fix .ensures .0)) (c .if1 .taken)
+    command-broken Fix _ _ _ _ (ap (λ (r : FixRead). r .next) (c .before .before .before .before .before .before .before .before .before .read-fix .ensures .0)) (c .before .if1 .taken) _ (c .unanswered .ensures) _
 
 slice-reshare-prefix-make-fixing : tie.Need-slice-reshare-prefix-make-fixing
 slice-reshare-prefix-make-fixing c = seriesRead (c .before .before .before .before .before .before .before .before) .long
@@ -88,20 +93,26 @@ same-length-6 c = search needs
 same-length-7 : tie.Need-same-length-7
 same-length-7 c = search needs
 
+same-length-8 : tie.Need-same-length-8
+same-length-8 c = search needs
+
 returns-2 : tie.Need-returns-2
 returns-2 c =
-    let d = c .before .before .before .before .before .before .before .before .before .before .before .before .before .before in
-    step-made Fix _ _ _ _ (ap (λ (r : FixRead). r .next) (d .read-fix .ensures .0)) (c .before .before .before .before .before .before .if1 .left) _
-    (c .before .make-fixing .ensures
-    ∙ ap (fixingLedger (s d .args .ledger))
-    (fixing-made _ _ (d .read-fix .result) (d .read-fix .ensures .0) _ _ _ _ (seriesRead d .first) (linesRead d .first) (sectorsRead d .first)
-    (length-take-le _ _ (pricesLong d))))
+    let m = c .before .before .before .before in
+    let d = m .before .before .before .before .before .before .before .before .before .before .before .before .before .before in
+    let made =
+    fixing-made _ _ (d .read-fix .result) (d .read-fix .ensures .0) _ _ _ _ (seriesRead d .first) (linesRead d .first) (sectorsRead d .first)
+    (length-take-le _ _ (pricesLong d)) in
+    call-made Fix _ _ _ _ (ap (λ (r : FixRead). r .next) (d .read-fix .ensures .0)) (m .before .before .before .before .before .before .if1 .left) _ _ _ _ _ (m .make-fixing .ensures)
+    (ap (fixingLedger (s d .args .ledger)) made)
+    (ap (fixingAnswered (s d .args .ledger)) made)
 
 pub run-fix-spec : {M : Type 1} → statement M
 run-fix-spec =
     tie.close
     (tie.spec
     read-fix-requires
+    unanswered-requires
     same-length
     same-length-2
     same-length-3
@@ -119,4 +130,5 @@ run-fix-spec =
     same-length-5
     same-length-6
     same-length-7
+    same-length-8
     returns-2)

@@ -9,7 +9,8 @@ use Rattle.journal.specs.declared.command.Command.the-variants.{Load}
 use Rattle.journal.specs.declared.command.LoadRead.{LoadRead}
 use Rattle.journal.proofs.CommandLaws.{load-present-most, load-charges-most, load-balances-most}
 use Rattle.numbers.proofs.ListLaws.{Front}
-use Rattle.commands.proofs.ReplayLaws.{step-broken, step-made, present-first, charges-first, balances-first, ledger-kept}
+use Rattle.commands.proofs.ReplayLaws.{present-first, charges-first, balances-first, ledger-kept}
+use Rattle.commands.proofs.AnswerLaws.{command-broken, command-made}
 use borrow.Author.Needs.{needs}
 use Rattle.commands.proofs.run.run_load.Statement.{statement}
 use Rattle.commands.proofs.run.run_load.Tie as tie
@@ -26,14 +27,13 @@ slice-aggregate-read-load-3 c = search needs
 read-load-requires : tie.Need-read-load-requires
 read-load-requires c κs = search needs
 
-returns : tie.Need-returns
-returns c =
-    step-broken Load _ _ _ _ (ap (λ (r : LoadRead). r .next) (c .before .before .before .before .before .read-load .ensures .0)) (c .if1 .taken)
+unanswered-requires : tie.Need-unanswered-requires
+unanswered-requires c κs = search needs
 
 -- what was read stands first in the lists
 module _ (d : tie.After-read-load) where
   abbrev s : tie.Start
-  s = d .before .before .before .before .before
+  s = d .before .before .before .before .before .before
 
   presences : Front (d .read-load .result .present) (listWords (s .args .text .now) (loadPresentFrom (s .args .text .now) (s .args .cursor)) presentName sectorPlaces 1) (d .read-load .last .1 .1 .0)
   presences = present-first _ _ _ (d .read-load .ensures .0) _ _ (d .read-load .ensures .1 .0)
@@ -48,6 +48,10 @@ module _ (d : tie.After-read-load) where
   few =
       rw (d .read-load .ensures .0)
       (load-present-most (s .args .text .now) (s .args .cursor), load-charges-most (s .args .text .now) (s .args .cursor), load-balances-most (s .args .text .now) (s .args .cursor))
+
+returns : tie.Need-returns
+returns c =
+    command-broken Load _ _ _ _ (ap (λ (r : LoadRead). r .next) (c .before .before .before .before .before .before .read-load .ensures .0)) (c .before .if1 .taken) _ (c .unanswered .ensures) _
 
 array-share-prefix-present : tie.Need-array-share-prefix-present
 array-share-prefix-present c = presences (c .before .before .before .before .before) .long
@@ -77,21 +81,21 @@ load-requires c κs =
       ),
     )
 
-slice-aggregate-print-outcome : tie.Need-slice-aggregate-print-outcome
-slice-aggregate-print-outcome c = search needs
+write-loading-requires : tie.Need-write-loading-requires
+write-loading-requires c κs = search needs
 
-print-outcome-requires : tie.Need-print-outcome-requires
-print-outcome-requires c κs = search needs
-
-end-line-requires : tie.Need-end-line-requires
-end-line-requires c κs = search needs
+same-length : tie.Need-same-length
+same-length c = search needs
 
 returns-2 : tie.Need-returns-2
 returns-2 c =
-    let d = c .before .before .before .before .before .before .before .before .before .before .before .before in
-    step-made Load _ _ _ _ (ap (λ (r : LoadRead). r .next) (d .read-load .ensures .0)) (c .before .before .before .before .before .before .before .if1 .left) _
-    (c .before .before .before .load .ensures
+    let w = c .before .before in
+    let l = w .before .before in
+    let d = l .before .before .before .before .before .before .before .before .before in
+    command-made Load _ _ _ _ (ap (λ (r : LoadRead). r .next) (d .read-load .ensures .0)) (l .before .before .before .before .if1 .left) _
+    (l .load .ensures
     ∙ ledger-kept _ _ (d .read-load .result) (d .read-load .ensures .0) _ _ _ (presences d .first) (charged d .first) (balanced d .first))
+    _ _ _ (w .write-loading .ensures)
 
 pub run-load-spec : {M : Type 1} → statement M
 run-load-spec =
@@ -101,6 +105,7 @@ run-load-spec =
     slice-aggregate-read-load-2
     slice-aggregate-read-load-3
     read-load-requires
+    unanswered-requires
     returns
     array-share-prefix-present
     slice-aggregate-load
@@ -109,7 +114,6 @@ run-load-spec =
     array-share-prefix-balances
     slice-aggregate-load-3
     load-requires
-    slice-aggregate-print-outcome
-    print-outcome-requires
-    end-line-requires
+    write-loading-requires
+    same-length
     returns-2)

@@ -4,7 +4,9 @@ use Rattle.journal.specs.declared.cursor.NumberRead.{NumberRead}
 use Rattle.journal.specs.declared.command.Command.the-variants.{Open}
 use Rattle.ledger.specs.Ledger.{openingOf}
 use Rattle.ledger.specs.declared.open.Opening.{Opening}
-use Rattle.commands.proofs.ReplayLaws.{step-broken, step-made}
+use Rattle.text.specs.Buffer.{bufferOf, written}
+use Rattle.answers.specs.Answer.{openingText}
+use Rattle.commands.proofs.AnswerLaws.{command-broken, command-made}
 use borrow.Author.Needs.{needs}
 use Rattle.commands.proofs.run.run_open.Statement.{statement}
 use Rattle.commands.proofs.run.run_open.Tie as tie
@@ -12,18 +14,41 @@ use Rattle.commands.proofs.run.run_open.Tie as tie
 next-number-requires : tie.Need-next-number-requires
 next-number-requires c κs = search needs
 
+unanswered-requires : tie.Need-unanswered-requires
+unanswered-requires c κs = search needs
+
 returns : tie.Need-returns
 returns c =
-    step-broken Open _ _ _ _ (ap (λ (r : NumberRead). r .next) (c .before .before .next-number .ensures)) (c .if1 .taken)
+    command-broken Open _ _ _ _ (ap (λ (r : NumberRead). r .next) (c .before .before .before .next-number .ensures)) (c .before .if1 .taken) _ (c .unanswered .ensures) _
 
-make-opening-requires : tie.Need-make-opening-requires
-make-opening-requires c κs = search needs
+open-requires : tie.Need-open-requires
+open-requires c κs = search needs
+
+write-opening-requires : tie.Need-write-opening-requires
+write-opening-requires c κs = search needs
+
+same-length : tie.Need-same-length
+same-length c = search needs
 
 returns-2 : tie.Need-returns-2
 returns-2 c =
-    let r = c .before .before .before .next-number in
-    step-made Open _ _ _ _ (ap (λ (n : NumberRead). n .next) (r .ensures)) (c .before .if1 .left) _
-    (c .make-opening .ensures ∙ ap (λ (n : NumberRead). openingOf (n .value) .ledger) (r .ensures))
+    let w = c .before .before in
+    let o = w .before .before .before in
+    let r = o .before .before .before in
+    command-made Open _ _ _ _ (ap (λ (n : NumberRead). n .next) (r .next-number .ensures)) (o .before .if1 .left) _
+    (ap (λ (p : Opening). p .ledger) (o .open .ensures) ∙ ap (λ (n : NumberRead). openingOf (n .value) .ledger) (r .next-number .ensures))
+    _ _ _
+    (w .write-opening .ensures
+    ∙ ap (λ answer. written (openingText answer) (bufferOf (r .before .before .before .args .buffer .now) 0)) (ap (λ (p : Opening). p .answer) (o .open .ensures) ∙ ap (λ (n : NumberRead). openingOf (n .value) .answer) (r .next-number .ensures)))
 
 pub run-open-spec : {M : Type 1} → statement M
-run-open-spec = tie.close (tie.spec next-number-requires returns make-opening-requires returns-2)
+run-open-spec =
+    tie.close
+    (tie.spec
+    next-number-requires
+    unanswered-requires
+    returns
+    open-requires
+    write-opening-requires
+    same-length
+    returns-2)

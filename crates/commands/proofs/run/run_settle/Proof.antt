@@ -11,13 +11,18 @@ use Rattle.journal.specs.declared.command.Command.the-variants.{Settle}
 use Rattle.journal.specs.declared.command.SettleRead.{SettleRead}
 use Rattle.ledger.specs.Settle.{settlementLedger}
 use Rattle.numbers.proofs.ListLaws.{Front}
-use Rattle.commands.proofs.ReplayLaws.{step-broken, step-made, readings-first, losses-first, transfers-most, settlement-made}
+use Rattle.commands.specs.Replay.{settlementAnswered}
+use Rattle.commands.proofs.ReplayLaws.{readings-first, losses-first, transfers-most, settlement-made}
+use Rattle.commands.proofs.AnswerLaws.{command-broken, call-made}
 use borrow.Author.Needs.{needs}
 use Rattle.commands.proofs.run.run_settle.Statement.{statement}
 use Rattle.commands.proofs.run.run_settle.Tie as tie
 
 read-settle-requires : tie.Need-read-settle-requires
 read-settle-requires c κs = search needs
+
+unanswered-requires : tie.Need-unanswered-requires
+unanswered-requires c κs = search needs
 
 same-length : tie.Need-same-length
 same-length c = search needs
@@ -28,7 +33,7 @@ same-length-2 c = search needs
 -- what was read stands first in the lists
 module _ (d : tie.After-read-settle) where
   abbrev s : tie.Start
-  s = d .before .before .before .before .before .before
+  s = d .before .before .before .before .before .before .before
 
   readingsRead : Front (d .read-settle .result .readings) (listWords (s .args .text .now) (settleReadingsFrom (s .args .text .now) (s .args .cursor)) readingsName longestList mostWord) (d .read-settle .last .1 .1 .0)
   readingsRead = readings-first _ _ _ (d .read-settle .ensures .0) _ _ (d .read-settle .ensures .1 .0)
@@ -41,7 +46,7 @@ module _ (d : tie.After-read-settle) where
 
 returns : tie.Need-returns
 returns c =
-    step-broken Settle _ _ _ _ (ap (λ (r : SettleRead). r .next) (c .before .before .before .before .before .before .read-settle .ensures .0)) (c .if1 .taken)
+    command-broken Settle _ _ _ _ (ap (λ (r : SettleRead). r .next) (c .before .before .before .before .before .before .before .read-settle .ensures .0)) (c .before .if1 .taken) _ (c .unanswered .ensures) _
 
 slice-reshare-prefix-make-settlement : tie.Need-slice-reshare-prefix-make-settlement
 slice-reshare-prefix-make-settlement c = readingsRead (c .before .before .before .before .before .before) .long
@@ -73,20 +78,26 @@ same-length-4 c = search needs
 same-length-5 : tie.Need-same-length-5
 same-length-5 c = search needs
 
+same-length-6 : tie.Need-same-length-6
+same-length-6 c = search needs
+
 returns-2 : tie.Need-returns-2
 returns-2 c =
-    let d = c .before .before .before .before .before .before .before .before .before .before .before in
-    step-made Settle _ _ _ _ (ap (λ (r : SettleRead). r .next) (d .read-settle .ensures .0)) (c .before .before .before .before .before .if1 .left) _
-    (c .before .make-settlement .ensures
-    ∙ ap (settlementLedger (s d .args .ledger))
-    (settlement-made _ _ (d .read-settle .result) (d .read-settle .ensures .0) _ _ _ (readingsRead d .first) (lossesRead d .first)
-    (length-take-le _ _ (transfersLong d))))
+    let m = c .before .before .before .before in
+    let d = m .before .before .before .before .before .before .before .before .before .before .before in
+    let made =
+    settlement-made _ _ (d .read-settle .result) (d .read-settle .ensures .0) _ _ _ (readingsRead d .first) (lossesRead d .first)
+    (length-take-le _ _ (transfersLong d)) in
+    call-made Settle _ _ _ _ (ap (λ (r : SettleRead). r .next) (d .read-settle .ensures .0)) (m .before .before .before .before .before .if1 .left) _ _ _ _ _ (m .make-settlement .ensures)
+    (ap (settlementLedger (s d .args .ledger)) made)
+    (ap (settlementAnswered (s d .args .ledger)) made)
 
 pub run-settle-spec : {M : Type 1} → statement M
 run-settle-spec =
     tie.close
     (tie.spec
     read-settle-requires
+    unanswered-requires
     same-length
     same-length-2
     returns
@@ -100,4 +111,5 @@ run-settle-spec =
     same-length-3
     same-length-4
     same-length-5
+    same-length-6
     returns-2)

@@ -1,0 +1,50 @@
+-- The line, or nothing.
+use Rattle.text.proofs.BufferLaws.{after-byte}
+use mathlib.Core.Path.{_≡_, refl}
+use Rattle.text.specs.Buffer.{bufferOf, written}
+use Rattle.answers.specs.Answer.{changedText}
+use borrow.Author.Needs.{needs}
+use Rattle.answers.proofs.outcome.write_changed.Statement.{statement}
+use Rattle.answers.proofs.outcome.write_changed.Tie as tie
+use Rattle.answers.proofs.outcome.is_unwritten.Reads as is-unwritten-reads
+use Rattle.text.proofs.write.write_byte.Reads as write-byte-reads
+use Rattle.text.proofs.write.write_text.Reads as write-text-reads
+
+is-unwritten-requires : tie.Need-is-unwritten-requires
+is-unwritten-requires c κs = search needs
+
+returns : tie.Need-returns
+unfolding changedText written
+returns c = let u = c .before in rw (← u .is-unwritten .ensures, c .if1 .taken) refl
+
+slice-aggregate-write-text : tie.Need-slice-aggregate-write-text
+slice-aggregate-write-text c = search needs
+
+write-text-requires : tie.Need-write-text-requires
+write-text-requires c κs = search needs
+
+write-byte-requires : tie.Need-write-byte-requires
+write-byte-requires c κs = search needs
+
+same-length : tie.Need-same-length
+same-length c = search needs
+
+returns-2 : tie.Need-returns-2
+unfolding changedText
+returns-2 c =
+    let b = c .before .before in
+    let w = b .before .before .before .before in
+    let e = w .before .before .before in
+    rw (← e .before .is-unwritten .ensures, e .if1 .left) (after-byte _ _ _ _ _ (w .write-text .ensures) (b .write-byte .ensures))
+
+pub write-changed-spec : {M : Type 1} → statement M
+write-changed-spec =
+    tie.close
+    (tie.spec
+    is-unwritten-requires
+    returns
+    slice-aggregate-write-text
+    write-text-requires
+    write-byte-requires
+    same-length
+    returns-2)

@@ -1,0 +1,94 @@
+-- The invariant: the name, the count and the words before the k-th are written.
+use mathlib.Core.Path.{_≡_, refl, _∙_, ap}
+use Prim.Native.Nat.{_≤_, _-_}
+use native.Mathlib.Omega.{arith}
+use lib.IntN.{pos}
+use lib.ListN.{length, getD}
+use Rattle.text.specs.Buffer.{bufferOf, written}
+use Rattle.text.specs.Text.{word, signedWord, named, textBelow}
+use Rattle.text.proofs.BufferLaws.{texts-none, texts-more, written-after, after-byte}
+use Rattle.answers.specs.Answer.{signedListText}
+use mir.Facts.{toZ-ofZ}
+use borrow.Author.Needs.{needs, sfits-of}
+use Rattle.answers.proofs.saving.write_signed_list.Statement.{statement}
+use Rattle.answers.proofs.saving.write_signed_list.Tie as tie
+use Rattle.text.proofs.number.write_named.Reads as write-named-reads
+use Rattle.text.proofs.number.write_signed_word.Reads as write-signed-word-reads
+use Rattle.text.proofs.write.write_byte.Reads as write-byte-reads
+
+abbrev Inv-loop : tie.InvT-loop
+Inv-loop buffer₀ count name list end₀ k₀ buffer end k =
+    (k ≤ length list) × (length buffer ≡ length buffer₀) × (bufferOf buffer end ≡ written (textBelow k (λ j. signedWord (getD list j (pos 0)))) (bufferOf buffer₀ end₀))
+
+abbrev μ-loop : tie.MeasureT-loop
+μ-loop buffer₀ count name list end₀ k₀ buffer end k = length list - k
+
+write-named-requires : tie.Need-write-named-requires Inv-loop μ-loop
+write-named-requires c κs = search needs
+
+loop-holds : tie.Need-loop-holds Inv-loop μ-loop
+loop-holds c =
+    let w = c .before .before in
+    let s = w .before .before .before .before in
+    (omega arith, refl, texts-none (λ j. signedWord (getD (s .args .list .now) j (pos 0))) (bufferOf (w .write-named .last .0) (w .write-named .result)))
+
+mul-write-signed-word : tie.Need-mul-write-signed-word Inv-loop μ-loop
+mul-write-signed-word c = omega arith
+
+shared-slice-copy-out-write-signed-word :
+    tie.Need-shared-slice-copy-out-write-signed-word Inv-loop μ-loop
+shared-slice-copy-out-write-signed-word c = omega arith
+
+write-signed-word-requires : tie.Need-write-signed-word-requires Inv-loop μ-loop
+write-signed-word-requires c κs = search needs
+
+add-k : tie.Need-add-k Inv-loop μ-loop
+add-k c = omega arith
+
+loop-less : tie.Need-loop-less Inv-loop μ-loop
+loop-less c = omega arith
+
+loop-again : tie.Need-loop-again Inv-loop μ-loop
+loop-again c =
+    let b = c .before .before in
+    let l = b .before .before .before .before in
+    let n = l .before .before .before in
+    let s = n .before .before .before .before in (
+      omega arith,
+      search needs,
+      texts-more (λ j. signedWord (getD (s .args .list .now) j (pos 0))) (bufferOf (n .write-named .last .0) (n .write-named .result)) (l .loop .k) _ _ (l .loop .inv .2) (rw (toZ-ofZ (sfits-of (b .before .write-signed-word-arg2 .given))) at (b .write-signed-word .ensures)),
+    )
+
+write-byte-requires : tie.Need-write-byte-requires Inv-loop μ-loop
+write-byte-requires c κs = search needs
+
+same-length : tie.Need-same-length Inv-loop μ-loop
+same-length c = search needs
+
+returns : tie.Need-returns Inv-loop μ-loop
+unfolding signedListText
+returns c =
+    let w = c .before .before in
+    let l = w .before .before .before in
+    let n = l .before .before .before in
+    let s = n .before .before .before .before in
+    let e : l .loop .k ≡ length (s .args .list .now) = omega arith in
+    after-byte _ _ _ _ _ (written-after _ _ _ _ _ (n .write-named .ensures) (rw e at (l .loop .inv .2))) (w .write-byte .ensures)
+
+pub write-signed-list-spec : {M : Type 1} → statement M
+write-signed-list-spec =
+    tie.close
+    (tie.spec
+    Inv-loop
+    μ-loop
+    write-named-requires
+    loop-holds
+    mul-write-signed-word
+    shared-slice-copy-out-write-signed-word
+    write-signed-word-requires
+    add-k
+    loop-less
+    loop-again
+    write-byte-requires
+    same-length
+    returns)

@@ -1,0 +1,102 @@
+-- Laws of a command's answer: it stands whole in the buffer, and it is the answer of the command that was read.
+-- Assumes nothing.
+use mathlib.Core.Path.{_≡_, refl, sym, _∙_, ap}
+use mathlib.Core.Bool.{Bool, true, false, cond}
+use mathlib.Core.List.{List, []}
+use Prim.Native.Nat.{ℕ, _≤_}
+use native.Mathlib.Omega.{arith}
+use lib.ListN.{length}
+use Rattle.numbers.proofs.ListLaws.{list-length}
+use Rattle.journal.specs.Cursor.{mostWord, numberAfter, readTo, brokenAt}
+use Rattle.journal.specs.Command.{longestList, isUnknown, commandAfter, fixAfter}
+use Rattle.journal.specs.declared.cursor.Cursor.{Cursor}
+use Rattle.journal.specs.declared.command.Command.{Command}
+use Rattle.journal.specs.declared.command.Command.the-variants.{Open, Fix, Settle, Save, Load, Unknown, End}
+use Rattle.journal.specs.declared.command.CommandRead.{CommandRead}
+use Rattle.journal.proofs.CommandLaws.{fix-prices-most}
+use Rattle.ledger.specs.Ledger.{openingOf}
+use Rattle.ledger.specs.Fix.{fixingAnswer, fixingList}
+use Rattle.ledger.specs.Settle.{settlementAnswer, settlementLedger, settlementList}
+use Rattle.ledger.specs.declared.book.Ledger.{Ledger}
+use Rattle.ledger.proofs.CallLaws.{fixing-list-length}
+use Rattle.text.specs.Buffer.{bufferOf, written}
+use Rattle.text.proofs.BufferLaws.{Stands, text-stands}
+use Rattle.text.proofs.SizeLaws.{choice-size}
+use Rattle.answers.proofs.SizeLaws.{opening-size, loading-size, fixing-size, settlement-size, saving-size}
+use Rattle.commands.specs.Replay.{unwritten, fixingCall, settlementCall, commandNext, commandLedger, stepOf, stepAfter, fixingAnswered, settlementAnswered, commandAnswer, answerOf, answerAfter, longestAnswer, unansweredBy, CallMade, CommandMade, CommandAnswered}
+use Rattle.commands.specs.declared.call.Made.{Made}
+use Rattle.commands.specs.declared.run.Answered.{Answered}
+use Rattle.commands.proofs.ReplayLaws.{stepBy, step-broken, step-made, step-save, step-unknown, step-end, step-read}
+
+abbrev pub answeredBy : Ledger → Cursor → ℕ → Answered
+answeredBy book next count = record { step = stepBy book next; count = count }
+
+-- the words lent for prices
+lent-few : (text : List ℕ) (cursor : Cursor) → length (fixingCall text cursor .prices) ≤ 8192
+unfolding fixingCall unwritten
+lent-few text cursor = rw list-length (fix-prices-most text cursor)
+
+-- no answer is longer than the buffer
+answer-size : (command : Command) (text : List ℕ) (cursor : Cursor) (book : Ledger) → length (commandAnswer command text cursor book) ≤ longestAnswer
+unfolding fixingAnswered settlementAnswered
+answer-size Open text cursor book = opening-size (openingOf (numberAfter text cursor mostWord .value) .answer)
+answer-size Fix text cursor book =
+    fixing-size (fixingAnswer book (fixingCall text cursor)) (fixingList book (fixingCall text cursor)) (rw (fixing-list-length book (fixingCall text cursor)) (lent-few text cursor))
+answer-size Settle text cursor book =
+    let call = settlementCall text cursor in
+    settlement-size (settlementAnswer book call) (settlementList book call) (settlementLedger book call .balances)
+answer-size Save text cursor book = saving-size book
+answer-size Load text cursor book = loading-size
+answer-size Unknown text cursor book = omega arith
+answer-size End text cursor book = omega arith
+
+-- an answer after its text was read
+module _ (command : Command) (text : List ℕ) (cursor : Cursor) (book : Ledger) (next : Cursor) (e : next ≡ commandNext command text cursor) where
+  pub command-broken : next .broken ≡ true → (made : Answered) → made ≡ unansweredBy book next → (found : List ℕ) → CommandMade made (stepOf command text cursor book) (answerOf command text cursor book) found found
+  unfolding answerOf written
+  command-broken b made h found =
+      rw h
+      (record { stepped = step-broken command text cursor book next e b; answered = rw (← e, b) refl })
+
+  pub command-made : next .broken ≡ false → (after : Ledger) → after ≡ commandLedger command text cursor book → (count : ℕ) (found left : List ℕ) → bufferOf left count ≡ written (commandAnswer command text cursor book) (bufferOf found 0) → CommandMade (answeredBy after next count) (stepOf command text cursor book) (answerOf command text cursor book) found left
+  unfolding answerOf
+  command-made b after h count found left w =
+      record { stepped = step-made command text cursor book next e b after h; answered = rw (← e, b) w }
+
+  pub call-made : next .broken ≡ false → (made : Made) (after : Ledger) (answer found left : List ℕ) → CallMade made after answer found left → after ≡ commandLedger command text cursor book → answer ≡ commandAnswer command text cursor book → CommandMade (answeredBy (made .ledger) next (made .count)) (stepOf command text cursor book) (answerOf command text cursor book) found left
+  call-made b made after answer found left m h k =
+      command-made b (made .ledger) (m .booked ∙ h) (made .count) found left (m .answered ∙ ap (λ text. written text (bufferOf found 0)) k)
+
+-- commands that leave the ledger and answer nothing
+none : (b : Bool) → cond {A = List ℕ} b [] [] ≡ []
+none true = refl
+none false = refl
+
+module _ (text : List ℕ) (cursor : Cursor) (book : Ledger) (made : Answered) (e : made ≡ unansweredBy book cursor) (found : List ℕ) where
+  pub unknown-made : CommandMade made (stepOf Unknown text cursor book) (answerOf Unknown text cursor book) found found
+  unfolding answerOf written
+  unknown-made = rw e (record { stepped = step-unknown text cursor book; answered = rw (none (cursor .broken)) refl })
+
+  pub end-made : CommandMade made (stepOf End text cursor book) (answerOf End text cursor book) found found
+  unfolding answerOf written
+  end-made = rw e (record { stepped = step-end text cursor book; answered = rw (none (cursor .broken)) refl })
+
+-- the command that was read
+module _ (text : List ℕ) (at : ℕ) (book : Ledger) (read : CommandRead) (e : read ≡ commandAfter text at) where
+  pub save-whole : read .command ≡ Save → read .next .broken ≡ false
+  unfolding commandAfter
+  save-whole h =
+      let told = sym (ap (λ (r : CommandRead). r .command) e) ∙ h in
+      ap (λ (r : CommandRead). r .next .broken) e ∙ rw told
+
+  pub answer-read : (command : Command) → read .command ≡ command → (made : Answered) (found left : List ℕ) → length found ≡ longestAnswer → CommandMade made (stepOf command text (read .next) book) (answerOf command text (read .next) book) found left → CommandAnswered made (stepAfter text at book) (answerAfter text at book) left
+  unfolding answerAfter answerOf
+  answer-read command h made found left long m =
+      let answer = answerOf command text (read .next) book in
+      let size = choice-size (commandNext command text (read .next) .broken) [] (commandAnswer command text (read .next) book) longestAnswer (omega arith) (answer-size command text (read .next) book) in
+      let stands : Stands [] answer (bufferOf left (made .count)) = rw (m .answered) (text-stands answer found 0 (omega (arith, size, long))) in
+      record {
+        stepped = step-read text at book read e command h (made .step) (m .stepped);
+        within = stands .within;
+        printed = stands .whole ∙ ap (λ c. answerOf c text (read .next) book) (sym h) ∙ ap (λ (r : CommandRead). answerOf (r .command) text (r .next) book) e;
+      }

@@ -1,0 +1,63 @@
+-- The invariant: the list keeps its length, and its first k words are as lent.
+use mathlib.Core.Path.{_≡_, refl}
+use Prim.Native.Nat.{_≤_, _-_}
+use native.Mathlib.Omega.{arith}
+use lib.IntN.{negsuc}
+use lib.ListN.{length, take, length-set}
+use Rattle.numbers.specs.Bounded.{listBelow}
+use Rattle.numbers.proofs.ListLaws.{list-none, list-more, list-done}
+use Rattle.commands.specs.Replay.{unwritten}
+use Rattle.commands.proofs.call.lend.Statement.{statement}
+use Rattle.commands.proofs.call.lend.Tie as tie
+
+abbrev Inv-loop : tie.InvT-loop
+Inv-loop list₀ k₀ list k = (k ≤ length list) × (length list ≡ length list₀) × (take k list ≡ listBelow k (λ i. negsuc 0))
+
+abbrev μ-loop : tie.MeasureT-loop
+μ-loop list₀ k₀ list k = length list - k
+
+loop-holds : tie.Need-loop-holds Inv-loop μ-loop
+loop-holds c = (omega arith, refl, list-none (λ i. negsuc 0) (c .args .list .now))
+
+mul-list : tie.Need-mul-list Inv-loop μ-loop
+mul-list c = omega arith
+
+slice-set-of-list : tie.Need-slice-set-of-list Inv-loop μ-loop
+slice-set-of-list c = omega arith
+
+add-k : tie.Need-add-k Inv-loop μ-loop
+add-k c = omega arith
+
+loop-less : tie.Need-loop-less Inv-loop μ-loop
+loop-less c = simp length-set (omega arith)
+
+loop-again : tie.Need-loop-again Inv-loop μ-loop
+loop-again c = let l = c .before in (
+  simp length-set (omega arith),
+  simp length-set (l .loop .inv .1),
+  list-more (λ i. negsuc 0) (l .loop .list) (l .loop .k) _ (omega arith) (l .loop .inv .2) refl,
+)
+
+same-length : tie.Need-same-length Inv-loop μ-loop
+same-length c = c .before .loop .inv .1
+
+returns : tie.Need-returns Inv-loop μ-loop
+unfolding unwritten
+returns c = let l = c .before in
+    let e : l .loop .k ≡ length (l .before .args .list .now) = omega (arith, l .loop .inv .1) in
+    list-done (λ i. negsuc 0) _ _ (l .loop .inv .1) (rw e at (l .loop .inv .2))
+
+pub lend-spec : {M : Type 1} → statement M
+lend-spec =
+    tie.close
+    (tie.spec
+    Inv-loop
+    μ-loop
+    loop-holds
+    mul-list
+    slice-set-of-list
+    add-k
+    loop-less
+    loop-again
+    same-length
+    returns)

@@ -1,0 +1,4 @@
+pub mod BufferLaws
+pub mod DecimalLaws
+pub mod SignedLaws
+pub mod SizeLaws

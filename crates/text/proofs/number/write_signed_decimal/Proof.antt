@@ -1,0 +1,118 @@
+-- The least number's text is written out; every other has a size.
+use mathlib.Core.Path.{_≡_, sym, _∙_, ap}
+use Prim.Native.Nat.{_<_, _^_}
+use native.Mathlib.Omega.{arith}
+use borrow.Author.Tests.{not-false, not-true}
+use lib.IntN.{natAbs}
+use mir.Facts.{toZ-ofZ}
+use mathlib.Core.Bool.{true, false}
+use Rattle.numbers.specs.Signed.{isNegative, withinSize}
+use Rattle.text.specs.Buffer.{bufferOf, written}
+use Rattle.text.specs.Text.{minus, decimal, signedDecimal}
+use Rattle.text.proofs.BufferLaws.{byte-after}
+use Rattle.text.proofs.SignedLaws.{negative-text, positive-text, within-size, least-text}
+use borrow.Author.Needs.{needs}
+use Rattle.text.proofs.number.write_signed_decimal.Statement.{statement}
+use Rattle.text.proofs.number.write_signed_decimal.Tie as tie
+use Rattle.numbers.proofs.signed.is_negative.Reads as is-negative-reads
+use Rattle.numbers.proofs.signed.magnitude.Reads as magnitude-reads
+use Rattle.numbers.proofs.signed.within_size.Reads as within-size-reads
+use Rattle.text.proofs.number.write_decimal.Reads as write-decimal-reads
+use Rattle.text.proofs.write.write_byte.Reads as write-byte-reads
+use Rattle.text.proofs.write.write_text.Reads as write-text-reads
+
+within-size-requires : tie.Need-within-size-requires
+within-size-requires c κs = search needs
+
+slice-aggregate-write-text : tie.Need-slice-aggregate-write-text
+slice-aggregate-write-text c = search needs
+
+write-text-requires : tie.Need-write-text-requires
+write-text-requires c κs = search needs
+
+same-length : tie.Need-same-length
+same-length c = search needs
+
+returns : tie.Need-returns
+returns c =
+    let w = c .before .before in
+    let t = w .before .before .before in
+    let s = t .before .before .before in
+    let told : withinSize 9223372036854775807 (s .args .x) ≡ false = rw (toZ-ofZ (s .fits .x)) at (sym (t .before .within-size .ensures) ∙ not-true _ (t .if1 .taken)) in
+    w .write-text .ensures ∙ ap (λ text. written text (bufferOf (s .args .buffer .now) (s .args .count))) (sym (least-text (s .args .x) (s .fits .x) told))
+
+-- what the tests say of the number
+module _ (e : tie.After-is-negative) where
+  abbrev s : tie.Start
+  s = e .before .before .before .before
+
+  sized : natAbs (s .args .x) < 2 ^ 63
+  sized =
+      within-size (s .args .x) (rw (toZ-ofZ (s .fits .x)) at (sym (e .before .before .within-size .ensures) ∙ not-false _ (e .before .if1 .left)))
+
+is-negative-requires : tie.Need-is-negative-requires
+is-negative-requires c κs = search needs
+
+write-byte-requires : tie.Need-write-byte-requires
+write-byte-requires c κs = search needs
+
+magnitude-requires : tie.Need-magnitude-requires
+magnitude-requires c κs = let e = c .before .before .before .before .before .before in rw (toZ-ofZ (s e .fits .x)) (sized e)
+
+write-decimal-requires : tie.Need-write-decimal-requires
+write-decimal-requires c κs = search needs
+
+same-length-2 : tie.Need-same-length-2
+same-length-2 c = search needs
+
+returns-2 : tie.Need-returns-2
+returns-2 c =
+    let w = c .before .before in
+    let m = w .before in
+    let b = m .before .before .before .before in
+    let e = w .before .before .before .before .before .before .before .before in
+    let x = s e .args .x in
+    let told : isNegative x ≡ true = rw (toZ-ofZ (s e .fits .x)) at (sym (e .is-negative .ensures) ∙ b .before .before .if2 .taken) in
+    let size : m .magnitude .result ≡ natAbs x = rw (toZ-ofZ (s e .fits .x)) at (m .magnitude .ensures) in
+    byte-after minus (decimal (natAbs x)) (bufferOf (s e .args .buffer .now) (s e .args .count)) (bufferOf (b .write-byte .last .0) (b .write-byte .result)) _ (b .write-byte .ensures) (rw size at (w .write-decimal .ensures))
+    ∙ ap (λ text. written text (bufferOf (s e .args .buffer .now) (s e .args .count))) (sym (negative-text x told))
+
+magnitude-requires-2 : tie.Need-magnitude-requires-2
+magnitude-requires-2 c κs = let e = c .before .before in rw (toZ-ofZ (s e .fits .x)) (sized e)
+
+write-decimal-requires-2 : tie.Need-write-decimal-requires-2
+write-decimal-requires-2 c κs = search needs
+
+same-length-3 : tie.Need-same-length-3
+same-length-3 c = search needs
+
+returns-3 : tie.Need-returns-3
+returns-3 c =
+    let w = c .before .before in
+    let m = w .before in
+    let e = w .before .before .before .before in
+    let x = s e .args .x in
+    let told : isNegative x ≡ false = rw (toZ-ofZ (s e .fits .x)) at (sym (e .is-negative .ensures) ∙ m .before .before .if2 .left) in
+    let size : m .magnitude2 .result ≡ natAbs x = rw (toZ-ofZ (s e .fits .x)) at (m .magnitude2 .ensures) in
+    w .write-decimal2 .ensures
+    ∙ ap (λ text. written text (bufferOf (s e .args .buffer .now) (s e .args .count))) (ap decimal size ∙ sym (positive-text x told))
+
+pub write-signed-decimal-spec : {M : Type 1} → statement M
+write-signed-decimal-spec =
+    tie.close
+    (tie.spec
+    within-size-requires
+    slice-aggregate-write-text
+    write-text-requires
+    same-length
+    returns
+    is-negative-requires
+    write-byte-requires
+    magnitude-requires
+    write-decimal-requires
+    same-length-2
+    returns-2
+    magnitude-requires-2
+    write-decimal-requires-2
+    same-length-3
+    returns-3)

@@ -1,0 +1,29 @@
+-- A blank, then the number.
+use Rattle.text.specs.Text.{blank, signedDecimal, signedWord}
+use mir.Facts.{toZ-ofZ}
+use Rattle.text.proofs.BufferLaws.{byte-after}
+use borrow.Author.Needs.{needs}
+use Rattle.text.proofs.number.write_signed_word.Statement.{statement}
+use Rattle.text.proofs.number.write_signed_word.Tie as tie
+use Rattle.text.proofs.number.write_signed_decimal.Reads as write-signed-decimal-reads
+use Rattle.text.proofs.write.write_byte.Reads as write-byte-reads
+
+write-byte-requires : tie.Need-write-byte-requires
+write-byte-requires c κs = search needs
+
+write-signed-decimal-requires : tie.Need-write-signed-decimal-requires
+write-signed-decimal-requires c κs = search needs
+
+same-length : tie.Need-same-length
+same-length c = search needs
+
+returns : tie.Need-returns
+unfolding signedWord
+returns c =
+    let e = c .before .before in
+    let s = e .before .before .before .before .before .before .before in
+    byte-after blank (signedDecimal (s .args .x)) _ _ _ (e .before .before .before .before .write-byte .ensures) (rw (toZ-ofZ (s .fits .x)) at (e .write-signed-decimal .ensures))
+
+pub write-signed-word-spec : {M : Type 1} → statement M
+write-signed-word-spec =
+    tie.close (tie.spec write-byte-requires write-signed-decimal-requires same-length returns)

@@ -1,0 +1,57 @@
+-- Numbers as text, byte by byte. Assumes nothing.
+use mathlib.Core.Bool.{cond}
+use mathlib.Core.List.{List, [], _∷_, _++_}
+use Prim.Native.Nat.{ℕ, zero, suc, _+_, _/_, _%_}
+use Prim.Native.Char.{code}
+use Prim.Native.String.{String}
+use Prim.Native.String.{[] as String·[], _∷_ as _String·∷_}
+use lib.Dec.{ltb}
+use lib.IntN.{ℤ, natAbs}
+use Rattle.numbers.specs.Signed.{isNegative}
+
+abbrev pub blank : ℕ
+blank = 32
+
+abbrev pub lineEnd : ℕ
+lineEnd = 10
+
+abbrev pub minus : ℕ
+minus = 45
+
+-- the bytes of a text in ASCII
+abbrev pub bytes : String → List ℕ
+bytes String·[] = []
+bytes (first String·∷ rest) = code first ∷ bytes rest
+
+-- a digit below 10
+abbrev pub digit : ℕ → ℕ
+digit d = 48 + d
+
+-- a number in decimal without leading zeros, among so many digits at most
+unfoldable pub decimalWithin : ℕ → ℕ → List ℕ
+decimalWithin zero x = []
+decimalWithin (suc k) x = cond (ltb x 10) (digit x ∷ []) (decimalWithin k (x / 10) ++ (digit (x % 10) ∷ []))
+
+-- a number of 64 bits has at most 20 digits
+unfoldable pub decimal : ℕ → List ℕ
+decimal x = decimalWithin 20 x
+
+-- a number of either sign: "decimal digits, with `-` in front where it is signed"
+unfoldable pub signedDecimal : ℤ → List ℕ
+signedDecimal x = cond (isNegative x) (minus ∷ decimal (natAbs x)) (decimal (natAbs x))
+
+-- a number after a blank
+unfoldable pub word : ℕ → List ℕ
+word x = blank ∷ decimal x
+
+unfoldable pub signedWord : ℤ → List ℕ
+signedWord x = blank ∷ signedDecimal x
+
+-- a name, a blank and a number
+unfoldable pub named : List ℕ → ℕ → List ℕ
+named name x = name ++ word x
+
+-- text 0, text 1, .. up to below the bound, one after another
+unfoldable pub textBelow : ℕ → (ℕ → List ℕ) → List ℕ
+textBelow zero f = []
+textBelow (suc k) f = textBelow k f ++ f k
