@@ -1,14 +1,14 @@
 -- Answers that have no place and no numbers, by the tag that a match's last arm leaves. Assumes nothing.
 use mathlib.Core.Path.{_≡_, refl}
-use mathlib.Core.List.{List, [], _∷_}
+use mathlib.Core.List.{[], _∷_}
+use Rattle.fixing.specs.declared.verdict.Verdict.the-variants.{Passed, OutOfRange, ValueTooLarge, WrongSector, NoLine, MonthMissing, OutOfBounds}
+use Rattle.fixing.specs.declared.verdict.Verdict.{Verdict}
+use Rattle.fixing.proofs.verdict.Verdict as verdict
+use Rattle.ledger.specs.declared.fix.FixingAnswer.the-variants.{Accepted, Unsound, WrongLength, OutOfTurn, Rejected}
+use Rattle.ledger.specs.declared.fix.FixingAnswer.{FixingAnswer}
+use Rattle.ledger.proofs.fix.FixingAnswer as answer
 use types.Run.{OneOf, miss}
 use denote.Enum.Declared.{tagOf}
-use Rattle.fixing.specs.declared.verdict.Verdict.{Verdict}
-use Rattle.fixing.specs.declared.verdict.Verdict.the-variants.{Passed, OutOfRange, ValueTooLarge, WrongSector, NoLine, MonthMissing, OutOfBounds}
-use Rattle.fixing.proofs.verdict.Verdict as verdict
-use Rattle.ledger.specs.declared.fix.FixingAnswer.{FixingAnswer}
-use Rattle.ledger.specs.declared.fix.FixingAnswer.the-variants.{Accepted, Unsound, WrongLength, OutOfTurn, Rejected}
-use Rattle.ledger.proofs.fix.FixingAnswer as answer
 use Rattle.answers.specs.Answer.{placeText, detailText}
 
 pub place-none : (v : Verdict) → OneOf (0 ∷ 1 ∷ 2 ∷ 3 ∷ 4 ∷ []) (tagOf verdict.the-type v) → placeText v ≡ []

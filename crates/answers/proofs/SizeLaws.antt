@@ -1,31 +1,28 @@
 -- No answer is longer than 262,144 bytes, where the lists have at most 8,192 words; a line of an error is short.
 -- Assumes nothing.
-use mathlib.Core.Path.{_≡_}
-use mathlib.Core.Bool.{cond}
 use mathlib.Core.List.{List, [], _∷_, _++_}
 use Prim.Native.Nat.{ℕ, _+_, _*_, _/_, _≤_, min}
-use native.Mathlib.Nat.{mul-le-mul-right}
 use native.Mathlib.Omega.{arith}
 use lib.Dec.{eqb}
-use lib.ListN.{length, getD, length-append}
 use lib.IntN.{ℤ, pos}
+use lib.ListN.{length, getD, length-append}
 use Rattle.numbers.specs.Sizes.{mostDistributors, sectorCount}
 use Rattle.numbers.specs.declared.units.Pesos.{Pesos}
 use Rattle.numbers.proofs.ListLaws.{list-length}
-use Rattle.fixing.specs.declared.verdict.Verdict.{Verdict}
 use Rattle.fixing.specs.declared.verdict.Verdict.the-variants.{Passed, OutOfRange, ValueTooLarge, WrongSector, NoLine, MonthMissing, OutOfBounds}
+use Rattle.fixing.specs.declared.verdict.Verdict.{Verdict}
 use Rattle.settlement.specs.Month.{moneyAt}
-use Rattle.ledger.specs.Ledger.{openingNumber}
 use Rattle.ledger.specs.Fix.{answerNumber as fixingNumber}
+use Rattle.ledger.specs.Ledger.{openingNumber}
 use Rattle.ledger.specs.Settle.{answerNumber as settlementNumber}
 use Rattle.ledger.specs.declared.book.Ledger.{Ledger}
-use Rattle.ledger.specs.declared.open.OpeningAnswer.{OpeningAnswer}
-use Rattle.ledger.specs.declared.fix.FixingAnswer.{FixingAnswer}
 use Rattle.ledger.specs.declared.fix.FixingAnswer.the-variants.{Accepted, Unsound, WrongLength, OutOfTurn, Rejected}
+use Rattle.ledger.specs.declared.fix.FixingAnswer.{FixingAnswer}
+use Rattle.ledger.specs.declared.open.OpeningAnswer.{OpeningAnswer}
 use Rattle.ledger.specs.declared.settle.SettlementAnswer.{SettlementAnswer}
 use Rattle.store.specs.Store.{truthWord, keptCount, presentWords, chargeWords, balanceWords}
 use Rattle.store.proofs.StoreLaws.{kept-most}
-use Rattle.text.specs.Text.{bytes, lineEnd, decimal, word, signedWord, named, textBelow}
+use Rattle.text.specs.Text.{bytes, lineEnd, word, signedWord, named, textBelow}
 use Rattle.text.proofs.SizeLaws.{choice-size, decimal-size, word-size, signed-word-size, named-size, texts-size}
 use Rattle.answers.specs.Answer.{outcome, outcomeLine, openingText, loadingText, errorText, fixedText, placeText, detailText, allUnwritten, changedText, priceRow, priceRows, fixingText, transferRow, transferRows, settlementText, listText, signedListText, numbersText, savingText}
 

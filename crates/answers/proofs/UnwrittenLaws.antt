@@ -1,12 +1,12 @@
 -- A lent list's words as the machine holds them. Assumes nothing.
 use mathlib.Core.Path.{_≡_, refl, sym, _∙_}
-use Prim.Native.Nat.{ℕ, zero, suc, _-_, _^_}
+use Prim.Native.Nat.{zero, suc, _-_, _^_}
 use native.Mathlib.Omega.{arith}
-use borrow.Author.Tests.{ne-eqb}
 use lib.Dec.{eqb}
 use lib.IntN.{ℤ, pos, negsuc}
-use mir.Val.{SFits, ofZ}
 use mir.Syntax.{w64}
+use mir.Val.{SFits, ofZ}
+use borrow.Author.Tests.{ne-eqb}
 use Rattle.numbers.specs.Signed.{isNegative}
 use Rattle.answers.specs.Answer.{isUnwritten}
 

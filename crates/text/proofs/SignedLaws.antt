@@ -4,10 +4,10 @@ use mathlib.Core.Bool.{true, false}
 use mathlib.Core.List.{List, [], _∷_}
 use Prim.Native.Nat.{ℕ, suc, _^_, _<_}
 use native.Mathlib.Omega.{arith}
-use borrow.Author.Tests.{leb-true, leb-false}
 use lib.IntN.{ℤ, pos, negsuc, natAbs}
-use mir.Val.{SFits}
 use mir.Syntax.{w64}
+use mir.Val.{SFits}
+use borrow.Author.Tests.{leb-true, leb-false}
 use Rattle.numbers.specs.Signed.{isNegative, withinSize}
 use Rattle.text.specs.Text.{minus, decimalWithin, decimal, signedDecimal}
 

@@ -1,12 +1,12 @@
 -- How long texts are at most. Assumes nothing.
 use mathlib.Core.Bool.{Bool, true, false, cond}
 use mathlib.Core.List.{List, [], _∷_, _++_}
-use Prim.Native.Nat.{ℕ, zero, suc, _+_, _*_, _/_, _%_, _≤_, _<_}
+use Prim.Native.Nat.{ℕ, zero, suc, _+_, _*_, _/_, _%_, _≤_}
 use native.Mathlib.Nat.{suc-mul}
 use native.Mathlib.Omega.{arith}
 use lib.Dec.{ltb}
-use lib.ListN.{length, length-append}
 use lib.IntN.{ℤ, natAbs}
+use lib.ListN.{length, length-append}
 use Rattle.numbers.specs.Signed.{isNegative}
 use Rattle.text.specs.Text.{digit, minus, decimalWithin, decimal, signedDecimal, word, signedWord, named, textBelow}
 

@@ -5,12 +5,12 @@ use Prim.Native.Nat.{_≤_, _-_}
 use native.Mathlib.Omega.{arith}
 use lib.IntN.{pos}
 use lib.ListN.{length, getD}
-use borrow.Author.Needs.{sfits-of}
 use borrow.Author.Tests.{eq-eqb, ne-eqb}
 use Rattle.numbers.specs.Bounded.{allBelow}
 use Rattle.numbers.proofs.TestLaws.{all-more, all-fails}
 use Rattle.answers.specs.Answer.{isUnwritten, allUnwritten}
 use Rattle.answers.proofs.UnwrittenLaws.{unwritten-bits}
+use borrow.Author.Needs.{sfits-of}
 use Rattle.answers.proofs.outcome.is_unwritten.Statement.{statement}
 use Rattle.answers.proofs.outcome.is_unwritten.Tie as tie
 

@@ -1,14 +1,11 @@
 -- The line, or nothing.
+use mathlib.Core.Path.{refl}
+use Rattle.text.specs.Buffer.{written}
 use Rattle.text.proofs.BufferLaws.{after-byte}
-use mathlib.Core.Path.{_≡_, refl}
-use Rattle.text.specs.Buffer.{bufferOf, written}
 use Rattle.answers.specs.Answer.{changedText}
 use borrow.Author.Needs.{needs}
 use Rattle.answers.proofs.outcome.write_changed.Statement.{statement}
 use Rattle.answers.proofs.outcome.write_changed.Tie as tie
-use Rattle.answers.proofs.outcome.is_unwritten.Reads as is-unwritten-reads
-use Rattle.text.proofs.write.write_byte.Reads as write-byte-reads
-use Rattle.text.proofs.write.write_text.Reads as write-text-reads
 
 is-unwritten-requires : tie.Need-is-unwritten-requires
 is-unwritten-requires c κs = search needs

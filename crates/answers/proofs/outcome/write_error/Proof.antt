@@ -1,11 +1,9 @@
 -- The text, then the line end.
-use Rattle.answers.specs.Answer.{errorText}
 use Rattle.text.proofs.BufferLaws.{after-byte}
+use Rattle.answers.specs.Answer.{errorText}
 use borrow.Author.Needs.{needs}
 use Rattle.answers.proofs.outcome.write_error.Statement.{statement}
 use Rattle.answers.proofs.outcome.write_error.Tie as tie
-use Rattle.text.proofs.number.write_named.Reads as write-named-reads
-use Rattle.text.proofs.write.write_byte.Reads as write-byte-reads
 
 slice-aggregate-write-named : tie.Need-slice-aggregate-write-named
 slice-aggregate-write-named c = search needs

@@ -2,7 +2,6 @@ use Rattle.answers.specs.Answer.{loadingText}
 use borrow.Author.Needs.{needs}
 use Rattle.answers.proofs.outcome.write_loading.Statement.{statement}
 use Rattle.answers.proofs.outcome.write_loading.Tie as tie
-use Rattle.answers.proofs.outcome.write_outcome_line.Reads as write-outcome-line-reads
 
 slice-aggregate-write-outcome-line : tie.Need-slice-aggregate-write-outcome-line
 slice-aggregate-write-outcome-line c = search needs

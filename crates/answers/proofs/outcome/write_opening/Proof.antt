@@ -3,8 +3,6 @@ use Rattle.answers.specs.Answer.{openingText}
 use borrow.Author.Needs.{needs}
 use Rattle.answers.proofs.outcome.write_opening.Statement.{statement}
 use Rattle.answers.proofs.outcome.write_opening.Tie as tie
-use Rattle.answers.proofs.outcome.write_outcome_line.Reads as write-outcome-line-reads
-use Rattle.ledger.proofs.open.number.Reads as number-reads
 
 slice-aggregate-write-outcome-line : tie.Need-slice-aggregate-write-outcome-line
 slice-aggregate-write-outcome-line c = search needs

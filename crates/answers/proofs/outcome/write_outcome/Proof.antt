@@ -1,12 +1,10 @@
 -- The command, then what became of it.
 use borrow.Author.Tests.{eq-eqb, ne-eqb}
-use Rattle.answers.specs.Answer.{outcome}
 use Rattle.text.proofs.BufferLaws.{written-after}
+use Rattle.answers.specs.Answer.{outcome}
 use borrow.Author.Needs.{needs}
 use Rattle.answers.proofs.outcome.write_outcome.Statement.{statement}
 use Rattle.answers.proofs.outcome.write_outcome.Tie as tie
-use Rattle.text.proofs.number.write_named.Reads as write-named-reads
-use Rattle.text.proofs.write.write_text.Reads as write-text-reads
 
 write-text-requires : tie.Need-write-text-requires
 write-text-requires c κs = search needs

@@ -1,10 +1,8 @@
-use Rattle.answers.specs.Answer.{outcomeLine}
 use Rattle.text.proofs.BufferLaws.{after-byte}
+use Rattle.answers.specs.Answer.{outcomeLine}
 use borrow.Author.Needs.{needs}
 use Rattle.answers.proofs.outcome.write_outcome_line.Statement.{statement}
 use Rattle.answers.proofs.outcome.write_outcome_line.Tie as tie
-use Rattle.answers.proofs.outcome.write_outcome.Reads as write-outcome-reads
-use Rattle.text.proofs.write.write_byte.Reads as write-byte-reads
 
 write-outcome-requires : tie.Need-write-outcome-requires
 write-outcome-requires c κs = search needs

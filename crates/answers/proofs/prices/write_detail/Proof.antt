@@ -1,9 +1,8 @@
-use Rattle.text.specs.Buffer.{bufferOf, written}
+use mathlib.Core.Path.{refl}
+use Rattle.text.specs.Buffer.{written}
 use Rattle.answers.proofs.AnswerLaws.{detail-none}
-use mathlib.Core.Path.{_≡_, refl}
 -- By the variant that was matched.
 use Rattle.answers.specs.Answer.{detailText}
-use Rattle.text.proofs.BufferLaws.{written-after}
 use borrow.Author.Needs.{needs}
 use Rattle.answers.proofs.prices.write_detail.Statement.{statement}
 use Rattle.answers.proofs.prices.write_detail.Tie as tie

@@ -1,14 +1,11 @@
 -- The four numbers, one after another.
-use borrow.Author.Needs.{sfits-of}
 use mir.Facts.{toZ-ofZ}
-use Rattle.answers.specs.Answer.{fixedText}
 use Rattle.text.proofs.BufferLaws.{written-after}
+use Rattle.answers.specs.Answer.{fixedText}
 use borrow.Author.Needs.{needs}
+use borrow.Author.Needs.{sfits-of}
 use Rattle.answers.proofs.prices.write_fixed.Statement.{statement}
 use Rattle.answers.proofs.prices.write_fixed.Tie as tie
-use Rattle.text.proofs.number.write_named.Reads as write-named-reads
-use Rattle.text.proofs.number.write_signed_word.Reads as write-signed-word-reads
-use Rattle.text.proofs.write.write_text.Reads as write-text-reads
 
 slice-aggregate-write-named : tie.Need-slice-aggregate-write-named
 slice-aggregate-write-named c = search needs

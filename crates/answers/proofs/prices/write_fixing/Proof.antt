@@ -5,12 +5,6 @@ use Rattle.answers.specs.Answer.{fixingText}
 use borrow.Author.Needs.{needs}
 use Rattle.answers.proofs.prices.write_fixing.Statement.{statement}
 use Rattle.answers.proofs.prices.write_fixing.Tie as tie
-use Rattle.answers.proofs.outcome.write_changed.Reads as write-changed-reads
-use Rattle.answers.proofs.outcome.write_outcome.Reads as write-outcome-reads
-use Rattle.answers.proofs.prices.write_detail.Reads as write-detail-reads
-use Rattle.answers.proofs.prices.write_price_rows.Reads as write-price-rows-reads
-use Rattle.ledger.proofs.fix.number.Reads as number-reads
-use Rattle.text.proofs.write.write_byte.Reads as write-byte-reads
 
 number-requires : tie.Need-number-requires
 number-requires c κs = search needs

@@ -1,6 +1,6 @@
-use Rattle.text.specs.Buffer.{bufferOf, written}
+use mathlib.Core.Path.{refl}
+use Rattle.text.specs.Buffer.{written}
 use Rattle.answers.proofs.AnswerLaws.{place-none}
-use mathlib.Core.Path.{_≡_, refl}
 -- By the variant that was matched.
 use Rattle.answers.specs.Answer.{placeText}
 use Rattle.text.proofs.BufferLaws.{written-after}

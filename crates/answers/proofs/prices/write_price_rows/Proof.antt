@@ -1,5 +1,5 @@
 -- The invariant: the rows before the i-th are written.
-use mathlib.Core.Path.{_≡_, refl, _∙_, ap}
+use mathlib.Core.Path.{_≡_, refl}
 use Prim.Native.Nat.{_≤_, _-_, _/_}
 use native.Mathlib.Omega.{arith}
 use lib.ListN.{length}
@@ -10,7 +10,6 @@ use Rattle.answers.specs.Answer.{priceRow, priceRows}
 use borrow.Author.Needs.{needs}
 use Rattle.answers.proofs.prices.write_price_rows.Statement.{statement}
 use Rattle.answers.proofs.prices.write_price_rows.Tie as tie
-use Rattle.answers.proofs.prices.write_price_row.Reads as write-price-row-reads
 
 abbrev Inv-loop : tie.InvT-loop
 Inv-loop buffer₀ count prices end₀ i₀ buffer end i =

@@ -1,13 +1,9 @@
 -- The numbers, one after another, and the line end.
-use Rattle.answers.specs.Answer.{numbersText}
 use Rattle.text.proofs.BufferLaws.{after-byte, written-after}
+use Rattle.answers.specs.Answer.{numbersText}
 use borrow.Author.Needs.{needs}
 use Rattle.answers.proofs.saving.write_numbers.Statement.{statement}
 use Rattle.answers.proofs.saving.write_numbers.Tie as tie
-use Rattle.store.proofs.save.truth_word.Reads as truth-word-reads
-use Rattle.text.proofs.number.write_named.Reads as write-named-reads
-use Rattle.text.proofs.number.write_word.Reads as write-word-reads
-use Rattle.text.proofs.write.write_byte.Reads as write-byte-reads
 
 slice-aggregate-write-named : tie.Need-slice-aggregate-write-named
 slice-aggregate-write-named c = search needs

@@ -1,8 +1,7 @@
 -- The lists hold the words of the distributors that are kept.
-use mathlib.Core.Path.{_≡_, sym}
+use mathlib.Core.Path.{sym}
 use Prim.Native.Nat.{_≤_, _*_}
 use native.Mathlib.Omega.{arith}
-use lib.ListN.{length}
 use lib.Seq.{length-take-le}
 use Rattle.numbers.proofs.ListLaws.{Front}
 use Rattle.ledger.specs.declared.book.Ledger.{Ledger}
@@ -13,12 +12,6 @@ use Rattle.answers.specs.Answer.{savingText}
 use borrow.Author.Needs.{needs}
 use Rattle.answers.proofs.saving.write_saving.Statement.{statement}
 use Rattle.answers.proofs.saving.write_saving.Tie as tie
-use Rattle.answers.proofs.saving.write_list.Reads as write-list-reads
-use Rattle.answers.proofs.saving.write_numbers.Reads as write-numbers-reads
-use Rattle.answers.proofs.saving.write_signed_list.Reads as write-signed-list-reads
-use Rattle.ledger.specs.declared.book.Ledger.{Ledger}
-use Rattle.store.specs.Store.{presentWords, chargeWords, balanceWords}
-use Rattle.store.proofs.save.save.Reads as save-reads
 
 slice-aggregate-save : tie.Need-slice-aggregate-save
 slice-aggregate-save c = search needs

@@ -1,20 +1,17 @@
 -- The invariant: the name, the count and the words before the k-th are written.
-use mathlib.Core.Path.{_≡_, refl, _∙_, ap}
+use mathlib.Core.Path.{_≡_, refl}
 use Prim.Native.Nat.{_≤_, _-_}
 use native.Mathlib.Omega.{arith}
 use lib.IntN.{pos}
 use lib.ListN.{length, getD}
+use mir.Facts.{toZ-ofZ}
 use Rattle.text.specs.Buffer.{bufferOf, written}
-use Rattle.text.specs.Text.{word, signedWord, named, textBelow}
+use Rattle.text.specs.Text.{signedWord, textBelow}
 use Rattle.text.proofs.BufferLaws.{texts-none, texts-more, written-after, after-byte}
 use Rattle.answers.specs.Answer.{signedListText}
-use mir.Facts.{toZ-ofZ}
 use borrow.Author.Needs.{needs, sfits-of}
 use Rattle.answers.proofs.saving.write_signed_list.Statement.{statement}
 use Rattle.answers.proofs.saving.write_signed_list.Tie as tie
-use Rattle.text.proofs.number.write_named.Reads as write-named-reads
-use Rattle.text.proofs.number.write_signed_word.Reads as write-signed-word-reads
-use Rattle.text.proofs.write.write_byte.Reads as write-byte-reads
 
 abbrev Inv-loop : tie.InvT-loop
 Inv-loop buffer₀ count name list end₀ k₀ buffer end k =

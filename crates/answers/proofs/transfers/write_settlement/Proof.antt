@@ -5,10 +5,6 @@ use Rattle.answers.specs.Answer.{settlementText}
 use borrow.Author.Needs.{needs}
 use Rattle.answers.proofs.transfers.write_settlement.Statement.{statement}
 use Rattle.answers.proofs.transfers.write_settlement.Tie as tie
-use Rattle.answers.proofs.outcome.write_changed.Reads as write-changed-reads
-use Rattle.answers.proofs.outcome.write_outcome_line.Reads as write-outcome-line-reads
-use Rattle.answers.proofs.transfers.write_transfer_rows.Reads as write-transfer-rows-reads
-use Rattle.ledger.proofs.settle.number.Reads as number-reads
 
 number-requires : tie.Need-number-requires
 number-requires c κs = search needs

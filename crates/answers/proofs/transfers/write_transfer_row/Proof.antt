@@ -1,14 +1,11 @@
 -- The number, two words and the line end.
-use borrow.Author.Needs.{sfits-of}
 use mir.Facts.{toZ-ofZ}
-use Rattle.answers.specs.Answer.{transferRow}
 use Rattle.text.proofs.BufferLaws.{after-byte, written-after}
+use Rattle.answers.specs.Answer.{transferRow}
 use borrow.Author.Needs.{needs}
+use borrow.Author.Needs.{sfits-of}
 use Rattle.answers.proofs.transfers.write_transfer_row.Statement.{statement}
 use Rattle.answers.proofs.transfers.write_transfer_row.Tie as tie
-use Rattle.text.proofs.number.write_decimal.Reads as write-decimal-reads
-use Rattle.text.proofs.number.write_signed_word.Reads as write-signed-word-reads
-use Rattle.text.proofs.write.write_byte.Reads as write-byte-reads
 
 mul-balance : tie.Need-mul-balance
 mul-balance c = search needs

@@ -1,9 +1,9 @@
 -- The invariant: the rows before the i-th are written.
-use mathlib.Core.Path.{_≡_, refl, _∙_, ap}
+use mathlib.Core.Path.{_≡_, refl}
 use Prim.Native.Nat.{_≤_, _-_, min}
 use native.Mathlib.Omega.{arith}
-use borrow.Author.Tests.{ltb-true, ltb-false}
 use lib.ListN.{length}
+use borrow.Author.Tests.{ltb-true, ltb-false}
 use Rattle.text.specs.Buffer.{bufferOf, written}
 use Rattle.text.specs.Text.{textBelow}
 use Rattle.text.proofs.BufferLaws.{texts-none, texts-more}
@@ -11,7 +11,6 @@ use Rattle.answers.specs.Answer.{transferRow, transferRows}
 use borrow.Author.Needs.{needs}
 use Rattle.answers.proofs.transfers.write_transfer_rows.Statement.{statement}
 use Rattle.answers.proofs.transfers.write_transfer_rows.Tie as tie
-use Rattle.answers.proofs.transfers.write_transfer_row.Reads as write-transfer-row-reads
 
 abbrev Inv-loop : tie.InvT-loop
 Inv-loop buffer₀ count transfers balances end₀ i₀ buffer end i =

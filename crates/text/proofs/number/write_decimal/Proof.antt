@@ -1,12 +1,10 @@
 -- The kit's digits are the decimal text.
-use mathlib.Core.Path.{_≡_, _∙_, ap}
+use mathlib.Core.Path.{_∙_, ap}
 use Rattle.text.specs.Buffer.{bufferOf, written}
 use Rattle.text.proofs.DecimalLaws.{fewest-decimal}
 use borrow.Author.Needs.{needs}
 use Rattle.text.proofs.number.write_decimal.Statement.{statement}
 use Rattle.text.proofs.number.write_decimal.Tie as tie
-use Rattle.io.proofs.decimal.Reads as decimal-reads
-use Rattle.text.proofs.write.write_text.Reads as write-text-reads
 
 decimal-requires : tie.Need-decimal-requires
 decimal-requires c κs = search needs

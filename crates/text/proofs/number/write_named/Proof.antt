@@ -4,8 +4,6 @@ use Rattle.text.proofs.BufferLaws.{written-after}
 use borrow.Author.Needs.{needs}
 use Rattle.text.proofs.number.write_named.Statement.{statement}
 use Rattle.text.proofs.number.write_named.Tie as tie
-use Rattle.text.proofs.number.write_word.Reads as write-word-reads
-use Rattle.text.proofs.write.write_text.Reads as write-text-reads
 
 write-text-requires : tie.Need-write-text-requires
 write-text-requires c κs = search needs

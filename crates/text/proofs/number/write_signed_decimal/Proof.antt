@@ -1,25 +1,18 @@
 -- The least number's text is written out; every other has a size.
 use mathlib.Core.Path.{_≡_, sym, _∙_, ap}
+use mathlib.Core.Bool.{true, false}
 use Prim.Native.Nat.{_<_, _^_}
-use native.Mathlib.Omega.{arith}
-use borrow.Author.Tests.{not-false, not-true}
 use lib.IntN.{natAbs}
 use mir.Facts.{toZ-ofZ}
-use mathlib.Core.Bool.{true, false}
+use borrow.Author.Tests.{not-false, not-true}
 use Rattle.numbers.specs.Signed.{isNegative, withinSize}
 use Rattle.text.specs.Buffer.{bufferOf, written}
-use Rattle.text.specs.Text.{minus, decimal, signedDecimal}
+use Rattle.text.specs.Text.{minus, decimal}
 use Rattle.text.proofs.BufferLaws.{byte-after}
 use Rattle.text.proofs.SignedLaws.{negative-text, positive-text, within-size, least-text}
 use borrow.Author.Needs.{needs}
 use Rattle.text.proofs.number.write_signed_decimal.Statement.{statement}
 use Rattle.text.proofs.number.write_signed_decimal.Tie as tie
-use Rattle.numbers.proofs.signed.is_negative.Reads as is-negative-reads
-use Rattle.numbers.proofs.signed.magnitude.Reads as magnitude-reads
-use Rattle.numbers.proofs.signed.within_size.Reads as within-size-reads
-use Rattle.text.proofs.number.write_decimal.Reads as write-decimal-reads
-use Rattle.text.proofs.write.write_byte.Reads as write-byte-reads
-use Rattle.text.proofs.write.write_text.Reads as write-text-reads
 
 within-size-requires : tie.Need-within-size-requires
 within-size-requires c κs = search needs

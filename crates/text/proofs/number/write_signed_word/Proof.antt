@@ -1,12 +1,10 @@
 -- A blank, then the number.
-use Rattle.text.specs.Text.{blank, signedDecimal, signedWord}
 use mir.Facts.{toZ-ofZ}
+use Rattle.text.specs.Text.{blank, signedDecimal, signedWord}
 use Rattle.text.proofs.BufferLaws.{byte-after}
 use borrow.Author.Needs.{needs}
 use Rattle.text.proofs.number.write_signed_word.Statement.{statement}
 use Rattle.text.proofs.number.write_signed_word.Tie as tie
-use Rattle.text.proofs.number.write_signed_decimal.Reads as write-signed-decimal-reads
-use Rattle.text.proofs.write.write_byte.Reads as write-byte-reads
 
 write-byte-requires : tie.Need-write-byte-requires
 write-byte-requires c κs = search needs

@@ -4,8 +4,6 @@ use Rattle.text.proofs.BufferLaws.{byte-after}
 use borrow.Author.Needs.{needs}
 use Rattle.text.proofs.number.write_word.Statement.{statement}
 use Rattle.text.proofs.number.write_word.Tie as tie
-use Rattle.text.proofs.number.write_decimal.Reads as write-decimal-reads
-use Rattle.text.proofs.write.write_byte.Reads as write-byte-reads
 
 write-byte-requires : tie.Need-write-byte-requires
 write-byte-requires c κs = search needs

@@ -1,5 +1,5 @@
 -- There is room, or the buffer stays.
-use mathlib.Core.Path.{_≡_, sym}
+use mathlib.Core.Path.{sym}
 use native.Mathlib.Numerals.{add-one}
 use native.Mathlib.Omega.{arith}
 use Rattle.text.proofs.BufferLaws.{byte-room, byte-full}
