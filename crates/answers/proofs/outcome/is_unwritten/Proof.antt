@@ -24,12 +24,6 @@ loop-holds : tie.Need-loop-holds Inv-loop μ-loop
 unfolding allBelow
 loop-holds c = (omega arith, refl)
 
-mul-if1 : tie.Need-mul-if1 Inv-loop μ-loop
-mul-if1 c = omega arith
-
-shared-slice-copy-out-if1 : tie.Need-shared-slice-copy-out-if1 Inv-loop μ-loop
-shared-slice-copy-out-if1 c = omega arith
-
 returns : tie.Need-returns Inv-loop μ-loop
 unfolding allUnwritten
 returns c =
@@ -37,12 +31,6 @@ returns c =
     let list = l .before .args .list .now in
     sym (all-fails (length list) (λ j. isUnwritten (getD list j (pos 0))) (l .loop .k) (omega arith)
     (sym (unwritten-bits _ (sfits-of (c .before .if12 .given))) ∙ ne-eqb _ _ (c .if1 .taken)))
-
-add-k : tie.Need-add-k Inv-loop μ-loop
-add-k c = omega arith
-
-loop-less : tie.Need-loop-less Inv-loop μ-loop
-loop-less c = omega arith
 
 loop-again : tie.Need-loop-again Inv-loop μ-loop
 loop-again c =
@@ -66,10 +54,8 @@ is-unwritten-spec =
     Inv-loop
     μ-loop
     loop-holds
-    mul-if1
-    shared-slice-copy-out-if1
+    (λ c. omega arith) (λ c. omega arith)
     returns
-    add-k
-    loop-less
+    (λ c. omega arith) (λ c. omega arith)
     loop-again
     returns-2)

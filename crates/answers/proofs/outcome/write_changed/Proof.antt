@@ -7,24 +7,9 @@ use borrow.Author.Needs.{needs}
 use Rattle.answers.proofs.outcome.write_changed.Statement.{statement}
 use Rattle.answers.proofs.outcome.write_changed.Tie as tie
 
-is-unwritten-requires : tie.Need-is-unwritten-requires
-is-unwritten-requires c κs = search needs
-
 returns : tie.Need-returns
 unfolding changedText written
 returns c = let u = c .before in rw (← u .is-unwritten .ensures, c .if1 .taken) refl
-
-slice-aggregate-write-text : tie.Need-slice-aggregate-write-text
-slice-aggregate-write-text c = search needs
-
-write-text-requires : tie.Need-write-text-requires
-write-text-requires c κs = search needs
-
-write-byte-requires : tie.Need-write-byte-requires
-write-byte-requires c κs = search needs
-
-same-length : tie.Need-same-length
-same-length c = search needs
 
 returns-2 : tie.Need-returns-2
 unfolding changedText
@@ -38,10 +23,7 @@ pub write-changed-spec : {M : Type 1} → statement M
 write-changed-spec =
     tie.close
     (tie.spec
-    is-unwritten-requires
+    (λ c κs. search needs)
     returns
-    slice-aggregate-write-text
-    write-text-requires
-    write-byte-requires
-    same-length
+    (λ c. search needs) (λ c κs. search needs) (λ c κs. search needs) (λ c. search needs)
     returns-2)

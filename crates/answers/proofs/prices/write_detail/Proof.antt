@@ -9,29 +9,11 @@ use Rattle.answers.proofs.prices.write_detail.Tie as tie
 use Rattle.answers.proofs.prices.write_fixed.Reads as write-fixed-reads
 use Rattle.answers.proofs.prices.write_place.Reads as write-place-reads
 
-enum-known-answer : tie.Need-enum-known-answer
-enum-known-answer c = search needs
-
-write-fixed-requires : tie.Need-write-fixed-requires
-write-fixed-requires c κs = search needs
-
-enum-known-answer-2 : tie.Need-enum-known-answer-2
-enum-known-answer-2 c = search needs
-
-write-place-requires : tie.Need-write-place-requires
-write-place-requires c κs = search needs
-
-same-length : tie.Need-same-length
-same-length c = search needs
-
 returns : tie.Need-returns
 unfolding detailText
 returns c =
     let w = c .before .before in
     rw (w .before .before .before .answer .given .1) (w .write-fixed .ensures)
-
-same-length-2 : tie.Need-same-length-2
-same-length-2 c = search needs
 
 returns-2 : tie.Need-returns-2
 unfolding detailText
@@ -47,12 +29,8 @@ pub write-detail-spec : {M : Type 1} → statement M
 write-detail-spec =
     tie.close
     (tie.spec
-    enum-known-answer
-    write-fixed-requires
-    enum-known-answer-2
-    write-place-requires
-    same-length
+    (λ c. search needs) (λ c κs. search needs) (λ c. search needs) (λ c κs. search needs) (λ c. search needs)
     returns
-    same-length-2
+    (λ c. search needs)
     returns-2
     returns-3)

@@ -7,36 +7,6 @@ use borrow.Author.Needs.{sfits-of}
 use Rattle.answers.proofs.prices.write_fixed.Statement.{statement}
 use Rattle.answers.proofs.prices.write_fixed.Tie as tie
 
-slice-aggregate-write-named : tie.Need-slice-aggregate-write-named
-slice-aggregate-write-named c = search needs
-
-write-named-requires : tie.Need-write-named-requires
-write-named-requires c κs = search needs
-
-slice-aggregate-write-named-2 : tie.Need-slice-aggregate-write-named-2
-slice-aggregate-write-named-2 c = search needs
-
-write-named-requires-2 : tie.Need-write-named-requires-2
-write-named-requires-2 c κs = search needs
-
-slice-aggregate-write-named-3 : tie.Need-slice-aggregate-write-named-3
-slice-aggregate-write-named-3 c = search needs
-
-write-named-requires-3 : tie.Need-write-named-requires-3
-write-named-requires-3 c κs = search needs
-
-slice-aggregate-write-text : tie.Need-slice-aggregate-write-text
-slice-aggregate-write-text c = search needs
-
-write-text-requires : tie.Need-write-text-requires
-write-text-requires c κs = search needs
-
-write-signed-word-requires : tie.Need-write-signed-word-requires
-write-signed-word-requires c κs = search needs
-
-same-length : tie.Need-same-length
-same-length c = search needs
-
 returns : tie.Need-returns
 unfolding fixedText
 returns c =
@@ -53,14 +23,6 @@ pub write-fixed-spec : {M : Type 1} → statement M
 write-fixed-spec =
     tie.close
     (tie.spec
-    slice-aggregate-write-named
-    write-named-requires
-    slice-aggregate-write-named-2
-    write-named-requires-2
-    slice-aggregate-write-named-3
-    write-named-requires-3
-    slice-aggregate-write-text
-    write-text-requires
-    write-signed-word-requires
-    same-length
+    (λ c. search needs) (λ c κs. search needs) (λ c. search needs) (λ c κs. search needs) (λ c. search needs) (λ c κs. search needs) (λ c. search needs)
+    (λ c κs. search needs) (λ c κs. search needs) (λ c. search needs)
     returns)

@@ -9,42 +9,12 @@ use Rattle.answers.proofs.prices.write_place.Statement.{statement}
 use Rattle.answers.proofs.prices.write_place.Tie as tie
 use Rattle.text.proofs.number.write_named.Reads as write-named-reads
 
-enum-known-verdict : tie.Need-enum-known-verdict
-enum-known-verdict c = search needs
-
-slice-aggregate-write-named : tie.Need-slice-aggregate-write-named
-slice-aggregate-write-named c = search needs
-
-write-named-requires : tie.Need-write-named-requires
-write-named-requires c κs = search needs
-
-slice-aggregate-write-named-2 : tie.Need-slice-aggregate-write-named-2
-slice-aggregate-write-named-2 c = search needs
-
-write-named-requires-2 : tie.Need-write-named-requires-2
-write-named-requires-2 c κs = search needs
-
-enum-known-verdict-2 : tie.Need-enum-known-verdict-2
-enum-known-verdict-2 c = search needs
-
-slice-aggregate-write-named-3 : tie.Need-slice-aggregate-write-named-3
-slice-aggregate-write-named-3 c = search needs
-
-write-named-requires-3 : tie.Need-write-named-requires-3
-write-named-requires-3 c κs = search needs
-
-same-length : tie.Need-same-length
-same-length c = search needs
-
 returns : tie.Need-returns
 unfolding placeText
 returns c =
     let w = c .before .before in
     let x = w .before .before .before .before .before in
     rw (x .before .before .before .before .verdict .given .1) (written-after _ _ _ _ _ (x .write-named .ensures) (w .write-named2 .ensures))
-
-same-length-2 : tie.Need-same-length-2
-same-length-2 c = search needs
 
 returns-2 : tie.Need-returns-2
 unfolding placeText
@@ -60,16 +30,9 @@ pub write-place-spec : {M : Type 1} → statement M
 write-place-spec =
     tie.close
     (tie.spec
-    enum-known-verdict
-    slice-aggregate-write-named
-    write-named-requires
-    slice-aggregate-write-named-2
-    write-named-requires-2
-    enum-known-verdict-2
-    slice-aggregate-write-named-3
-    write-named-requires-3
-    same-length
+    (λ c. search needs) (λ c. search needs) (λ c κs. search needs) (λ c. search needs) (λ c κs. search needs) (λ c. search needs) (λ c. search needs)
+    (λ c κs. search needs) (λ c. search needs)
     returns
-    same-length-2
+    (λ c. search needs)
     returns-2
     returns-3)

@@ -21,15 +21,6 @@ abbrev μ-loop : tie.MeasureT-loop
 loop-holds : tie.Need-loop-holds Inv-loop μ-loop
 loop-holds c = (omega arith, refl, texts-none (priceRow (c .before .args .prices .now)) (bufferOf (c .before .args .buffer .now) (c .before .args .count)))
 
-write-price-row-requires : tie.Need-write-price-row-requires Inv-loop μ-loop
-write-price-row-requires c κs = omega arith
-
-add-i : tie.Need-add-i Inv-loop μ-loop
-add-i c = omega arith
-
-loop-less : tie.Need-loop-less Inv-loop μ-loop
-loop-less c = omega arith
-
 loop-again : tie.Need-loop-again Inv-loop μ-loop
 loop-again c =
     let b = c .before .before in
@@ -58,9 +49,7 @@ write-price-rows-spec =
     Inv-loop
     μ-loop
     loop-holds
-    write-price-row-requires
-    add-i
-    loop-less
+    (λ c κs. omega arith) (λ c. omega arith) (λ c. omega arith)
     loop-again
     same-length
     returns)

@@ -18,29 +18,11 @@ Inv-loop buffer₀ count name list end₀ k₀ buffer end k =
 abbrev μ-loop : tie.MeasureT-loop
 μ-loop buffer₀ count name list end₀ k₀ buffer end k = length list - k
 
-write-named-requires : tie.Need-write-named-requires Inv-loop μ-loop
-write-named-requires c κs = search needs
-
 loop-holds : tie.Need-loop-holds Inv-loop μ-loop
 loop-holds c =
     let w = c .before .before in
     let s = w .before .before .before .before .before in
     (omega arith, refl, texts-none (λ j. word (getD (s .args .list .now) j 0)) (bufferOf (w .write-named .last .0) (w .write-named .result)))
-
-mul-write-word : tie.Need-mul-write-word Inv-loop μ-loop
-mul-write-word c = omega arith
-
-shared-slice-read-write-word : tie.Need-shared-slice-read-write-word Inv-loop μ-loop
-shared-slice-read-write-word c = omega arith
-
-write-word-requires : tie.Need-write-word-requires Inv-loop μ-loop
-write-word-requires c κs = search needs
-
-add-k : tie.Need-add-k Inv-loop μ-loop
-add-k c = omega arith
-
-loop-less : tie.Need-loop-less Inv-loop μ-loop
-loop-less c = omega arith
 
 loop-again : tie.Need-loop-again Inv-loop μ-loop
 loop-again c =
@@ -52,12 +34,6 @@ loop-again c =
       search needs,
       texts-more (λ j. word (getD (s .args .list .now) j 0)) (bufferOf (n .write-named .last .0) (n .write-named .result)) (l .loop .k) _ _ (l .loop .inv .2) (b .write-word .ensures),
     )
-
-write-byte-requires : tie.Need-write-byte-requires Inv-loop μ-loop
-write-byte-requires c κs = search needs
-
-same-length : tie.Need-same-length Inv-loop μ-loop
-same-length c = search needs
 
 returns : tie.Need-returns Inv-loop μ-loop
 unfolding listText
@@ -75,14 +51,9 @@ write-list-spec =
     (tie.spec
     Inv-loop
     μ-loop
-    write-named-requires
+    (λ c κs. search needs)
     loop-holds
-    mul-write-word
-    shared-slice-read-write-word
-    write-word-requires
-    add-k
-    loop-less
+    (λ c. omega arith) (λ c. omega arith) (λ c κs. search needs) (λ c. omega arith) (λ c. omega arith)
     loop-again
-    write-byte-requires
-    same-length
+    (λ c κs. search needs) (λ c. search needs)
     returns)

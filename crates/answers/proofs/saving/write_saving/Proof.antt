@@ -13,18 +13,6 @@ use borrow.Author.Needs.{needs}
 use Rattle.answers.proofs.saving.write_saving.Statement.{statement}
 use Rattle.answers.proofs.saving.write_saving.Tie as tie
 
-slice-aggregate-save : tie.Need-slice-aggregate-save
-slice-aggregate-save c = search needs
-
-slice-aggregate-save-2 : tie.Need-slice-aggregate-save-2
-slice-aggregate-save-2 c = search needs
-
-slice-aggregate-save-3 : tie.Need-slice-aggregate-save-3
-slice-aggregate-save-3 c = search needs
-
-save-requires : tie.Need-save-requires
-save-requires c κs = search needs
-
 -- what was saved stands first in the lists
 module _ (d : tie.After-save) where
   abbrev book : Ledger
@@ -45,23 +33,11 @@ module _ (d : tie.After-save) where
 mul-places : tie.Need-mul-places
 mul-places c = omega (arith, few (c .before .before .before))
 
-write-numbers-requires : tie.Need-write-numbers-requires
-write-numbers-requires c κs = search needs
-
-slice-aggregate-write-list : tie.Need-slice-aggregate-write-list
-slice-aggregate-write-list c = search needs
-
 array-share-prefix-present : tie.Need-array-share-prefix-present
 array-share-prefix-present c = present (c .before .before .before .before .before .before .before .before .before) .long
 
 slice-aggregate-write-list-2 : tie.Need-slice-aggregate-write-list-2
 slice-aggregate-write-list-2 c = sym (length-take-le _ _ (present (c .before .before .before .before .before .before .before .before .before .before) .long))
-
-write-list-requires : tie.Need-write-list-requires
-write-list-requires c κs = search needs
-
-slice-aggregate-write-signed-list : tie.Need-slice-aggregate-write-signed-list
-slice-aggregate-write-signed-list c = search needs
 
 array-share-prefix-charges : tie.Need-array-share-prefix-charges
 array-share-prefix-charges c = charges (c .before .before .before .before .before .before .before .before .before .before .before .before .before .before .before) .long
@@ -69,23 +45,11 @@ array-share-prefix-charges c = charges (c .before .before .before .before .befor
 slice-aggregate-write-signed-list-2 : tie.Need-slice-aggregate-write-signed-list-2
 slice-aggregate-write-signed-list-2 c = sym (length-take-le _ _ (charges (c .before .before .before .before .before .before .before .before .before .before .before .before .before .before .before .before) .long))
 
-write-signed-list-requires : tie.Need-write-signed-list-requires
-write-signed-list-requires c κs = search needs
-
-slice-aggregate-write-signed-list-3 : tie.Need-slice-aggregate-write-signed-list-3
-slice-aggregate-write-signed-list-3 c = search needs
-
 array-share-prefix-balances : tie.Need-array-share-prefix-balances
 array-share-prefix-balances c = balances (c .before .before .before .before .before .before .before .before .before .before .before .before .before .before .before .before .before .before .before .before .before) .long
 
 slice-aggregate-write-signed-list-4 : tie.Need-slice-aggregate-write-signed-list-4
 slice-aggregate-write-signed-list-4 c = sym (length-take-le _ _ (balances (c .before .before .before .before .before .before .before .before .before .before .before .before .before .before .before .before .before .before .before .before .before .before) .long))
-
-write-signed-list-requires-2 : tie.Need-write-signed-list-requires-2
-write-signed-list-requires-2 c κs = search needs
-
-same-length : tie.Need-same-length
-same-length c = search needs
 
 returns : tie.Need-returns
 unfolding savingText
@@ -106,23 +70,16 @@ pub write-saving-spec : {M : Type 1} → statement M
 write-saving-spec =
     tie.close
     (tie.spec
-    slice-aggregate-save
-    slice-aggregate-save-2
-    slice-aggregate-save-3
-    save-requires
+    (λ c. search needs) (λ c. search needs) (λ c. search needs) (λ c κs. search needs)
     mul-places
-    write-numbers-requires
-    slice-aggregate-write-list
+    (λ c κs. search needs) (λ c. search needs)
     array-share-prefix-present
     slice-aggregate-write-list-2
-    write-list-requires
-    slice-aggregate-write-signed-list
+    (λ c κs. search needs) (λ c. search needs)
     array-share-prefix-charges
     slice-aggregate-write-signed-list-2
-    write-signed-list-requires
-    slice-aggregate-write-signed-list-3
+    (λ c κs. search needs) (λ c. search needs)
     array-share-prefix-balances
     slice-aggregate-write-signed-list-4
-    write-signed-list-requires-2
-    same-length
+    (λ c κs. search needs) (λ c. search needs)
     returns)

@@ -7,33 +7,6 @@ use borrow.Author.Needs.{sfits-of}
 use Rattle.answers.proofs.transfers.write_transfer_row.Statement.{statement}
 use Rattle.answers.proofs.transfers.write_transfer_row.Tie as tie
 
-mul-balance : tie.Need-mul-balance
-mul-balance c = search needs
-
-array-copy-out-balance : tie.Need-array-copy-out-balance
-array-copy-out-balance c = search needs
-
-write-decimal-requires : tie.Need-write-decimal-requires
-write-decimal-requires c κs = search needs
-
-mul-write-signed-word : tie.Need-mul-write-signed-word
-mul-write-signed-word c = search needs
-
-shared-slice-copy-out-write-signed-word : tie.Need-shared-slice-copy-out-write-signed-word
-shared-slice-copy-out-write-signed-word c = search needs
-
-write-signed-word-requires : tie.Need-write-signed-word-requires
-write-signed-word-requires c κs = search needs
-
-write-signed-word-requires-2 : tie.Need-write-signed-word-requires-2
-write-signed-word-requires-2 c κs = search needs
-
-write-byte-requires : tie.Need-write-byte-requires
-write-byte-requires c κs = search needs
-
-same-length : tie.Need-same-length
-same-length c = search needs
-
 returns : tie.Need-returns
 unfolding transferRow
 returns c =
@@ -51,13 +24,6 @@ pub write-transfer-row-spec : {M : Type 1} → statement M
 write-transfer-row-spec =
     tie.close
     (tie.spec
-    mul-balance
-    array-copy-out-balance
-    write-decimal-requires
-    mul-write-signed-word
-    shared-slice-copy-out-write-signed-word
-    write-signed-word-requires
-    write-signed-word-requires-2
-    write-byte-requires
-    same-length
+    (λ c. search needs) (λ c. search needs) (λ c κs. search needs) (λ c. search needs) (λ c. search needs) (λ c κs. search needs) (λ c κs. search needs)
+    (λ c κs. search needs) (λ c. search needs)
     returns)

@@ -25,12 +25,6 @@ loop-holds c = (omega arith, omega arith, refl, texts-none (transferRow (c .befo
 write-transfer-row-requires : tie.Need-write-transfer-row-requires Inv-loop μ-loop
 write-transfer-row-requires c κs = (omega arith, ltb-true _ _ (c .before .if1 .taken))
 
-add-i : tie.Need-add-i Inv-loop μ-loop
-add-i c = omega arith
-
-loop-less : tie.Need-loop-less Inv-loop μ-loop
-loop-less c = omega arith
-
 loop-again : tie.Need-loop-again Inv-loop μ-loop
 loop-again c =
     let b = c .before .before in
@@ -72,8 +66,7 @@ write-transfer-rows-spec =
     μ-loop
     loop-holds
     write-transfer-row-requires
-    add-i
-    loop-less
+    (λ c. omega arith) (λ c. omega arith)
     loop-again
     same-length
     returns

@@ -14,18 +14,6 @@ use borrow.Author.Needs.{needs}
 use Rattle.text.proofs.number.write_signed_decimal.Statement.{statement}
 use Rattle.text.proofs.number.write_signed_decimal.Tie as tie
 
-within-size-requires : tie.Need-within-size-requires
-within-size-requires c κs = search needs
-
-slice-aggregate-write-text : tie.Need-slice-aggregate-write-text
-slice-aggregate-write-text c = search needs
-
-write-text-requires : tie.Need-write-text-requires
-write-text-requires c κs = search needs
-
-same-length : tie.Need-same-length
-same-length c = search needs
-
 returns : tie.Need-returns
 returns c =
     let w = c .before .before in
@@ -43,20 +31,8 @@ module _ (e : tie.After-is-negative) where
   sized =
       within-size (s .args .x) (rw (toZ-ofZ (s .fits .x)) at (sym (e .before .before .within-size .ensures) ∙ not-false _ (e .before .if1 .left)))
 
-is-negative-requires : tie.Need-is-negative-requires
-is-negative-requires c κs = search needs
-
-write-byte-requires : tie.Need-write-byte-requires
-write-byte-requires c κs = search needs
-
 magnitude-requires : tie.Need-magnitude-requires
 magnitude-requires c κs = let e = c .before .before .before .before .before .before in rw (toZ-ofZ (s e .fits .x)) (sized e)
-
-write-decimal-requires : tie.Need-write-decimal-requires
-write-decimal-requires c κs = search needs
-
-same-length-2 : tie.Need-same-length-2
-same-length-2 c = search needs
 
 returns-2 : tie.Need-returns-2
 returns-2 c =
@@ -73,12 +49,6 @@ returns-2 c =
 magnitude-requires-2 : tie.Need-magnitude-requires-2
 magnitude-requires-2 c κs = let e = c .before .before in rw (toZ-ofZ (s e .fits .x)) (sized e)
 
-write-decimal-requires-2 : tie.Need-write-decimal-requires-2
-write-decimal-requires-2 c κs = search needs
-
-same-length-3 : tie.Need-same-length-3
-same-length-3 c = search needs
-
 returns-3 : tie.Need-returns-3
 returns-3 c =
     let w = c .before .before in
@@ -94,18 +64,12 @@ pub write-signed-decimal-spec : {M : Type 1} → statement M
 write-signed-decimal-spec =
     tie.close
     (tie.spec
-    within-size-requires
-    slice-aggregate-write-text
-    write-text-requires
-    same-length
+    (λ c κs. search needs) (λ c. search needs) (λ c κs. search needs) (λ c. search needs)
     returns
-    is-negative-requires
-    write-byte-requires
+    (λ c κs. search needs) (λ c κs. search needs)
     magnitude-requires
-    write-decimal-requires
-    same-length-2
+    (λ c κs. search needs) (λ c. search needs)
     returns-2
     magnitude-requires-2
-    write-decimal-requires-2
-    same-length-3
+    (λ c κs. search needs) (λ c. search needs)
     returns-3)

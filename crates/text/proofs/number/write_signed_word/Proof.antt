@@ -6,15 +6,6 @@ use borrow.Author.Needs.{needs}
 use Rattle.text.proofs.number.write_signed_word.Statement.{statement}
 use Rattle.text.proofs.number.write_signed_word.Tie as tie
 
-write-byte-requires : tie.Need-write-byte-requires
-write-byte-requires c κs = search needs
-
-write-signed-decimal-requires : tie.Need-write-signed-decimal-requires
-write-signed-decimal-requires c κs = search needs
-
-same-length : tie.Need-same-length
-same-length c = search needs
-
 returns : tie.Need-returns
 unfolding signedWord
 returns c =
@@ -24,4 +15,6 @@ returns c =
 
 pub write-signed-word-spec : {M : Type 1} → statement M
 write-signed-word-spec =
-    tie.close (tie.spec write-byte-requires write-signed-decimal-requires same-length returns)
+    tie.close (tie.spec
+    (λ c κs. search needs) (λ c κs. search needs) (λ c. search needs)
+    returns)

@@ -7,15 +7,6 @@ use borrow.Author.Needs.{needs}
 use Rattle.text.proofs.write.write_byte.Statement.{statement}
 use Rattle.text.proofs.write.write_byte.Tie as tie
 
-slice-write-buffer : tie.Need-slice-write-buffer
-slice-write-buffer c = search needs
-
-add-result : tie.Need-add-result
-add-result c = search needs
-
-same-length : tie.Need-same-length
-same-length c = search needs
-
 returns : tie.Need-returns
 returns c = rw add-one (sym (byte-room _ _ _ (omega arith)))
 
@@ -23,4 +14,7 @@ returns-2 : tie.Need-returns-2
 returns-2 c = sym (byte-full _ _ _ (omega arith))
 
 pub write-byte-spec : {M : Type 1} → statement M
-write-byte-spec = tie.close (tie.spec slice-write-buffer add-result same-length returns returns-2)
+write-byte-spec = tie.close (tie.spec
+    (λ c. search needs) (λ c. search needs) (λ c. search needs)
+    returns
+    returns-2)
