@@ -22,6 +22,7 @@ use Rattle.ledger.specs.declared.open.OpeningAnswer.{OpeningAnswer}
 use Rattle.ledger.specs.declared.settle.SettlementAnswer.{SettlementAnswer}
 use Rattle.store.specs.Store.{truthWord, keptCount, presentWords, chargeWords, balanceWords}
 use Rattle.store.proofs.StoreLaws.{kept-most}
+use Rattle.journal.specs.Command.{openName, fixName, settleName, loadName, presentName, chargesName, balancesName}
 use Rattle.text.specs.Text.{bytes, lineEnd, word, signedWord, named, textBelow}
 use Rattle.text.proofs.SizeLaws.{choice-size, decimal-size, word-size, signed-word-size, named-size, texts-size}
 use Rattle.answers.specs.Answer.{outcome, outcomeLine, openingText, loadingText, errorText, fixedText, placeText, detailText, allUnwritten, changedText, priceRow, priceRows, fixingText, transferRow, transferRows, settlementText, listText, signedListText, numbersText, savingText}
@@ -39,11 +40,11 @@ line-size command number = rw length-append (omega (arith, outcome-size command 
 
 pub opening-size : (answer : OpeningAnswer) → length (openingText answer) ≤ 262144
 unfolding openingText
-opening-size answer = omega (arith, line-size (bytes "open") (openingNumber answer))
+opening-size answer = omega (arith, line-size openName (openingNumber answer))
 
 pub loading-size : length loadingText ≤ 262144
 unfolding loadingText
-loading-size = omega (arith, line-size (bytes "load") 0)
+loading-size = omega (arith, line-size loadName 0)
 
 pub error-size : (at : ℕ) → length (errorText at) ≤ 43
 unfolding errorText
@@ -85,7 +86,7 @@ fixing-size answer prices few =
     let rows : length (textBelow (length prices / 3) (priceRow prices)) ≤ 237510 =
     omega (arith, texts-size (length prices / 3) 87 (priceRow prices) (price-row-size prices)) in
     let under = choice-size (eqb (fixingNumber answer) 0) (textBelow (length prices / 3) (priceRow prices)) (changedText prices) 237510 rows (omega (arith, changed-size prices)) in
-    rw (length-append, length-append, length-append) (omega (arith, under, outcome-size (bytes "fix") (fixingNumber answer), detail-size answer))
+    rw (length-append, length-append, length-append) (omega (arith, under, outcome-size fixName (fixingNumber answer), detail-size answer))
 
 transfer-row-size : (transfers : List ℤ) (balances : List Pesos) (i : ℕ) → length (transferRow transfers balances i) ≤ 65
 unfolding transferRow
@@ -101,7 +102,7 @@ settlement-size answer transfers balances =
     let rows : length (textBelow count (transferRow transfers balances)) ≤ 2600 =
     omega (arith, texts-size count 65 (transferRow transfers balances) (transfer-row-size transfers balances), few) in
     let under = choice-size (eqb (settlementNumber answer) 0) (textBelow count (transferRow transfers balances)) (changedText transfers) 2600 rows (omega (arith, changed-size transfers)) in
-    rw length-append (omega (arith, under, line-size (bytes "settle") (settlementNumber answer)))
+    rw length-append (omega (arith, under, line-size settleName (settlementNumber answer)))
 
 list-size : (name : List ℕ) (list : List ℕ) → length (listText name list) ≤ length name + 22 + length list * 21
 unfolding listText
@@ -119,7 +120,7 @@ numbers-size : (book : Ledger) → length (numbersText book) ≤ 110
 unfolding numbersText
 numbers-size book =
     rw (length-append, length-append, length-append, length-append, length-append)
-    (omega (arith, named-size (bytes "load") (book .n), word-size (book .months), word-size (book .last), word-size (truthWord (book .fixed)), word-size (book .month)))
+    (omega (arith, named-size loadName (book .n), word-size (book .months), word-size (book .last), word-size (truthWord (book .fixed)), word-size (book .month)))
 
 pub saving-size : (book : Ledger) → length (savingText book) ≤ 262144
 unfolding savingText presentWords chargeWords balanceWords
@@ -127,4 +128,4 @@ saving-size book =
     let places = keptCount book * sectorCount in
     let few : keptCount book ≤ 40 = kept-most book in
     rw (length-append, length-append, length-append)
-    (omega (arith, few, numbers-size book, rw list-length at (list-size (bytes "present") (presentWords (book .force) places)), rw list-length at (signed-list-size (bytes "charges") (chargeWords (book .force) places)), rw list-length at (signed-list-size (bytes "balances") (balanceWords (book .balances) (keptCount book)))))
+    (omega (arith, few, numbers-size book, rw list-length at (list-size presentName (presentWords (book .force) places)), rw list-length at (signed-list-size chargesName (chargeWords (book .force) places)), rw list-length at (signed-list-size balancesName (balanceWords (book .balances) (keptCount book)))))

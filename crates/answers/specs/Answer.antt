@@ -22,6 +22,7 @@ use Rattle.ledger.specs.declared.fix.FixingAnswer.{FixingAnswer}
 use Rattle.ledger.specs.declared.fix.FixingAnswer.the-variants.{Accepted, Unsound, WrongLength, OutOfTurn, Rejected}
 use Rattle.ledger.specs.declared.settle.SettlementAnswer.{SettlementAnswer}
 use Rattle.store.specs.Store.{truthWord, keptCount, presentWords, chargeWords, balanceWords}
+use Rattle.journal.specs.Command.{openName, fixName, settleName, loadName, presentName, chargesName, balancesName}
 use Rattle.text.specs.Text.{bytes, decimal, word, signedWord, named, textBelow, lineEnd}
 
 -- "open accepted", "open refused 1": whether a command was accepted, or the number of its refusal
@@ -34,10 +35,10 @@ unfoldable pub outcomeLine : List ℕ → ℕ → List ℕ
 outcomeLine command number = outcome command number ++ lineEnd ∷ []
 
 unfoldable pub openingText : OpeningAnswer → List ℕ
-openingText answer = outcomeLine (bytes "open") (openingNumber answer)
+openingText answer = outcomeLine openName (openingNumber answer)
 
 unfoldable pub loadingText : List ℕ
-loadingText = outcomeLine (bytes "load") 0
+loadingText = outcomeLine loadName 0
 
 -- "journal error at byte B"
 unfoldable pub errorText : ℕ → List ℕ
@@ -90,7 +91,7 @@ priceRows prices = textBelow (length prices / 3) (priceRow prices)
 -- the line of a fixing, and the rows under an accepted one
 unfoldable pub fixingText : FixingAnswer → List ℤ → List ℕ
 fixingText answer prices =
-    outcome (bytes "fix") (fixingNumber answer) ++ detailText answer ++ lineEnd ∷ []
+    outcome fixName (fixingNumber answer) ++ detailText answer ++ lineEnd ∷ []
     ++ cond (eqb (fixingNumber answer) 0) (priceRows prices) (changedText prices)
 
 -- "I TRANSFER BALANCE (a row for each distributor)"
@@ -104,7 +105,7 @@ transferRows transfers balances = textBelow (min (length transfers) mostDistribu
 -- the line of a settlement, and the rows under an accepted one
 unfoldable pub settlementText : SettlementAnswer → List ℤ → List Pesos → List ℕ
 settlementText answer transfers balances =
-    outcomeLine (bytes "settle") (settlementNumber answer)
+    outcomeLine settleName (settlementNumber answer)
     ++ cond (eqb (settlementNumber answer) 0) (transferRows transfers balances) (changedText transfers)
 
 -- a list: its name, its count and its words
@@ -119,13 +120,13 @@ signedListText name list =
 -- "`save` prints the ledger as a `load` command: N MONTHS LAST FIXED MONTH on the first line"
 unfoldable pub numbersText : Ledger → List ℕ
 numbersText book =
-    named (bytes "load") (book .n) ++ word (book .months) ++ word (book .last) ++ word (truthWord (book .fixed))
+    named loadName (book .n) ++ word (book .months) ++ word (book .last) ++ word (truthWord (book .fixed))
     ++ word (book .month) ++ lineEnd ∷ []
 
 -- "then a line each for present, charges .. and balances"
 unfoldable pub savingText : Ledger → List ℕ
 savingText book =
     let places = keptCount book * sectorCount in
-    numbersText book ++ listText (bytes "present") (presentWords (book .force) places)
-    ++ signedListText (bytes "charges") (chargeWords (book .force) places)
-    ++ signedListText (bytes "balances") (balanceWords (book .balances) (keptCount book))
+    numbersText book ++ listText presentName (presentWords (book .force) places)
+    ++ signedListText chargesName (chargeWords (book .force) places)
+    ++ signedListText balancesName (balanceWords (book .balances) (keptCount book))

@@ -3,6 +3,7 @@ ghost use mathlib.Core.Path.{_≡_};
 ghost use Rattle.text.specs.Buffer.{bufferOf, written};
 ghost use Rattle.answers.specs.Answer.{listText, signedListText, numbersText, savingText};
 use ledger::book::Ledger;
+use numbers::sizes::SECTORS;
 use store::save::save;
 use store::save::truth_word;
 use text::number::write_named;
@@ -56,7 +57,7 @@ pub fn write_saving(buffer: &mut [u8], count: usize, ledger: Ledger) -> usize
     let mut charges = [0i64; 320];
     let mut balances = [0i64; 40];
     let kept = save(ledger, &mut present, &mut charges, &mut balances);
-    let places = kept * 8;
+    let places = kept * SECTORS;
     let end = write_numbers(buffer, count, ledger);
     let end = write_list(buffer, end, b"present", &present[..places]);
     let end = write_signed_list(buffer, end, b"charges", &charges[..places]);

@@ -7,7 +7,7 @@ use mathlib.Core.Option.{Option, none, some}
 use Prim.Native.Nat.{ℕ, _*_, _/_, _≤_}
 use lib.ListN.{length}
 use Rattle.numbers.specs.Checks.{refusedUnless, firstOf}
-use Rattle.numbers.specs.Sizes.{sectorCount}
+use Rattle.numbers.specs.Sizes.{mostDistributors, sectorCount}
 use Rattle.numbers.specs.declared.units.PesoPrice.{PesoPrice}
 use Rattle.numbers.specs.declared.units.Energy.{Energy}
 use Rattle.series.specs.Series.{wordCount, seriesTable, valuesInRange}
@@ -48,7 +48,7 @@ indexTable input = seriesTable (input .series)
 -- the lists have the lengths that cause 3 asks for
 pub record RightLengths (n : ℕ) (input : FixingInput) : Type 0 where
   pub some : 1 ≤ n
-  pub few : n ≤ 40
+  pub few : n ≤ mostDistributors
   pub values : length (input .series) ≡ wordCount
   pub lent : WholeLines (input .lines) (lineCount input)
   pub line : 1 ≤ lineCount input

@@ -10,6 +10,7 @@ use lib.Dec.{ltb}
 use lib.IntN.{ℤ, subℕ}
 use Rattle.numbers.specs.Bounded.{sumBelow, anyBelow, firstBelow}
 use Rattle.numbers.specs.Rounding.{divideUp}
+use Rattle.numbers.specs.Sizes.{mostDistributors}
 
 -- n distributors, the average p_i in 0.001 $/kWh and the energy E_i in MWh of each
 pub record Distributors : Type 0 where
@@ -108,7 +109,7 @@ residue d = collected d - contractTotal d
 -- energy at least 1, and at most 256 lines of 10,000,000 in all
 pub record InRange (d : Distributors) : Type 0 where
   pub some : 1 ≤ d .count
-  pub few : d .count ≤ 40
+  pub few : d .count ≤ mostDistributors
   pub least : (i : ℕ) → i < d .count → 1000 ≤ d .average i
   pub most : (i : ℕ) → i < d .count → d .average i ≤ 2000000
   pub supplied : (i : ℕ) → i < d .count → 1 ≤ d .energy i

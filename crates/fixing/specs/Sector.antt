@@ -9,7 +9,7 @@ use lib.ListN.{getD, length}
 use lib.IntN.{ℤ, pos, natAbs}
 use Rattle.numbers.specs.Bounded.{allBelow, anyBelow, filledBelow}
 use Rattle.numbers.specs.Units.{mostPrice}
-use Rattle.numbers.specs.Sizes.{sectorCount, sectorPlaces}
+use Rattle.numbers.specs.Sizes.{mostDistributors, sectorCount, sectorPlaces}
 use Rattle.fixing.specs.Charge.{sectorCharge}
 use Rattle.fixing.specs.declared.sector.SectorCharges.{SectorCharges}
 
@@ -52,7 +52,7 @@ noCharges = chargedPlaces 0 (λ i. pos 0) []
 
 -- what the charges of sectors are worked from: checked factors, and charges of at most 2,000,000 in size
 pub record ChargedSectors (n : ℕ) (charges : List ℤ) (sectors : List ℕ) : Type 0 where
-  pub few : n ≤ 40
+  pub few : n ≤ mostDistributors
   pub lent : length sectors ≡ n * sectorCount
   pub factors : (k : ℕ) → k < n * sectorCount → factorAt sectors k ≤ mostFactor
   pub charge : (i : ℕ) → i < n → natAbs (getD charges i (pos 0)) ≤ mostPrice

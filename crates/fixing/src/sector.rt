@@ -11,14 +11,13 @@ ghost use Rattle.fixing.specs.Charge.{sectorCharge};
 ghost use Rattle.fixing.specs.Sector.{mostFactor, factorAt, hasSector, sectorsAllowed, sectorCharges, noCharges, ChargedSectors};
 use numbers::rounding::half_away;
 use numbers::signed::difference;
+use numbers::sizes::SECTORS;
 
 // Presence and charge of 8 sectors of 40 distributors: what a fixing puts in force, without its month.
 pub struct SectorCharges {
     pub present: [bool; 320],
     pub charges: [i64; 320],
 }
-
-const SECTORS: usize = 8;
 
 const MOST_FACTOR: u64 = 50000;
 

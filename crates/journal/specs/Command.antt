@@ -1,10 +1,11 @@
 -- The commands of a journal (docs/JOURNAL.md, "Input"): which one stands next, and what its text holds.
 -- Assumes nothing.
 use mathlib.Core.Bool.{Bool, true, false, cond}
-use mathlib.Core.List.{List, [], _∷_}
+use mathlib.Core.List.{List}
 use Prim.Native.Nat.{ℕ}
 use lib.Dec.{eqb}
 use lib.ListN.{length}
+use Rattle.text.specs.Text.{bytes}
 use Rattle.numbers.specs.Sizes.{mostDistributors, sectorPlaces}
 use Rattle.journal.specs.Token.{tokenStart, tokenEnd}
 use Rattle.journal.specs.Word.{isWord}
@@ -22,51 +23,51 @@ use Rattle.journal.specs.declared.command.LoadRead.{LoadRead}
 abbrev pub longestList : ℕ
 longestList = 8192
 
--- the words, byte by byte
+-- the words of commands and lists
 abbrev pub openName : List ℕ
-openName = 111 ∷ 112 ∷ 101 ∷ 110 ∷ []
+openName = bytes "open"
 
 abbrev pub fixName : List ℕ
-fixName = 102 ∷ 105 ∷ 120 ∷ []
+fixName = bytes "fix"
 
 abbrev pub settleName : List ℕ
-settleName = 115 ∷ 101 ∷ 116 ∷ 116 ∷ 108 ∷ 101 ∷ []
+settleName = bytes "settle"
 
 abbrev pub saveName : List ℕ
-saveName = 115 ∷ 97 ∷ 118 ∷ 101 ∷ []
+saveName = bytes "save"
 
 abbrev pub loadName : List ℕ
-loadName = 108 ∷ 111 ∷ 97 ∷ 100 ∷ []
+loadName = bytes "load"
 
 abbrev pub seriesName : List ℕ
-seriesName = 115 ∷ 101 ∷ 114 ∷ 105 ∷ 101 ∷ 115 ∷ []
+seriesName = bytes "series"
 
 abbrev pub linesName : List ℕ
-linesName = 108 ∷ 105 ∷ 110 ∷ 101 ∷ 115 ∷ []
+linesName = bytes "lines"
 
 abbrev pub sectorsName : List ℕ
-sectorsName = 115 ∷ 101 ∷ 99 ∷ 116 ∷ 111 ∷ 114 ∷ 115 ∷ []
+sectorsName = bytes "sectors"
 
 abbrev pub pricesName : List ℕ
-pricesName = 112 ∷ 114 ∷ 105 ∷ 99 ∷ 101 ∷ 115 ∷ []
+pricesName = bytes "prices"
 
 abbrev pub readingsName : List ℕ
-readingsName = 114 ∷ 101 ∷ 97 ∷ 100 ∷ 105 ∷ 110 ∷ 103 ∷ 115 ∷ []
+readingsName = bytes "readings"
 
 abbrev pub lossesName : List ℕ
-lossesName = 108 ∷ 111 ∷ 115 ∷ 115 ∷ 101 ∷ 115 ∷ []
+lossesName = bytes "losses"
 
 abbrev pub transfersName : List ℕ
-transfersName = 116 ∷ 114 ∷ 97 ∷ 110 ∷ 115 ∷ 102 ∷ 101 ∷ 114 ∷ 115 ∷ []
+transfersName = bytes "transfers"
 
 abbrev pub presentName : List ℕ
-presentName = 112 ∷ 114 ∷ 101 ∷ 115 ∷ 101 ∷ 110 ∷ 116 ∷ []
+presentName = bytes "present"
 
 abbrev pub chargesName : List ℕ
-chargesName = 99 ∷ 104 ∷ 97 ∷ 114 ∷ 103 ∷ 101 ∷ 115 ∷ []
+chargesName = bytes "charges"
 
 abbrev pub balancesName : List ℕ
-balancesName = 98 ∷ 97 ∷ 108 ∷ 97 ∷ 110 ∷ 99 ∷ 101 ∷ 115 ∷ []
+balancesName = bytes "balances"
 
 -- the command of the token from start to before end
 unfoldable pub commandIn : List ℕ → ℕ → ℕ → Command

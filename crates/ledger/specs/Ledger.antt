@@ -5,6 +5,7 @@ use mathlib.Core.List.{List, []}
 use Prim.Native.Nat.{ℕ, _+_}
 use lib.Dec.{eqb}
 use lib.IntN.{pos}
+use Rattle.numbers.specs.Sizes.{mostDistributors}
 use Rattle.numbers.specs.Units.{between}
 use Rattle.numbers.specs.declared.units.Pesos.{Pesos}
 use Rattle.fixing.specs.Sector.{noCharges}
@@ -57,7 +58,7 @@ settledLedger book month balances =
 -- "opening, n not 1 to 40" is 1
 unfoldable pub openingOf : ℕ → Opening
 openingOf n =
-    cond (between 1 40 n)
+    cond (between 1 mostDistributors n)
     (record { answer = Opened; ledger = emptyLedger n })
     (record { answer = WrongCount; ledger = emptyLedger 0 })
 

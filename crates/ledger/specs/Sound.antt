@@ -72,7 +72,7 @@ balancesSound n months balances =
 -- "Sound: n is in its range; .."
 unfoldable pub sound : Ledger → Bool
 sound book =
-    between 1 40 (book .n)
+    between 1 mostDistributors (book .n)
     && (forceSound (book .n) (book .force)
     && (unsetZero (book .months) (book .last) (book .fixed) (book .month) (book .force)
     && (monthsSound (book .months) (book .last) (book .fixed) (book .month)

@@ -12,12 +12,10 @@ use crate::book::LAST_MONTH;
 use crate::book::Ledger;
 use fixing::sector::SectorCharges;
 use numbers::signed::within_size;
+use numbers::sizes::PLACES;
+use numbers::sizes::SECTORS;
 use numbers::units::Pesos;
 use numbers::units::is_between;
-
-const SECTORS: usize = 8;
-
-const PLACES: usize = 320;
 
 const MOST_CHARGE: u64 = 10500000;
 

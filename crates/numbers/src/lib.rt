@@ -3,4 +3,5 @@
 pub mod division;
 pub mod rounding;
 pub mod signed;
+pub mod sizes;
 pub mod units;

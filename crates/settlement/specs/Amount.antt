@@ -12,7 +12,7 @@ use Rattle.numbers.specs.Bounded.{allBelow}
 use Rattle.numbers.specs.Rounding.{halfAway}
 use Rattle.numbers.specs.Signed.{signedSumBelow}
 use Rattle.numbers.specs.Units.{between}
-use Rattle.numbers.specs.Sizes.{sectorCount}
+use Rattle.numbers.specs.Sizes.{mostDistributors, sectorCount}
 
 -- "each at most 2,000,000,000"
 abbrev pub mostReading : ℕ
@@ -77,7 +77,7 @@ collectedAmount charges readings losses i =
 -- What the functions past cause 12 require: the lists' lengths, and the ranges of readings, loss factors and charges as
 -- plain facts.
 pub record BillingLists (n : ℕ) (readings losses : List ℕ) : Type 0 where
-  pub few : n ≤ 40
+  pub few : n ≤ mostDistributors
   pub read : length readings ≡ n * 32
   pub lost : length losses ≡ n * 2
 

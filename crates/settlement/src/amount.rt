@@ -6,12 +6,11 @@ ghost use Rattle.numbers.specs.Bounded.{allBelow};
 ghost use Rattle.settlement.specs.Amount.{BillingLists, Billed, presentAt, readingOf, readingAllowed, readingsAllowed, lossesAllowed, billingInRange, energyWithLosses, collectedAmount};
 use numbers::rounding::half_away;
 use numbers::signed::difference;
+use numbers::sizes::SECTORS;
 use numbers::units::Pesos;
 use numbers::units::is_between;
 
-// Sectors of a distributor, readings of a sector, words of a distributor's readings, and the greatest reading in kWh.
-const SECTORS: usize = 8;
-
+// Readings of a sector, words of a distributor's readings, and the greatest reading in kWh.
 const KINDS: usize = 4;
 
 const DISTRIBUTOR_READINGS: usize = 32;

@@ -7,11 +7,9 @@ ghost use Rattle.numbers.specs.Sizes.{mostDistributors, sectorPlaces};
 ghost use Rattle.store.specs.Store.{truthWord, withinOrEmpty, placeKept, withinOrZero, balanceKept, keptCount, presentWords, chargeWords, balanceWords, Saved};
 use fixing::sector::SectorCharges;
 use ledger::book::Ledger;
+use numbers::sizes::PLACES;
+use numbers::sizes::SECTORS;
 use numbers::units::Pesos;
-
-const SECTORS: usize = 8;
-
-const PLACES: usize = 320;
 
 // A truth as a word, 0 or 1.
 pub fn truth_word(truth: bool) -> u64
