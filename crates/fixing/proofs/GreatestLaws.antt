@@ -11,7 +11,7 @@ use Rattle.numbers.specs.Bounded.{sumBelow}
 use Rattle.numbers.specs.Signed.{positivePart, negativePart, signedSumBelow}
 use Rattle.numbers.proofs.BoolLaws.{by-last}
 use Rattle.numbers.proofs.SumLaws.{sum-le-sum}
-use Rattle.numbers.proofs.SignedLaws.{sub-cases, pos-sub-zero, signed-sum-parts}
+use Rattle.numbers.proofs.SignedLaws.{sub-cases, pos-sub-zero, signed-sum-parts, pos-le}
 use Rattle.fixing.specs.Charge.{greater, greatestUpTo}
 
 signed-trans : {a b c : ℤ} → a ≤ℤ b → b ≤ℤ c → a ≤ℤ c
@@ -20,9 +20,6 @@ signed-trans {a} {b} {c} h k = go (ltZ c a) refl
     go : (t : Bool) → ltZ c a ≡ t → a ≤ℤ c
     go true e = clashℤ (<ℤ-≤ℤ-trans (ltZ-yes (rw e tt)) h) k
     go false e = ltZ-no (rw e tt)
-
-pos-le : (a b : ℕ) → a ≤ b → pos a ≤ℤ pos b
-pos-le a b h = record { le = le→leb a b h }
 
 signed-total : (a b : ℤ) → leZ a b ≡ false → b ≤ℤ a
 signed-total (pos a) (pos b) e = pos-le b a (omega (arith, leb-false a b e))

@@ -4,14 +4,13 @@ use mathlib.Core.Bool.{true}
 use mathlib.Core.List.{List}
 use Prim.Native.Nat.{ℕ, zero, suc, _+_, _-_, _*_, _/_, _%_, _≤_, _<_}
 use native.Mathlib.Omega.{arith}
-use lib.Dec.{le→leb}
 use lib.ListN.{length, getD}
 use lib.IntN.{ℤ, pos, _-ℤ_, _*ℤ_}
-use lib.Signed.{_≤ℤ_}
 use Rattle.numbers.specs.Bounded.{listBelow}
 use Rattle.numbers.specs.Units.{noPrice}
 use Rattle.numbers.specs.declared.units.PesoPrice.{PesoPrice}
 use Rattle.numbers.proofs.ListLaws.{list-length, list-at}
+use Rattle.numbers.proofs.SignedLaws.{pos-le}
 use Rattle.fixing.specs.Limit.{Distributors, InRange, contractTotal, limit, finalPrice, charge, collected}
 use Rattle.fixing.specs.Charge.{greater, greatestUpTo, pricesCollect, largestCharge}
 use Rattle.fixing.specs.Prices.{fixedPrices, chargeList}
@@ -28,9 +27,6 @@ use Rattle.ledger.proofs.MoneyLaws.{signed-sum-same}
 use Rattle.ledger.proofs.CallLaws.{fixing-passed, passed-range, passed-fixing}
 use Rattle.history.specs.Plain.{inputDistributors}
 use Rattle.history.specs.History.{writtenFinal, WrittenPrices}
-
-pos-le : (a b : ℕ) → a ≤ b → pos a ≤ℤ pos b
-pos-le a b h = record { le = le→leb a b h }
 
 -- prices that agree below n collect the same and have the same largest charge
 greatest-same : (k : ℕ) (f g : ℕ → ℤ) → ((i : ℕ) → i ≤ k → f i ≡ g i) → greatestUpTo k f ≡ greatestUpTo k g

@@ -7,9 +7,9 @@ use native.Mathlib.Omega.{arith}
 use native.Mathlib.Decide.{decLt}
 use native.Mathlib.Numerals.{add-one}
 use native.Mathlib.Nat.{suc-mul, mul-le-mul}
-use lib.Dec.{T}
+use lib.Dec.{T, le→leb}
 use lib.IntN.{ℤ, pos, negsuc, negℤ, subℕ, natAbs, _+ℤ_, _-ℤ_, _*ℤ_, +ℤ-assoc, +ℤ-comm}
-use lib.Signed.{ltZ, leZ, nonNeg}
+use lib.Signed.{ltZ, leZ, nonNeg, _≤ℤ_}
 use borrow.Author.Tests.{lt-ltb, le-ltb, ltb-true, leb-true, leb-false, le-leb, lt-leb}
 use mir.Syntax.{w64}
 use mir.Val.{SFits, toZ, ofZ}
@@ -23,6 +23,10 @@ sub-ge a b h = rw (le-ltb a b h)
 
 pub sub-lt : (a b : ℕ) → a < b → subℕ a b ≡ negsuc (b - suc a)
 sub-lt a b h = rw (lt-ltb a b h)
+
+-- unsigned numbers in their order
+pub pos-le : (a b : ℕ) → a ≤ b → pos a ≤ℤ pos b
+pos-le a b h = record { le = le→leb a b h }
 
 -- to prove P of a difference: where it is not negative, and where it is
 pub sub-cases {ℓ} : (P : ℤ → Type ℓ) (a b : ℕ) → (b ≤ a → P (pos (a - b))) → (a < b → P (negsuc (b - suc a))) → P (subℕ a b)
