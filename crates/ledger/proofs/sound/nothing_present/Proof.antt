@@ -36,7 +36,6 @@ nothing-present-spec =
     loop-holds
     (λ c. omega arith)
     returns
-    (λ c. omega arith)
-    (λ c. omega arith)
+    (λ c. omega arith) (λ c. omega arith)
     loop-again
     returns-2)
