@@ -1,10 +1,11 @@
 -- What a conjunction or a disjunction of tests says of its parts, and the split of the indices below a bound.
 -- Assumes nothing.
-use mathlib.Core.Path.{_≡_, refl}
-use mathlib.Core.Bool.{Bool, true, false, _&&_, _||_, false≢true, true≢false}
+use mathlib.Core.Path.{_≡_, refl, sym, _∙_}
+use mathlib.Core.Bool.{Bool, true, false, not, _&&_, _||_, false≢true, true≢false}
 use Prim.Native.Nat.{ℕ, suc, _<_}
 use native.Mathlib.Omega.{arith}
 use native.Mathlib.Decide.{decLt}
+use borrow.Author.Tests.{not-true, not-false}
 
 pub and-left : (a b : Bool) → (a && b) ≡ true → a ≡ true
 and-left true b h = refl
@@ -21,6 +22,13 @@ or-left false b h = refl
 pub or-right : (a b : Bool) → (a || b) ≡ false → b ≡ false
 or-right true b h = absurd (true≢false h)
 or-right false b h = h
+
+-- a call's result r is the test b, and the code goes on where not r fails, or stops where it holds
+pub told-true : {r b : Bool} → r ≡ b → not r ≡ false → b ≡ true
+told-true e h = sym e ∙ not-false _ h
+
+pub told-false : {r b : Bool} → r ≡ b → not r ≡ true → b ≡ false
+told-false e h = sym e ∙ not-true _ h
 
 -- below k + 1: below k, or k
 pub by-last {ℓ} : (k : ℕ) (P : ℕ → Type ℓ) → ((j : ℕ) → j < k → P j) → P k → (j : ℕ) → j < suc k → P j

@@ -8,7 +8,7 @@ use native.Mathlib.Numerals.{add-one}
 use native.Mathlib.Omega.{arith}
 use native.Mathlib.Decide.{ℕ-discrete, decLt}
 use lib.Dec.{ltb}
-use lib.ListN.{length, getD, take, set, replicate, length-append, length-set, length-replicate, getD-replicate, List·getD-append, List·getD-eq-default}
+use lib.ListN.{length, getD, take, set, replicate, length-append, length-set, length-replicate, getD-replicate, List·getD-append}
 use lib.Seq.{take-suc-set, take-all, take-at, getD-at, ext-getD, getD-set-same, getD-set-other}
 use borrow.Author.Tests.{lt-ltb, le-ltb, ltb-true}
 use Rattle.numbers.specs.Bounded.{listBelow, filledBelow}
@@ -40,6 +40,29 @@ module _ {A : Type 0} (f : ℕ → A) where
 
   pub list-done : (l : List A) (k : ℕ) → length l ≡ k → take k l ≡ listBelow k f → l ≡ listBelow k f
   list-done l k p h = sym (take-all k l (omega arith)) ∙ h
+
+-- the same loop over a list of `size` places: what holds where it comes to place k
+pub record Written {A : Type 0} (f : ℕ → A) (size : ℕ) (l : List A) (k : ℕ) : Type 0 where
+  pub most : k ≤ size
+  pub long : length l ≡ size
+  pub first : take k l ≡ listBelow k f
+
+pub written-none : {A : Type 0} (f : ℕ → A) (size : ℕ) (l : List A) → length l ≡ size → Written f size l 0
+written-none f size l e = record { most = omega arith; long = e; first = list-none f l }
+
+module _ {A : Type 0} {f : ℕ → A} {size : ℕ} {l : List A} {k : ℕ} (h : Written f size l k) where
+  pub written-more : {v : A} → k < size → v ≡ f k → Written f size (set l k v) (k + 1)
+  written-more {v} p e =
+      record {
+        most = omega arith;
+        long = length-set l k v ∙ h .long;
+        first = list-more f l k v (omega (arith, h .long)) (h .first) e;
+      }
+
+  pub written-all : size ≤ k → l ≡ listBelow size f
+  written-all p =
+      let e : k ≡ size = omega arith in
+      list-done f l size (h .long) (rw e at (h .first))
 
 -- two functions that agree below the bound have one list
 pub list-same : {A : Type 0} (k : ℕ) (f g : ℕ → A) → ((j : ℕ) → j < k → f j ≡ g j) → listBelow k f ≡ listBelow k g

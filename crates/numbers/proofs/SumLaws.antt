@@ -11,6 +11,24 @@ pub sum-step : (k : ℕ) (f : ℕ → ℕ) → sumBelow (k + 1) f ≡ sumBelow k
 unfolding sumBelow
 sum-step k f = rw add-one
 
+-- a loop that adds f k for each index k below a bound: what holds where it comes to index k
+pub record Summed (bound : ℕ) (f : ℕ → ℕ) (total k : ℕ) : Type 0 where
+  pub most : k ≤ bound
+  pub sum : total ≡ sumBelow k f
+
+pub summed-none : (bound : ℕ) (f : ℕ → ℕ) → Summed bound f 0 0
+unfolding sumBelow
+summed-none bound f = record { most = omega arith; sum = refl }
+
+module _ {bound : ℕ} {f : ℕ → ℕ} {total k : ℕ} (h : Summed bound f total k) where
+  pub summed-more : k < bound → Summed bound f (total + f k) (k + 1)
+  summed-more p = record { most = omega arith; sum = rw sum-step (omega arith) }
+
+  pub summed-all : bound ≤ k → total ≡ sumBelow bound f
+  summed-all p =
+      let e : k ≡ bound = omega arith in
+      rw e at (h .sum)
+
 pub sum-same : (k : ℕ) (f g : ℕ → ℕ) → ((j : ℕ) → j < k → f j ≡ g j) → sumBelow k f ≡ sumBelow k g
 unfolding sumBelow
 sum-same zero f g h = refl

@@ -1,7 +1,7 @@
 -- Laws of the tests of all and of any index below a bound. Assumes nothing.
-use mathlib.Core.Path.{_≡_, refl}
+use mathlib.Core.Path.{_≡_, refl, sym}
 use mathlib.Core.Bool.{Bool, true, false, _&&_, _||_, and-false}
-use Prim.Native.Nat.{ℕ, zero, suc, _+_, _<_}
+use Prim.Native.Nat.{ℕ, zero, suc, _+_, _<_, _≤_}
 use native.Mathlib.Numerals.{add-one}
 use native.Mathlib.Omega.{arith}
 use Rattle.numbers.specs.Bounded.{allBelow, anyBelow}
@@ -33,6 +33,27 @@ all-fails (suc k) t j p h =
     (λ i q e. rw (all-fails k t i q e))
     (λ e. rw (e, and-false (allBelow k t)))
     j p h
+
+-- a loop that tests the indices below a bound and stops at the first that fails: what holds where it comes to index k
+pub record Tested (bound : ℕ) (t : ℕ → Bool) (k : ℕ) : Type 0 where
+  pub most : k ≤ bound
+  pub passed : allBelow k t ≡ true
+
+pub tested-none : (bound : ℕ) (t : ℕ → Bool) → Tested bound t 0
+unfolding allBelow
+tested-none bound t = record { most = omega arith; passed = refl }
+
+module _ {bound : ℕ} {t : ℕ → Bool} {k : ℕ} (h : Tested bound t k) where
+  pub tested-more : k < bound → t k ≡ true → Tested bound t (k + 1)
+  tested-more p e = record { most = omega arith; passed = all-more k t (h .passed) e }
+
+  pub tested-fails : k < bound → t k ≡ false → false ≡ allBelow bound t
+  tested-fails p e = sym (all-fails bound t k p e)
+
+  pub tested-all : bound ≤ k → true ≡ allBelow bound t
+  tested-all p =
+      let e : k ≡ bound = omega arith in
+      sym (rw e at (h .passed))
 
 pub any-more : (k : ℕ) (t : ℕ → Bool) → anyBelow k t ≡ false → t k ≡ false → anyBelow (k + 1) t ≡ false
 unfolding anyBelow

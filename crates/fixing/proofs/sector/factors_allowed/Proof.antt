@@ -1,57 +1,30 @@
 -- The invariant: each factor passed is small enough.
-use mathlib.Core.Path.{_≡_, refl, sym}
-use mathlib.Core.Bool.{true}
-use Prim.Native.Nat.{_≤_, _-_, _+_, _*_}
+use Prim.Native.Nat.{_-_, _*_}
 use lib.Dec.{leb}
-use lib.ListN.{length}
+use native.Mathlib.Omega.{arith}
 use borrow.Author.Tests.{le-leb, lt-leb}
-use Rattle.numbers.specs.Bounded.{allBelow}
-use Rattle.numbers.proofs.TestLaws.{all-more, all-fails}
+use Rattle.numbers.proofs.TestLaws.{Tested, tested-none, tested-more, tested-fails, tested-all}
 use Rattle.fixing.specs.Sector.{mostFactor, factorAt}
 use Rattle.fixing.proofs.sector.factors_allowed.Statement.{statement}
 use Rattle.fixing.proofs.sector.factors_allowed.Tie as tie
-use native.Mathlib.Omega.{arith}
 
 abbrev Inv-loop : tie.InvT-loop
-Inv-loop n sectors k₀ k = (k ≤ length sectors) × (allBelow k (λ i. leb (factorAt sectors i) mostFactor) ≡ true)
+Inv-loop n sectors k₀ k = Tested (n * 8) (λ i. leb (factorAt sectors i) mostFactor) k
 
 abbrev μ-loop : tie.MeasureT-loop
-μ-loop n sectors k₀ k = length sectors - k
+μ-loop n sectors k₀ k = n * 8 - k
 
 loop-holds : tie.Need-loop-holds Inv-loop μ-loop
-unfolding allBelow
-loop-holds c = (omega arith, refl)
-
-mul-if1 : tie.Need-mul-if1 Inv-loop μ-loop
-mul-if1 c = omega arith
-
-shared-slice-read-if1 : tie.Need-shared-slice-read-if1 Inv-loop μ-loop
-shared-slice-read-if1 c = omega arith
+loop-holds c = tested-none _ _
 
 returns : tie.Need-returns Inv-loop μ-loop
-returns c =
-    let l = c .before .before .before in
-    let s = l .before in
-    sym (all-fails (s .args .n * 8) (λ i. leb (factorAt (s .args .sectors .now) i) mostFactor) (l .loop .k) (omega (arith, s .pre .1)) (lt-leb _ _ (c .if1 .taken)))
-
-add-k : tie.Need-add-k Inv-loop μ-loop
-add-k c = omega arith
-
-loop-less : tie.Need-loop-less Inv-loop μ-loop
-loop-less c = omega arith
+returns c = tested-fails (c .before .before .before .loop .inv) (omega arith) (lt-leb _ _ (c .if1 .taken))
 
 loop-again : tie.Need-loop-again Inv-loop μ-loop
-loop-again c =
-    let l = c .before .before .before in (
-      omega arith,
-      all-more (l .loop .k) (λ i. leb (factorAt (l .before .args .sectors .now) i) mostFactor) (l .loop .inv .1) (le-leb _ _ (c .if1 .left)),
-    )
+loop-again c = tested-more (c .before .before .before .loop .inv) (omega arith) (le-leb _ _ (c .if1 .left))
 
 returns-2 : tie.Need-returns-2 Inv-loop μ-loop
-returns-2 c =
-    let l = c .before in
-    let e : l .loop .k ≡ l .before .args .n * 8 = omega (arith, l .before .pre .1) in
-    sym (rw e at (l .loop .inv .1))
+returns-2 c = tested-all (c .before .loop .inv) (omega arith)
 
 pub factors-allowed-spec : {M : Type 1} → statement M
 factors-allowed-spec =
@@ -60,10 +33,8 @@ factors-allowed-spec =
     Inv-loop
     μ-loop
     loop-holds
-    mul-if1
-    shared-slice-read-if1
+    (λ c. omega arith) (λ c. omega arith)
     returns
-    add-k
-    loop-less
+    (λ c. omega arith) (λ c. omega arith)
     loop-again
     returns-2)

@@ -1,66 +1,38 @@
 -- The invariant: the places passed are sound.
-use mathlib.Core.Path.{_≡_, refl, sym, _∙_, ap}
-use mathlib.Core.Bool.{true, not}
-use Prim.Native.Nat.{_≤_, _-_}
+use Prim.Native.Nat.{_-_}
 use native.Mathlib.Omega.{arith}
 use mir.Facts.{toZ-ofZ}
 use borrow.Author.Needs.{needs, sfits-of}
-use borrow.Author.Tests.{not-true, not-false}
-use Rattle.numbers.specs.Bounded.{allBelow}
-use Rattle.numbers.proofs.TestLaws.{all-more, all-fails}
-use Rattle.ledger.specs.Sound.{presentIn, chargeIn, placeTest, placeSound, forceSound}
+use Rattle.numbers.proofs.BoolLaws.{told-true, told-false}
+use Rattle.numbers.proofs.TestLaws.{Tested, tested-none, tested-more, tested-fails, tested-all}
+use Rattle.ledger.specs.Sound.{placeSound, forceSound}
 use Rattle.ledger.proofs.sound.force_sound.Statement.{statement}
 use Rattle.ledger.proofs.sound.force_sound.Tie as tie
 
 abbrev Inv-loop : tie.InvT-loop
-Inv-loop n force k₀ k = (k ≤ 320) × (allBelow k (placeSound n force) ≡ true)
+Inv-loop n force k₀ k = Tested 320 (placeSound n force) k
 
 abbrev μ-loop : tie.MeasureT-loop
 μ-loop n force k₀ k = 320 - k
 
--- what the call says of the place at hand
-told : (c : tie.After-place-sound Inv-loop μ-loop) → placeSound (c .before .before .before .before .before .args .n) (c .before .before .before .before .before .args .t2) (c .before .before .before .before .loop .k) ≡ c .place-sound .result
-unfolding placeSound
-told c =
-    let l = c .before .before .before .before in
-    let force = l .before .args .t2 in
-    sym (c .place-sound .ensures ∙ ap (λ z. placeTest (l .before .args .n) (presentIn force (l .loop .k)) z (l .loop .k)) (toZ-ofZ (sfits-of (c .before .charge .given))))
-
 loop-holds : tie.Need-loop-holds Inv-loop μ-loop
-unfolding allBelow
-loop-holds c = (omega arith, refl)
-
-element-copy-out-present : tie.Need-element-copy-out-present Inv-loop μ-loop
-element-copy-out-present c = omega arith
-
-mul-charge : tie.Need-mul-charge Inv-loop μ-loop
-mul-charge c = omega arith
-
-element-copy-out-charge : tie.Need-element-copy-out-charge Inv-loop μ-loop
-element-copy-out-charge c = omega arith
-
-place-sound-requires : tie.Need-place-sound-requires Inv-loop μ-loop
-place-sound-requires c κs = search needs
+loop-holds c = tested-none _ _
 
 returns : tie.Need-returns Inv-loop μ-loop
-unfolding forceSound
-returns c = let l = c .before .before .before .before .before in
-    sym (all-fails 320 (placeSound (l .before .args .n) (l .before .args .t2)) (l .loop .k) (omega arith) (told (c .before) ∙ not-true _ (c .if1 .taken)))
-
-add-k : tie.Need-add-k Inv-loop μ-loop
-add-k c = omega arith
-
-loop-less : tie.Need-loop-less Inv-loop μ-loop
-loop-less c = omega arith
+unfolding forceSound placeSound
+returns c =
+    tested-fails (c .before .before .before .before .before .loop .inv) (omega arith)
+    (told-false (rw (toZ-ofZ (sfits-of (c .before .before .charge .given))) at (c .before .place-sound .ensures)) (c .if1 .taken))
 
 loop-again : tie.Need-loop-again Inv-loop μ-loop
-loop-again c = let l = c .before .before .before .before .before in
-    (omega arith, all-more (l .loop .k) (placeSound (l .before .args .n) (l .before .args .t2)) (l .loop .inv .1) (told (c .before) ∙ not-false _ (c .if1 .left)))
+unfolding placeSound
+loop-again c =
+    tested-more (c .before .before .before .before .before .loop .inv) (omega arith)
+    (told-true (rw (toZ-ofZ (sfits-of (c .before .before .charge .given))) at (c .before .place-sound .ensures)) (c .if1 .left))
 
 returns-2 : tie.Need-returns-2 Inv-loop μ-loop
 unfolding forceSound
-returns-2 c = let e : c .before .loop .k ≡ 320 = omega arith in
-    sym (rw e at (c .before .loop .inv .1))
+returns-2 c = tested-all (c .before .loop .inv) (omega arith)
 
 pub force-sound-spec : {M : Type 1} → statement M
 force-sound-spec =
@@ -69,12 +41,8 @@ force-sound-spec =
     Inv-loop
     μ-loop
     loop-holds
-    element-copy-out-present
-    mul-charge
-    element-copy-out-charge
-    place-sound-requires
+    (λ c. omega arith) (λ c. omega arith) (λ c. omega arith) (λ c κs. search needs)
     returns
-    add-k
-    loop-less
+    (λ c. omega arith) (λ c. omega arith)
     loop-again
     returns-2)

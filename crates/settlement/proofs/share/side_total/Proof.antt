@@ -1,30 +1,21 @@
 -- The invariant: the total of the sizes passed.
-use mathlib.Core.Path.{_≡_, refl}
-use Prim.Native.Nat.{_≤_, _-_}
+use Prim.Native.Nat.{_-_}
+use native.Mathlib.Omega.{arith}
 use lib.ListN.{getD}
-use Rattle.numbers.specs.Bounded.{sumBelow}
-use Rattle.numbers.proofs.SumLaws.{sum-step}
+use Rattle.numbers.proofs.SumLaws.{Summed, summed-none, summed-more, summed-all}
 use Rattle.settlement.specs.Share.{sideTotal}
 use Rattle.settlement.proofs.MonthLaws.{running-most}
 use Rattle.settlement.proofs.share.side_total.Statement.{statement}
 use Rattle.settlement.proofs.share.side_total.Tie as tie
-use native.Mathlib.Omega.{arith}
 
 abbrev Inv-loop : tie.InvT-loop
-Inv-loop n sizes total₀ i₀ total i = (i ≤ n) × (total ≡ sumBelow i (λ j. getD sizes j 0))
+Inv-loop n sizes total₀ i₀ total i = Summed n (λ j. getD sizes j 0) total i
 
 abbrev μ-loop : tie.MeasureT-loop
 μ-loop n sizes total₀ i₀ total i = n - i
 
 loop-holds : tie.Need-loop-holds Inv-loop μ-loop
-unfolding sumBelow
-loop-holds c = (omega arith, refl)
-
-mul-total : tie.Need-mul-total Inv-loop μ-loop
-mul-total c = omega arith
-
-element-copy-out-total : tie.Need-element-copy-out-total Inv-loop μ-loop
-element-copy-out-total c = omega arith
+loop-holds c = summed-none _ _
 
 add-total : tie.Need-add-total Inv-loop μ-loop
 add-total c =
@@ -36,21 +27,12 @@ add-total c =
       s .pre .within (l .loop .i) (omega arith),
     )
 
-add-i : tie.Need-add-i Inv-loop μ-loop
-add-i c = omega arith
-
-loop-less : tie.Need-loop-less Inv-loop μ-loop
-loop-less c = omega arith
-
 loop-again : tie.Need-loop-again Inv-loop μ-loop
-loop-again c = (omega arith, rw sum-step (omega arith))
+loop-again c = summed-more (c .before .before .loop .inv) (omega arith)
 
 returns : tie.Need-returns Inv-loop μ-loop
 unfolding sideTotal
-returns c =
-    let l = c .before in
-    let e : l .loop .i ≡ l .before .args .n = omega arith in
-    rw (← e) (l .loop .inv .1)
+returns c = summed-all (c .before .loop .inv) (omega arith)
 
 pub side-total-spec : {M : Type 1} → statement M
 side-total-spec =
@@ -59,10 +41,8 @@ side-total-spec =
     Inv-loop
     μ-loop
     loop-holds
-    mul-total
-    element-copy-out-total
+    (λ c. omega arith) (λ c. omega arith)
     add-total
-    add-i
-    loop-less
+    (λ c. omega arith) (λ c. omega arith)
     loop-again
     returns)
