@@ -1,6 +1,7 @@
-// A load to take times by: 40 distributors, 256 lines of four terms of nine months each, fixed 1,000 times, then a month
+// A load to take times by: 40 distributors, 256 lines of four terms of nine months each, fixed 1,000 times, and a month
 // settled 1,000 times. It prints how many calls were accepted.
 use ledger::book::Ledger;
+use ledger::fix::FixingOutcome;
 use ledger::fix::fix;
 use ledger::fix::number as fixing_number;
 use ledger::open::open;
@@ -45,12 +46,12 @@ fn lines() -> [u64; 6656] {
     lines
 }
 
-// One fixing of the load: 1 where it is accepted.
-fn fix_once(book: Ledger, lines: &[u64]) -> u64 {
+// The fixing of the load.
+fn fixing(book: Ledger, lines: &[u64]) -> FixingOutcome {
     let series = [10000u64; 240];
     let sectors = [10000u64; 320];
     let mut prices = [0i64; 120];
-    let outcome = fix(
+    fix(
         book,
         20,
         100000,
@@ -60,7 +61,12 @@ fn fix_once(book: Ledger, lines: &[u64]) -> u64 {
         lines,
         &sectors,
         &mut prices,
-    );
+    )
+}
+
+// One fixing of the load: 1 where it is accepted.
+fn fix_once(book: Ledger, lines: &[u64]) -> u64 {
+    let outcome = fixing(book, lines);
     let answer = outcome.answer;
     if fixing_number(answer) == 0 { 1 } else { 0 }
 }
@@ -75,56 +81,41 @@ fn settle_once(book: Ledger) -> u64 {
     if settlement_number(answer) == 0 { 1 } else { 0 }
 }
 
-// How many fixings were accepted up to the last.
-fn fix_often(book: Ledger, lines: &[u64]) -> u64 {
-    let mut accepted: u64 = 0;
+// How many of each were accepted up to the last.
+struct Accepted {
+    fixings: u64,
+    settlements: u64,
+}
+
+// Fixes on one ledger and settles on the other, time after time.
+fn run_often(book: Ledger, fixed: Ledger, lines: &[u64]) -> Accepted {
+    let mut fixings: u64 = 0;
+    let mut settlements: u64 = 0;
     let mut run: u64 = 0;
     while run < RUNS {
         if fix_once(book, lines) == 1 {
-            accepted = run + 1;
+            fixings = run + 1;
+        }
+        if settle_once(fixed) == 1 {
+            settlements = run + 1;
         }
         run += 1;
     }
-    accepted
-}
-
-// How many settlements were accepted up to the last.
-fn settle_often(book: Ledger) -> u64 {
-    let mut accepted: u64 = 0;
-    let mut run: u64 = 0;
-    while run < RUNS {
-        if settle_once(book) == 1 {
-            accepted = run + 1;
-        }
-        run += 1;
+    Accepted {
+        fixings,
+        settlements,
     }
-    accepted
 }
 
 fn main() {
     let opening = open(40);
     let book = opening.ledger;
     let lines = lines();
-    let fixings = fix_often(book, &lines);
+    let fixed = fixing(book, &lines).ledger;
+    let accepted = run_often(book, fixed, &lines);
     io::write_all(STDOUT_FILENO, b"fixings ");
-    io::print_decimal(STDOUT_FILENO, fixings);
-    let series = [10000u64; 240];
-    let sectors = [10000u64; 320];
-    let mut prices = [0i64; 120];
-    let outcome = fix(
-        book,
-        20,
-        100000,
-        10000,
-        0,
-        &series,
-        &lines,
-        &sectors,
-        &mut prices,
-    );
-    let fixed = outcome.ledger;
-    let settlements = settle_often(fixed);
+    io::print_decimal(STDOUT_FILENO, accepted.fixings);
     io::write_all(STDOUT_FILENO, b" settlements ");
-    io::print_decimal(STDOUT_FILENO, settlements);
+    io::print_decimal(STDOUT_FILENO, accepted.settlements);
     io::write_all(STDOUT_FILENO, b"\n");
 }

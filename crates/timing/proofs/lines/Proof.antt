@@ -16,26 +16,8 @@ abbrev μ-loop : tie.MeasureT-loop
 loop-holds : tie.Need-loop-holds Inv-loop μ-loop
 loop-holds c = (omega arith, refl)
 
-line-word-requires : tie.Need-line-word-requires Inv-loop μ-loop
-line-word-requires c κs = search needs
-
-mul-lines : tie.Need-mul-lines Inv-loop μ-loop
-mul-lines c = omega arith
-
-array-write-lines : tie.Need-array-write-lines Inv-loop μ-loop
-array-write-lines c = omega arith
-
-add-at : tie.Need-add-at Inv-loop μ-loop
-add-at c = omega arith
-
-loop-less : tie.Need-loop-less Inv-loop μ-loop
-loop-less c = omega arith
-
 loop-again : tie.Need-loop-again Inv-loop μ-loop
 loop-again c = (omega arith, simp length-set (c .before .before .loop .inv .1))
-
-returns : tie.Need-returns Inv-loop μ-loop
-returns c = omega arith
 
 pub lines-spec : {M : Type 1} → statement M
 lines-spec =
@@ -44,10 +26,6 @@ lines-spec =
     Inv-loop
     μ-loop
     loop-holds
-    line-word-requires
-    mul-lines
-    array-write-lines
-    add-at
-    loop-less
+    (λ c κs. search needs) (λ c. omega arith) (λ c. omega arith) (λ c. omega arith) (λ c. omega arith)
     loop-again
-    returns)
+    (λ c. omega arith))
