@@ -1,13 +1,13 @@
--- Laws of a list's reading: number by number, by its count, how far it reaches, and how long it is.
+-- Laws of a list's reading: number by number, by its count, how far it reaches, how long it is, and where its words stand.
 -- Assumes nothing.
-use mathlib.Core.Path.{_≡_, refl, _∙_, ap}
-use mathlib.Core.List.{List}
+use mathlib.Core.Path.{_≡_, refl, sym, _∙_, ap}
+use mathlib.Core.List.{List, _++_}
 use Prim.Native.Nat.{ℕ, zero, suc, _+_, _≤_}
 use native.Mathlib.Numerals.{add-one}
 use lib.ListN.{length}
 use lib.IntN.{ℤ}
 use Rattle.numbers.specs.Bounded.{listBelow}
-use Rattle.numbers.proofs.ListLaws.{list-length}
+use Rattle.numbers.proofs.ListLaws.{list-length, Front, front}
 use Rattle.journal.specs.Cursor.{wordAfter, numberAfter, signedAfter, Onward}
 use Rattle.journal.specs.List.{cursorAfter, numberAt, signedCursorAfter, signedAt, countAfter, listAfter, listWords, signedListAfter, signedListWords}
 use Rattle.journal.specs.declared.cursor.Cursor.{Cursor}
@@ -122,11 +122,6 @@ module _ (text : List ℕ) (cursor : Cursor) (p : cursor .at ≤ length text) (n
   pub signed-list-within : read ≡ signedListAfter text cursor name longest → read .next .at ≤ length text
   signed-list-within e = rw e (onward-signed-list text cursor p name longest .within)
 
--- number k of a list is not above the most
-pub number-at-most : (text : List ℕ) (cursor : Cursor) (most k : ℕ) → numberAt text cursor most k ≤ most
-unfolding numberAt
-number-at-most text cursor most k = number-most text (cursorAfter k text cursor most) most
-
 -- a list's count is not above the longest, and its words are as many as its count
 module _ (text : List ℕ) (cursor : Cursor) (name : List ℕ) (longest : ℕ) where
   pub list-most : (most : ℕ) → listAfter text cursor name longest most .count ≤ longest
@@ -137,10 +132,17 @@ module _ (text : List ℕ) (cursor : Cursor) (name : List ℕ) (longest : ℕ) w
   unfolding signedListAfter
   signed-list-most = count-most text cursor name longest
 
-  pub words-length : (most : ℕ) → length (listWords text cursor name longest most) ≡ listAfter text cursor name longest most .count
+  words-length : (most : ℕ) → length (listWords text cursor name longest most) ≡ listAfter text cursor name longest most .count
   unfolding listAfter listWords
   words-length most = list-length _ (countAfter text cursor name longest .value)
 
-  pub signed-words-length : length (signedListWords text cursor name longest) ≡ signedListAfter text cursor name longest .count
+  signed-words-length : length (signedListWords text cursor name longest) ≡ signedListAfter text cursor name longest .count
   unfolding signedListAfter signedListWords
   signed-words-length = list-length _ (countAfter text cursor name longest .value)
+
+  -- a list that was read into stands with its words first
+  pub words-first : (most count : ℕ) (rest list : List ℕ) → count ≡ listAfter text cursor name longest most .count → list ≡ listWords text cursor name longest most ++ rest → Front count (listWords text cursor name longest most) list
+  words-first most count rest list e h = front count _ rest list (words-length most ∙ sym e) h
+
+  pub signed-words-first : (count : ℕ) (rest list : List ℤ) → count ≡ signedListAfter text cursor name longest .count → list ≡ signedListWords text cursor name longest ++ rest → Front count (signedListWords text cursor name longest) list
+  signed-words-first count rest list e h = front count _ rest list (signed-words-length ∙ sym e) h
