@@ -9,16 +9,15 @@ use borrow.Author.Tests.{eq-eqb, ne-eqb}
 use Rattle.numbers.specs.Sizes.{mostDistributors, sectorPlaces}
 use Rattle.journal.specs.Token.{tokenStart, tokenEnd}
 use Rattle.journal.specs.Word.{isWord}
-use Rattle.journal.specs.Cursor.{readTo, brokenAt, numberAfter, mostWord, Onward}
-use Rattle.journal.specs.List.{countAfter, listAfter, signedListAfter}
+use Rattle.journal.specs.Cursor.{readTo, brokenAt, mostWord, Onward}
 use Rattle.journal.specs.Command.{longestList, openName, fixName, settleName, saveName, loadName, seriesName, linesName, sectorsName, pricesName, readingsName, lossesName, transfersName, presentName, chargesName, balancesName, commandIn, isUnknown, commandAfter, fixSeriesFrom, fixLinesFrom, fixSectorsFrom, fixPricesFrom, fixAfter, settleReadingsFrom, settleLossesFrom, settleTransfersFrom, settleAfter, loadFixedFrom, loadMonthFrom, loadPresentFrom, loadChargesFrom, loadBalancesFrom, loadAfter}
 use Rattle.journal.specs.declared.cursor.Cursor.{Cursor}
 use Rattle.journal.specs.declared.command.Command.{Command}
 use Rattle.journal.specs.declared.command.Command.the-variants.{Open, Fix, Settle, Save, Load, Unknown, End}
 use Rattle.journal.specs.declared.command.CommandRead.{CommandRead}
 use Rattle.journal.proofs.TokenLaws.{token-start-most, token-end-most}
-use Rattle.journal.proofs.CursorLaws.{onward-join, onward-number}
-use Rattle.journal.proofs.ListLaws.{count-most, onward-cursor, onward-count, onward-list, onward-signed-list, list-most, signed-list-most}
+use Rattle.journal.proofs.CursorLaws.{onward-same, then-number}
+use Rattle.journal.proofs.ListLaws.{count-most, then-count, then-numbers, then-list, then-signed-list, list-most, signed-list-most}
 
 -- a token's command, word by word
 module _ (text : List ℕ) (start end : ℕ) where
@@ -84,80 +83,34 @@ module _ (text : List ℕ) (at : ℕ) (p : at ≤ length text) where
       go true = token-start-most text at p
       go false = token-end-most text start (token-start-most text at p)
 
--- onward by one more thing read
-module _ (text : List ℕ) (cursor middle : Cursor) (o : Onward text cursor middle) where
-  then-number : (most : ℕ) → Onward text cursor (numberAfter text middle most .next)
-  then-number most = onward-join text cursor middle _ o (onward-number text middle (o .within) most)
-
-  then-count : (name : List ℕ) (longest : ℕ) → Onward text cursor (countAfter text middle name longest .next)
-  then-count name longest = onward-join text cursor middle _ o (onward-count text middle name longest (o .within))
-
-  then-list : (name : List ℕ) (longest most : ℕ) → Onward text cursor (listAfter text middle name longest most .next)
-  then-list name longest most = onward-join text cursor middle _ o (onward-list text middle (o .within) name longest most)
-
-  then-signed-list : (name : List ℕ) (longest : ℕ) → Onward text cursor (signedListAfter text middle name longest .next)
-  then-signed-list name longest = onward-join text cursor middle _ o (onward-signed-list text middle (o .within) name longest)
-
+-- a command's text reaches onward, part by part
 module _ (text : List ℕ) (cursor : Cursor) (p : cursor .at ≤ length text) where
-  to-series : Onward text cursor (fixSeriesFrom text cursor)
-  unfolding fixSeriesFrom
-  to-series = onward-cursor text cursor p 4 mostWord
-
-  to-lines : Onward text cursor (fixLinesFrom text cursor)
-  unfolding fixLinesFrom
-  to-lines = then-list text cursor _ to-series seriesName longestList mostWord
-
-  to-sectors : Onward text cursor (fixSectorsFrom text cursor)
-  unfolding fixSectorsFrom
-  to-sectors = then-list text cursor _ to-lines linesName longestList mostWord
-
-  to-prices : Onward text cursor (fixPricesFrom text cursor)
-  unfolding fixPricesFrom
-  to-prices = then-list text cursor _ to-sectors sectorsName longestList mostWord
-
   pub onward-fix : Onward text cursor (fixAfter text cursor .next)
-  unfolding fixAfter
-  onward-fix = then-count text cursor _ to-prices pricesName longestList
-
-  to-readings : Onward text cursor (settleReadingsFrom text cursor)
-  unfolding settleReadingsFrom
-  to-readings = onward-cursor text cursor p 1 mostWord
-
-  to-losses : Onward text cursor (settleLossesFrom text cursor)
-  unfolding settleLossesFrom
-  to-losses = then-list text cursor _ to-readings readingsName longestList mostWord
-
-  to-transfers : Onward text cursor (settleTransfersFrom text cursor)
-  unfolding settleTransfersFrom
-  to-transfers = then-list text cursor _ to-losses lossesName longestList mostWord
+  unfolding fixAfter fixPricesFrom fixSectorsFrom fixLinesFrom fixSeriesFrom
+  onward-fix =
+      let numbers = then-numbers (onward-same text cursor p) 4 mostWord in
+      let series = then-list numbers seriesName longestList mostWord in
+      let lines = then-list series linesName longestList mostWord in
+      let sectors = then-list lines sectorsName longestList mostWord in
+      then-count sectors pricesName longestList
 
   pub onward-settle : Onward text cursor (settleAfter text cursor .next)
-  unfolding settleAfter
-  onward-settle = then-count text cursor _ to-transfers transfersName longestList
-
-  to-fixed : Onward text cursor (loadFixedFrom text cursor)
-  unfolding loadFixedFrom
-  to-fixed = onward-cursor text cursor p 3 mostWord
-
-  to-month : Onward text cursor (loadMonthFrom text cursor)
-  unfolding loadMonthFrom
-  to-month = then-number text cursor _ to-fixed 1
-
-  to-present : Onward text cursor (loadPresentFrom text cursor)
-  unfolding loadPresentFrom
-  to-present = then-number text cursor _ to-month mostWord
-
-  to-charges : Onward text cursor (loadChargesFrom text cursor)
-  unfolding loadChargesFrom
-  to-charges = then-list text cursor _ to-present presentName sectorPlaces 1
-
-  to-balances : Onward text cursor (loadBalancesFrom text cursor)
-  unfolding loadBalancesFrom
-  to-balances = then-signed-list text cursor _ to-charges chargesName sectorPlaces
+  unfolding settleAfter settleTransfersFrom settleLossesFrom settleReadingsFrom
+  onward-settle =
+      let numbers = then-numbers (onward-same text cursor p) 1 mostWord in
+      let readings = then-list numbers readingsName longestList mostWord in
+      let losses = then-list readings lossesName longestList mostWord in
+      then-count losses transfersName longestList
 
   pub onward-load : Onward text cursor (loadAfter text cursor .next)
-  unfolding loadAfter
-  onward-load = then-signed-list text cursor _ to-balances balancesName mostDistributors
+  unfolding loadAfter loadBalancesFrom loadChargesFrom loadPresentFrom loadMonthFrom loadFixedFrom
+  onward-load =
+      let numbers = then-numbers (onward-same text cursor p) 3 mostWord in
+      let fixed = then-number numbers 1 in
+      let month = then-number fixed mostWord in
+      let present = then-list month presentName sectorPlaces 1 in
+      let charges = then-signed-list present chargesName sectorPlaces in
+      then-signed-list charges balancesName mostDistributors
 
 -- no list is longer than it may be
 module _ (text : List ℕ) (cursor : Cursor) where
