@@ -1,8 +1,8 @@
 -- Laws of the commands' text: a command by its word, how far a command reaches, and how long its lists are.
 -- Assumes nothing.
-use mathlib.Core.Path.{_≡_}
+use mathlib.Core.Path.{_≡_, sym}
 use mathlib.Core.Bool.{Bool, true, false, cond}
-use mathlib.Core.List.{List}
+use mathlib.Core.List.{List, [], _∷_}
 use Prim.Native.Nat.{ℕ, _≤_}
 use lib.ListN.{length}
 use borrow.Author.Tests.{eq-eqb, ne-eqb}
@@ -19,40 +19,41 @@ use Rattle.journal.proofs.TokenLaws.{token-start-most, token-end-most}
 use Rattle.journal.proofs.CursorLaws.{onward-same, then-number}
 use Rattle.journal.proofs.ListLaws.{count-most, then-count, then-numbers, then-list, then-signed-list, list-most, signed-list-most}
 
--- a token's command, word by word
+-- the commands by their words, in the order in which a token is tried
+abbrev pub commandWords : List (List ℕ × Command)
+commandWords = (openName, Open) ∷ (fixName, Fix) ∷ (settleName, Settle) ∷ (saveName, Save) ∷ (loadName, Load) ∷ []
+
+unfoldable pub commandAmong : List ℕ → ℕ → ℕ → List (List ℕ × Command) → Command
+commandAmong text start end [] = Unknown
+commandAmong text start end (word ∷ rest) = cond (isWord text start end (word .0)) (word .1) (commandAmong text start end rest)
+
+-- the token's command is by one of these words, or unknown
+pub record Among (text : List ℕ) (start end : ℕ) (words : List (List ℕ × Command)) : Type 0 where
+  pub by : commandIn text start end ≡ commandAmong text start end words
+
+-- the text ends, or the token is tried by the words
 module _ (text : List ℕ) (start end : ℕ) where
   pub command-end : start ≡ length text → End ≡ commandIn text start end
   unfolding commandIn
   command-end h = rw (eq-eqb start (length text) h)
 
-  module _ (some : start ≡ length text → ⊥) where
-    pub command-open : isWord text start end openName ≡ true → Open ≡ commandIn text start end
-    unfolding commandIn
-    command-open h = rw (ne-eqb start (length text) some, h)
+  pub among-all : (start ≡ length text → ⊥) → Among text start end commandWords
+  unfolding commandIn commandAmong
+  among-all h = record { by = rw (ne-eqb start (length text) h) }
 
-    module _ (a : isWord text start end openName ≡ false) where
-      pub command-fix : isWord text start end fixName ≡ true → Fix ≡ commandIn text start end
-      unfolding commandIn
-      command-fix h = rw (ne-eqb start (length text) some, a, h)
+-- it is the next word, or one of the rest, or none
+module _ {text : List ℕ} {start end : ℕ} {name : List ℕ} {command : Command} {rest : List (List ℕ × Command)} (a : Among text start end ((name, command) ∷ rest)) where
+  pub command-word : isWord text start end name ≡ true → command ≡ commandIn text start end
+  unfolding commandAmong
+  command-word h = rw (a .by, h)
 
-      module _ (b : isWord text start end fixName ≡ false) where
-        pub command-settle : isWord text start end settleName ≡ true → Settle ≡ commandIn text start end
-        unfolding commandIn
-        command-settle h = rw (ne-eqb start (length text) some, a, b, h)
+  pub among-rest : isWord text start end name ≡ false → Among text start end rest
+  unfolding commandAmong
+  among-rest h = record { by = rw (a .by, h) }
 
-        module _ (d : isWord text start end settleName ≡ false) where
-          pub command-save : isWord text start end saveName ≡ true → Save ≡ commandIn text start end
-          unfolding commandIn
-          command-save h = rw (ne-eqb start (length text) some, a, b, d, h)
-
-          module _ (e : isWord text start end saveName ≡ false) where
-            pub command-load : isWord text start end loadName ≡ true → Load ≡ commandIn text start end
-            unfolding commandIn
-            command-load h = rw (ne-eqb start (length text) some, a, b, d, e, h)
-
-            pub command-unknown : isWord text start end loadName ≡ false → Unknown ≡ commandIn text start end
-            unfolding commandIn
-            command-unknown h = rw (ne-eqb start (length text) some, a, b, d, e, h)
+pub command-unknown : {text : List ℕ} {start end : ℕ} → Among text start end [] → Unknown ≡ commandIn text start end
+unfolding commandAmong
+command-unknown a = sym (a .by)
 
 abbrev commandRead : Command → Cursor → CommandRead
 commandRead command next = record { command = command; next = next }
