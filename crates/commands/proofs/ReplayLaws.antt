@@ -2,7 +2,7 @@
 -- command the journal's ledger is reached. Assumes nothing.
 use mathlib.Core.Path.{_≡_, refl, sym, _∙_, ap}
 use mathlib.Core.Bool.{Bool, true, false, cond, false≢true}
-use mathlib.Core.List.{List, _++_}
+use mathlib.Core.List.{List}
 use Prim.Native.Nat.{ℕ, zero, suc, _+_, _-_, _^_, _<_, _≤_}
 use native.Mathlib.Omega.{arith}
 use native.Mathlib.Decide.{decLt}
@@ -25,7 +25,6 @@ use Rattle.journal.specs.declared.command.SettleRead.{SettleRead}
 use Rattle.journal.specs.declared.command.LoadRead.{LoadRead}
 use Rattle.journal.proofs.TokenLaws.{token-start-least, token-start-most, token-end-least, token-some}
 use Rattle.journal.proofs.CursorLaws.{onward-same, onward-number}
-use Rattle.journal.proofs.ListLaws.{words-length, signed-words-length}
 use Rattle.journal.proofs.CommandLaws.{command-within, onward-fix, onward-settle, onward-load, fix-prices-most, settle-transfers-most}
 use Rattle.numbers.specs.Units.{between}
 use Rattle.ledger.specs.Ledger.{emptyLedger, openingOf}
@@ -33,7 +32,6 @@ use Rattle.ledger.specs.Fix.{callOf as fixingCallOf}
 use Rattle.ledger.specs.Settle.{callOf as settlementCallOf}
 use Rattle.ledger.specs.declared.book.Ledger.{Ledger}
 use Rattle.store.specs.Store.{loadedLedger}
-use Rattle.numbers.proofs.ListLaws.{Front, front}
 use Rattle.commands.specs.Replay.{unwritten, fixingCall, settlementCall, keptLedger, commandNext, commandLedger, stepOf, stepAfter, readWith, replayFrom, longestText, replayed}
 use Rattle.commands.specs.declared.run.Step.{Step}
 
@@ -80,106 +78,53 @@ module _ (text : List ℕ) (at : ℕ) (book : Ledger) (read : CommandRead) (e : 
   pub read-within : at ≤ length text → read .next .at ≤ length text
   read-within p = rw e (command-within text at p)
 
--- the words of a fixing stand first in the buffers, and make its call
-module _ (text : List ℕ) (cursor : Cursor) (read : FixRead) (e : read ≡ fixAfter text cursor) where
-  abbrev seriesWords : List ℕ
+-- the words of a command's lists
+module _ (text : List ℕ) (cursor : Cursor) where
+  abbrev pub seriesWords : List ℕ
   seriesWords = listWords text (fixSeriesFrom text cursor) seriesName longestList mostWord
 
-  abbrev lineWords : List ℕ
+  abbrev pub lineWords : List ℕ
   lineWords = listWords text (fixLinesFrom text cursor) linesName longestList mostWord
 
-  abbrev sectorWords : List ℕ
+  abbrev pub sectorWords : List ℕ
   sectorWords = listWords text (fixSectorsFrom text cursor) sectorsName longestList mostWord
 
-  pub series-first : (rest list : List ℕ) → list ≡ seriesWords ++ rest → Front (read .series) seriesWords list
-  unfolding fixAfter
-  series-first rest list h =
-      front (read .series) seriesWords rest list
-      (words-length text (fixSeriesFrom text cursor) seriesName longestList mostWord ∙ sym (ap (λ (r : FixRead). r .series) e)) h
+  abbrev pub readingWords : List ℕ
+  readingWords = listWords text (settleReadingsFrom text cursor) readingsName longestList mostWord
 
-  pub lines-first : (rest list : List ℕ) → list ≡ lineWords ++ rest → Front (read .lines) lineWords list
-  unfolding fixAfter
-  lines-first rest list h =
-      front (read .lines) lineWords rest list
-      (words-length text (fixLinesFrom text cursor) linesName longestList mostWord ∙ sym (ap (λ (r : FixRead). r .lines) e)) h
+  abbrev pub lossWords : List ℕ
+  lossWords = listWords text (settleLossesFrom text cursor) lossesName longestList mostWord
 
-  pub sectors-first : (rest list : List ℕ) → list ≡ sectorWords ++ rest → Front (read .sectors) sectorWords list
-  unfolding fixAfter
-  sectors-first rest list h =
-      front (read .sectors) sectorWords rest list
-      (words-length text (fixSectorsFrom text cursor) sectorsName longestList mostWord ∙ sym (ap (λ (r : FixRead). r .sectors) e)) h
+  abbrev pub presentWords : List ℕ
+  presentWords = listWords text (loadPresentFrom text cursor) presentName sectorPlaces 1
 
+  abbrev pub chargeWords : List ℤ
+  chargeWords = signedListWords text (loadChargesFrom text cursor) chargesName sectorPlaces
+
+  abbrev pub balanceWords : List ℤ
+  balanceWords = signedListWords text (loadBalancesFrom text cursor) balancesName mostDistributors
+
+-- what was read makes the call of the text
+module _ (text : List ℕ) (cursor : Cursor) (read : FixRead) (e : read ≡ fixAfter text cursor) where
   pub prices-most : read .prices ≤ longestList
   prices-most = rw e (fix-prices-most text cursor)
 
-  pub fixing-made : (series lines sectors : List ℕ) (k : ℕ) → series ≡ seriesWords → lines ≡ lineWords → sectors ≡ sectorWords → k ≡ read .prices → fixingCallOf (read .month) (read .dollar) (read .factor) (read .first) series lines sectors (unwritten k) ≡ fixingCall text cursor
+  pub fixing-made : (series lines sectors : List ℕ) (k : ℕ) → series ≡ seriesWords text cursor → lines ≡ lineWords text cursor → sectors ≡ sectorWords text cursor → k ≡ read .prices → fixingCallOf (read .month) (read .dollar) (read .factor) (read .first) series lines sectors (unwritten k) ≡ fixingCall text cursor
   unfolding fixingCall
-  fixing-made series lines sectors k p q r h =
-      rw (p, q, r, h)
-      (ap (λ (w : FixRead). fixingCallOf (w .month) (w .dollar) (w .factor) (w .first) seriesWords lineWords sectorWords (unwritten (w .prices))) e)
+  fixing-made series lines sectors k p q r h = rw (p, q, r, h, e)
 
--- the same of a settlement
 module _ (text : List ℕ) (cursor : Cursor) (read : SettleRead) (e : read ≡ settleAfter text cursor) where
-  abbrev readingWords : List ℕ
-  readingWords = listWords text (settleReadingsFrom text cursor) readingsName longestList mostWord
-
-  abbrev lossWords : List ℕ
-  lossWords = listWords text (settleLossesFrom text cursor) lossesName longestList mostWord
-
-  pub readings-first : (rest list : List ℕ) → list ≡ readingWords ++ rest → Front (read .readings) readingWords list
-  unfolding settleAfter
-  readings-first rest list h =
-      front (read .readings) readingWords rest list
-      (words-length text (settleReadingsFrom text cursor) readingsName longestList mostWord ∙ sym (ap (λ (r : SettleRead). r .readings) e)) h
-
-  pub losses-first : (rest list : List ℕ) → list ≡ lossWords ++ rest → Front (read .losses) lossWords list
-  unfolding settleAfter
-  losses-first rest list h =
-      front (read .losses) lossWords rest list
-      (words-length text (settleLossesFrom text cursor) lossesName longestList mostWord ∙ sym (ap (λ (r : SettleRead). r .losses) e)) h
-
   pub transfers-most : read .transfers ≤ longestList
   transfers-most = rw e (settle-transfers-most text cursor)
 
-  pub settlement-made : (readings losses : List ℕ) (k : ℕ) → readings ≡ readingWords → losses ≡ lossWords → k ≡ read .transfers → settlementCallOf (read .month) readings losses (unwritten k) ≡ settlementCall text cursor
+  pub settlement-made : (readings losses : List ℕ) (k : ℕ) → readings ≡ readingWords text cursor → losses ≡ lossWords text cursor → k ≡ read .transfers → settlementCallOf (read .month) readings losses (unwritten k) ≡ settlementCall text cursor
   unfolding settlementCall
-  settlement-made readings losses k p q h =
-      rw (p, q, h) (ap (λ (w : SettleRead). settlementCallOf (w .month) readingWords lossWords (unwritten (w .transfers))) e)
+  settlement-made readings losses k p q h = rw (p, q, h, e)
 
--- and of a kept ledger
 module _ (text : List ℕ) (cursor : Cursor) (read : LoadRead) (e : read ≡ loadAfter text cursor) where
-  abbrev presentWords : List ℕ
-  presentWords = listWords text (loadPresentFrom text cursor) presentName sectorPlaces 1
-
-  abbrev chargeWords : List ℤ
-  chargeWords = signedListWords text (loadChargesFrom text cursor) chargesName sectorPlaces
-
-  abbrev balanceWords : List ℤ
-  balanceWords = signedListWords text (loadBalancesFrom text cursor) balancesName mostDistributors
-
-  pub present-first : (rest list : List ℕ) → list ≡ presentWords ++ rest → Front (read .present) presentWords list
-  unfolding loadAfter
-  present-first rest list h =
-      front (read .present) presentWords rest list
-      (words-length text (loadPresentFrom text cursor) presentName sectorPlaces 1 ∙ sym (ap (λ (r : LoadRead). r .present) e)) h
-
-  pub charges-first : (rest list : List ℤ) → list ≡ chargeWords ++ rest → Front (read .charges) chargeWords list
-  unfolding loadAfter
-  charges-first rest list h =
-      front (read .charges) chargeWords rest list
-      (signed-words-length text (loadChargesFrom text cursor) chargesName sectorPlaces ∙ sym (ap (λ (r : LoadRead). r .charges) e)) h
-
-  pub balances-first : (rest list : List ℤ) → list ≡ balanceWords ++ rest → Front (read .balances) balanceWords list
-  unfolding loadAfter
-  balances-first rest list h =
-      front (read .balances) balanceWords rest list
-      (signed-words-length text (loadBalancesFrom text cursor) balancesName mostDistributors ∙ sym (ap (λ (r : LoadRead). r .balances) e)) h
-
-  pub ledger-kept : (present : List ℕ) (charges balances : List ℤ) → present ≡ presentWords → charges ≡ chargeWords → balances ≡ balanceWords → loadedLedger (read .n) (read .months) (read .last) (read .fixed) (read .month) present charges balances ≡ keptLedger text cursor
+  pub ledger-kept : (present : List ℕ) (charges balances : List ℤ) → present ≡ presentWords text cursor → charges ≡ chargeWords text cursor → balances ≡ balanceWords text cursor → loadedLedger (read .n) (read .months) (read .last) (read .fixed) (read .month) present charges balances ≡ keptLedger text cursor
   unfolding keptLedger
-  ledger-kept present charges balances p q r =
-      rw (p, q, r)
-      (ap (λ (w : LoadRead). loadedLedger (w .n) (w .months) (w .last) (w .fixed) (w .month) presentWords chargeWords balanceWords) e)
+  ledger-kept present charges balances p q r = rw (p, q, r, e)
 
 -- every command reads on
 pub command-onward : (command : Command) (text : List ℕ) (cursor : Cursor) → cursor .at ≤ length text → Onward text cursor (commandNext command text cursor)

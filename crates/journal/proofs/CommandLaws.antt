@@ -1,59 +1,59 @@
 -- Laws of the commands' text: a command by its word, how far a command reaches, and how long its lists are.
 -- Assumes nothing.
-use mathlib.Core.Path.{_≡_}
+use mathlib.Core.Path.{_≡_, sym}
 use mathlib.Core.Bool.{Bool, true, false, cond}
-use mathlib.Core.List.{List}
+use mathlib.Core.List.{List, [], _∷_}
 use Prim.Native.Nat.{ℕ, _≤_}
 use lib.ListN.{length}
 use borrow.Author.Tests.{eq-eqb, ne-eqb}
 use Rattle.numbers.specs.Sizes.{mostDistributors, sectorPlaces}
 use Rattle.journal.specs.Token.{tokenStart, tokenEnd}
 use Rattle.journal.specs.Word.{isWord}
-use Rattle.journal.specs.Cursor.{readTo, brokenAt, numberAfter, mostWord, Onward}
-use Rattle.journal.specs.List.{countAfter, listAfter, signedListAfter}
+use Rattle.journal.specs.Cursor.{readTo, brokenAt, mostWord, Onward}
 use Rattle.journal.specs.Command.{longestList, openName, fixName, settleName, saveName, loadName, seriesName, linesName, sectorsName, pricesName, readingsName, lossesName, transfersName, presentName, chargesName, balancesName, commandIn, isUnknown, commandAfter, fixSeriesFrom, fixLinesFrom, fixSectorsFrom, fixPricesFrom, fixAfter, settleReadingsFrom, settleLossesFrom, settleTransfersFrom, settleAfter, loadFixedFrom, loadMonthFrom, loadPresentFrom, loadChargesFrom, loadBalancesFrom, loadAfter}
 use Rattle.journal.specs.declared.cursor.Cursor.{Cursor}
 use Rattle.journal.specs.declared.command.Command.{Command}
 use Rattle.journal.specs.declared.command.Command.the-variants.{Open, Fix, Settle, Save, Load, Unknown, End}
 use Rattle.journal.specs.declared.command.CommandRead.{CommandRead}
 use Rattle.journal.proofs.TokenLaws.{token-start-most, token-end-most}
-use Rattle.journal.proofs.CursorLaws.{onward-join, onward-number}
-use Rattle.journal.proofs.ListLaws.{count-most, onward-cursor, onward-count, onward-list, onward-signed-list, list-most, signed-list-most}
+use Rattle.journal.proofs.CursorLaws.{onward-same, then-number}
+use Rattle.journal.proofs.ListLaws.{count-most, then-count, then-numbers, then-list, then-signed-list, list-most, signed-list-most}
 
--- a token's command, word by word
+-- the commands by their words, in the order in which a token is tried
+abbrev pub commandWords : List (List ℕ × Command)
+commandWords = (openName, Open) ∷ (fixName, Fix) ∷ (settleName, Settle) ∷ (saveName, Save) ∷ (loadName, Load) ∷ []
+
+unfoldable pub commandAmong : List ℕ → ℕ → ℕ → List (List ℕ × Command) → Command
+commandAmong text start end [] = Unknown
+commandAmong text start end (word ∷ rest) = cond (isWord text start end (word .0)) (word .1) (commandAmong text start end rest)
+
+-- the token's command is by one of these words, or unknown
+pub record Among (text : List ℕ) (start end : ℕ) (words : List (List ℕ × Command)) : Type 0 where
+  pub by : commandIn text start end ≡ commandAmong text start end words
+
+-- the text ends, or the token is tried by the words
 module _ (text : List ℕ) (start end : ℕ) where
   pub command-end : start ≡ length text → End ≡ commandIn text start end
   unfolding commandIn
   command-end h = rw (eq-eqb start (length text) h)
 
-  module _ (some : start ≡ length text → ⊥) where
-    pub command-open : isWord text start end openName ≡ true → Open ≡ commandIn text start end
-    unfolding commandIn
-    command-open h = rw (ne-eqb start (length text) some, h)
+  pub among-all : (start ≡ length text → ⊥) → Among text start end commandWords
+  unfolding commandIn commandAmong
+  among-all h = record { by = rw (ne-eqb start (length text) h) }
 
-    module _ (a : isWord text start end openName ≡ false) where
-      pub command-fix : isWord text start end fixName ≡ true → Fix ≡ commandIn text start end
-      unfolding commandIn
-      command-fix h = rw (ne-eqb start (length text) some, a, h)
+-- it is the next word, or one of the rest, or none
+module _ {text : List ℕ} {start end : ℕ} {name : List ℕ} {command : Command} {rest : List (List ℕ × Command)} (a : Among text start end ((name, command) ∷ rest)) where
+  pub command-word : isWord text start end name ≡ true → command ≡ commandIn text start end
+  unfolding commandAmong
+  command-word h = rw (a .by, h)
 
-      module _ (b : isWord text start end fixName ≡ false) where
-        pub command-settle : isWord text start end settleName ≡ true → Settle ≡ commandIn text start end
-        unfolding commandIn
-        command-settle h = rw (ne-eqb start (length text) some, a, b, h)
+  pub among-rest : isWord text start end name ≡ false → Among text start end rest
+  unfolding commandAmong
+  among-rest h = record { by = rw (a .by, h) }
 
-        module _ (d : isWord text start end settleName ≡ false) where
-          pub command-save : isWord text start end saveName ≡ true → Save ≡ commandIn text start end
-          unfolding commandIn
-          command-save h = rw (ne-eqb start (length text) some, a, b, d, h)
-
-          module _ (e : isWord text start end saveName ≡ false) where
-            pub command-load : isWord text start end loadName ≡ true → Load ≡ commandIn text start end
-            unfolding commandIn
-            command-load h = rw (ne-eqb start (length text) some, a, b, d, e, h)
-
-            pub command-unknown : isWord text start end loadName ≡ false → Unknown ≡ commandIn text start end
-            unfolding commandIn
-            command-unknown h = rw (ne-eqb start (length text) some, a, b, d, e, h)
+pub command-unknown : {text : List ℕ} {start end : ℕ} → Among text start end [] → Unknown ≡ commandIn text start end
+unfolding commandAmong
+command-unknown a = sym (a .by)
 
 abbrev commandRead : Command → Cursor → CommandRead
 commandRead command next = record { command = command; next = next }
@@ -84,80 +84,34 @@ module _ (text : List ℕ) (at : ℕ) (p : at ≤ length text) where
       go true = token-start-most text at p
       go false = token-end-most text start (token-start-most text at p)
 
--- onward by one more thing read
-module _ (text : List ℕ) (cursor middle : Cursor) (o : Onward text cursor middle) where
-  then-number : (most : ℕ) → Onward text cursor (numberAfter text middle most .next)
-  then-number most = onward-join text cursor middle _ o (onward-number text middle (o .within) most)
-
-  then-count : (name : List ℕ) (longest : ℕ) → Onward text cursor (countAfter text middle name longest .next)
-  then-count name longest = onward-join text cursor middle _ o (onward-count text middle name longest (o .within))
-
-  then-list : (name : List ℕ) (longest most : ℕ) → Onward text cursor (listAfter text middle name longest most .next)
-  then-list name longest most = onward-join text cursor middle _ o (onward-list text middle (o .within) name longest most)
-
-  then-signed-list : (name : List ℕ) (longest : ℕ) → Onward text cursor (signedListAfter text middle name longest .next)
-  then-signed-list name longest = onward-join text cursor middle _ o (onward-signed-list text middle (o .within) name longest)
-
+-- a command's text reaches onward, part by part
 module _ (text : List ℕ) (cursor : Cursor) (p : cursor .at ≤ length text) where
-  to-series : Onward text cursor (fixSeriesFrom text cursor)
-  unfolding fixSeriesFrom
-  to-series = onward-cursor text cursor p 4 mostWord
-
-  to-lines : Onward text cursor (fixLinesFrom text cursor)
-  unfolding fixLinesFrom
-  to-lines = then-list text cursor _ to-series seriesName longestList mostWord
-
-  to-sectors : Onward text cursor (fixSectorsFrom text cursor)
-  unfolding fixSectorsFrom
-  to-sectors = then-list text cursor _ to-lines linesName longestList mostWord
-
-  to-prices : Onward text cursor (fixPricesFrom text cursor)
-  unfolding fixPricesFrom
-  to-prices = then-list text cursor _ to-sectors sectorsName longestList mostWord
-
   pub onward-fix : Onward text cursor (fixAfter text cursor .next)
-  unfolding fixAfter
-  onward-fix = then-count text cursor _ to-prices pricesName longestList
-
-  to-readings : Onward text cursor (settleReadingsFrom text cursor)
-  unfolding settleReadingsFrom
-  to-readings = onward-cursor text cursor p 1 mostWord
-
-  to-losses : Onward text cursor (settleLossesFrom text cursor)
-  unfolding settleLossesFrom
-  to-losses = then-list text cursor _ to-readings readingsName longestList mostWord
-
-  to-transfers : Onward text cursor (settleTransfersFrom text cursor)
-  unfolding settleTransfersFrom
-  to-transfers = then-list text cursor _ to-losses lossesName longestList mostWord
+  unfolding fixAfter fixPricesFrom fixSectorsFrom fixLinesFrom fixSeriesFrom
+  onward-fix =
+      let numbers = then-numbers (onward-same text cursor p) 4 mostWord in
+      let series = then-list numbers seriesName longestList mostWord in
+      let lines = then-list series linesName longestList mostWord in
+      let sectors = then-list lines sectorsName longestList mostWord in
+      then-count sectors pricesName longestList
 
   pub onward-settle : Onward text cursor (settleAfter text cursor .next)
-  unfolding settleAfter
-  onward-settle = then-count text cursor _ to-transfers transfersName longestList
-
-  to-fixed : Onward text cursor (loadFixedFrom text cursor)
-  unfolding loadFixedFrom
-  to-fixed = onward-cursor text cursor p 3 mostWord
-
-  to-month : Onward text cursor (loadMonthFrom text cursor)
-  unfolding loadMonthFrom
-  to-month = then-number text cursor _ to-fixed 1
-
-  to-present : Onward text cursor (loadPresentFrom text cursor)
-  unfolding loadPresentFrom
-  to-present = then-number text cursor _ to-month mostWord
-
-  to-charges : Onward text cursor (loadChargesFrom text cursor)
-  unfolding loadChargesFrom
-  to-charges = then-list text cursor _ to-present presentName sectorPlaces 1
-
-  to-balances : Onward text cursor (loadBalancesFrom text cursor)
-  unfolding loadBalancesFrom
-  to-balances = then-signed-list text cursor _ to-charges chargesName sectorPlaces
+  unfolding settleAfter settleTransfersFrom settleLossesFrom settleReadingsFrom
+  onward-settle =
+      let numbers = then-numbers (onward-same text cursor p) 1 mostWord in
+      let readings = then-list numbers readingsName longestList mostWord in
+      let losses = then-list readings lossesName longestList mostWord in
+      then-count losses transfersName longestList
 
   pub onward-load : Onward text cursor (loadAfter text cursor .next)
-  unfolding loadAfter
-  onward-load = then-signed-list text cursor _ to-balances balancesName mostDistributors
+  unfolding loadAfter loadBalancesFrom loadChargesFrom loadPresentFrom loadMonthFrom loadFixedFrom
+  onward-load =
+      let numbers = then-numbers (onward-same text cursor p) 3 mostWord in
+      let fixed = then-number numbers 1 in
+      let month = then-number fixed mostWord in
+      let present = then-list month presentName sectorPlaces 1 in
+      let charges = then-signed-list present chargesName sectorPlaces in
+      then-signed-list charges balancesName mostDistributors
 
 -- no list is longer than it may be
 module _ (text : List ℕ) (cursor : Cursor) where

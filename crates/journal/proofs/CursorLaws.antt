@@ -82,7 +82,7 @@ module _ (text : List ℕ) (cursor : Cursor) (h : cursor .broken ≡ false) (sta
 pub onward-same : (text : List ℕ) (cursor : Cursor) → cursor .at ≤ length text → Onward text cursor cursor
 onward-same text cursor p = record { within = p; later = λ h. omega arith; whole = λ h. h }
 
-pub onward-join : (text : List ℕ) (a b c : Cursor) → Onward text a b → Onward text b c → Onward text a c
+onward-join : (text : List ℕ) (a b c : Cursor) → Onward text a b → Onward text b c → Onward text a c
 onward-join text a b c p q = record {
   within = q .within;
   later = λ h. omega (arith, p .later (q .whole h), q .later h);
@@ -118,7 +118,7 @@ module _ (text : List ℕ) (cursor : Cursor) (p : cursor .at ≤ length text) wh
       go true e = onward-same text cursor p
       go false e = h e
 
-  pub onward-word : (word : List ℕ) → Onward text cursor (wordAfter text cursor word)
+  onward-word : (word : List ℕ) → Onward text cursor (wordAfter text cursor word)
   unfolding wordAfter
   onward-word word = onward-if (cond (isWord text start end word) (readTo end) (brokenAt start)) (λ h. go h (isWord text start end word))
     where
@@ -139,7 +139,7 @@ module _ (text : List ℕ) (cursor : Cursor) (p : cursor .at ≤ length text) wh
       go false h (Number value) = within h value (leb value most)
       go false h Unreadable = onward-broken
 
-  pub onward-signed : Onward text cursor (signedAfter text cursor .next)
+  onward-signed : Onward text cursor (signedAfter text cursor .next)
   unfolding signedAfter
   onward-signed = go (cursor .broken) refl (signedIn text start end)
     where
@@ -147,6 +147,17 @@ module _ (text : List ℕ) (cursor : Cursor) (p : cursor .at ≤ length text) wh
       go true h reading = onward-same text cursor p
       go false h (Signed value) = onward-read h
       go false h NotSigned = onward-broken
+
+-- onward by one more word or number
+module _ {text : List ℕ} {cursor middle : Cursor} (o : Onward text cursor middle) where
+  pub then-word : (word : List ℕ) → Onward text cursor (wordAfter text middle word)
+  then-word word = onward-join text cursor middle _ o (onward-word text middle (o .within) word)
+
+  pub then-number : (most : ℕ) → Onward text cursor (numberAfter text middle most .next)
+  then-number most = onward-join text cursor middle _ o (onward-number text middle (o .within) most)
+
+  pub then-signed : Onward text cursor (signedAfter text middle .next)
+  then-signed = onward-join text cursor middle _ o (onward-signed text middle (o .within))
 
 -- a cursor that the code read lies within the text
 module _ (text : List ℕ) (cursor : Cursor) (p : cursor .at ≤ length text) where

@@ -1,20 +1,20 @@
--- Laws of a list's reading: number by number, by its count, how far it reaches, and how long it is.
+-- Laws of a list's reading: number by number, by its count, how far it reaches, how long it is, and where its words stand.
 -- Assumes nothing.
-use mathlib.Core.Path.{_≡_, refl, _∙_, ap}
-use mathlib.Core.List.{List}
+use mathlib.Core.Path.{_≡_, refl, sym, _∙_, ap}
+use mathlib.Core.List.{List, _++_}
 use Prim.Native.Nat.{ℕ, zero, suc, _+_, _≤_}
 use native.Mathlib.Numerals.{add-one}
 use lib.ListN.{length}
 use lib.IntN.{ℤ}
 use Rattle.numbers.specs.Bounded.{listBelow}
-use Rattle.numbers.proofs.ListLaws.{list-length}
+use Rattle.numbers.proofs.ListLaws.{list-length, Front, front}
 use Rattle.journal.specs.Cursor.{wordAfter, numberAfter, signedAfter, Onward}
 use Rattle.journal.specs.List.{cursorAfter, numberAt, signedCursorAfter, signedAt, countAfter, listAfter, listWords, signedListAfter, signedListWords}
 use Rattle.journal.specs.declared.cursor.Cursor.{Cursor}
 use Rattle.journal.specs.declared.cursor.NumberRead.{NumberRead}
 use Rattle.journal.specs.declared.cursor.SignedRead.{SignedRead}
 use Rattle.journal.specs.declared.list.ListRead.{ListRead}
-use Rattle.journal.proofs.CursorLaws.{onward-same, onward-join, onward-word, onward-number, onward-signed, number-most}
+use Rattle.journal.proofs.CursorLaws.{onward-same, then-word, then-number, then-signed, number-most}
 
 abbrev listRead : ℕ → Cursor → ListRead
 listRead count next = record { count = count; next = next }
@@ -58,13 +58,6 @@ module _ (text : List ℕ) (cursor : Cursor) (name : List ℕ) (longest : ℕ) w
   unfolding countAfter
   count-most = number-most text (wordAfter text cursor name) longest
 
-  pub onward-count : cursor .at ≤ length text → Onward text cursor (countAfter text cursor name longest .next)
-  unfolding countAfter
-  onward-count p =
-      onward-join text cursor (wordAfter text cursor name) _
-      (onward-word text cursor p name)
-      (onward-number text (wordAfter text cursor name) (onward-word text cursor p name .within) longest)
-
   -- a list is as many numbers as its count
   module _ (counted : NumberRead) (e : counted ≡ countAfter text cursor name longest) (k : ℕ) (same : k ≡ counted .value) where
     pub list-read : (most : ℕ) (next : Cursor) → next ≡ cursorAfter k text (counted .next) most → listRead (counted .value) next ≡ listAfter text cursor name longest most
@@ -83,49 +76,38 @@ module _ (text : List ℕ) (cursor : Cursor) (name : List ℕ) (longest : ℕ) w
     unfolding signedListWords
     signed-words-read words q = rw (← e, q, same)
 
--- what is read lies onward in the text
-module _ (text : List ℕ) (cursor : Cursor) (p : cursor .at ≤ length text) where
-  pub onward-cursor : (k most : ℕ) → Onward text cursor (cursorAfter k text cursor most)
+-- onward by a list's name and count, by so many numbers, and by a list
+module _ {text : List ℕ} {cursor middle : Cursor} (o : Onward text cursor middle) where
+  pub then-count : (name : List ℕ) (longest : ℕ) → Onward text cursor (countAfter text middle name longest .next)
+  unfolding countAfter
+  then-count name longest = then-number (then-word o name) longest
+
+  pub then-numbers : (k most : ℕ) → Onward text cursor (cursorAfter k text middle most)
   unfolding cursorAfter
-  onward-cursor zero most = onward-same text cursor p
-  onward-cursor (suc k) most =
-      let before = onward-cursor k most in
-      onward-join text cursor (cursorAfter k text cursor most) _ before (onward-number text (cursorAfter k text cursor most) (before .within) most)
+  then-numbers zero most = o
+  then-numbers (suc k) most = then-number (then-numbers k most) most
 
-  pub onward-signed-cursor : (k : ℕ) → Onward text cursor (signedCursorAfter k text cursor)
+  then-signed-numbers : (k : ℕ) → Onward text cursor (signedCursorAfter k text middle)
   unfolding signedCursorAfter
-  onward-signed-cursor zero = onward-same text cursor p
-  onward-signed-cursor (suc k) =
-      let before = onward-signed-cursor k in
-      onward-join text cursor (signedCursorAfter k text cursor) _ before (onward-signed text (signedCursorAfter k text cursor) (before .within))
+  then-signed-numbers zero = o
+  then-signed-numbers (suc k) = then-signed (then-signed-numbers k)
 
-module _ (text : List ℕ) (cursor : Cursor) (p : cursor .at ≤ length text) (name : List ℕ) (longest : ℕ) where
-  pub onward-list : (most : ℕ) → Onward text cursor (listAfter text cursor name longest most .next)
+module _ {text : List ℕ} {cursor middle : Cursor} (o : Onward text cursor middle) (name : List ℕ) (longest : ℕ) where
+  pub then-list : (most : ℕ) → Onward text cursor (listAfter text middle name longest most .next)
   unfolding listAfter
-  onward-list most =
-      let count = countAfter text cursor name longest in
-      let before = onward-count text cursor name longest p in
-      onward-join text cursor (count .next) _ before (onward-cursor text (count .next) (before .within) (count .value) most)
+  then-list most = then-numbers (then-count o name longest) _ most
 
-  pub onward-signed-list : Onward text cursor (signedListAfter text cursor name longest .next)
+  pub then-signed-list : Onward text cursor (signedListAfter text middle name longest .next)
   unfolding signedListAfter
-  onward-signed-list =
-      let count = countAfter text cursor name longest in
-      let before = onward-count text cursor name longest p in
-      onward-join text cursor (count .next) _ before (onward-signed-cursor text (count .next) (before .within) (count .value))
+  then-signed-list = then-signed-numbers (then-count o name longest) _
 
 -- a cursor that the code read a list to lies within the text
 module _ (text : List ℕ) (cursor : Cursor) (p : cursor .at ≤ length text) (name : List ℕ) (longest : ℕ) (read : ListRead) where
   pub list-within : (most : ℕ) → read ≡ listAfter text cursor name longest most → read .next .at ≤ length text
-  list-within most e = rw e (onward-list text cursor p name longest most .within)
+  list-within most e = rw e (then-list (onward-same text cursor p) name longest most .within)
 
   pub signed-list-within : read ≡ signedListAfter text cursor name longest → read .next .at ≤ length text
-  signed-list-within e = rw e (onward-signed-list text cursor p name longest .within)
-
--- number k of a list is not above the most
-pub number-at-most : (text : List ℕ) (cursor : Cursor) (most k : ℕ) → numberAt text cursor most k ≤ most
-unfolding numberAt
-number-at-most text cursor most k = number-most text (cursorAfter k text cursor most) most
+  signed-list-within e = rw e (then-signed-list (onward-same text cursor p) name longest .within)
 
 -- a list's count is not above the longest, and its words are as many as its count
 module _ (text : List ℕ) (cursor : Cursor) (name : List ℕ) (longest : ℕ) where
@@ -137,10 +119,17 @@ module _ (text : List ℕ) (cursor : Cursor) (name : List ℕ) (longest : ℕ) w
   unfolding signedListAfter
   signed-list-most = count-most text cursor name longest
 
-  pub words-length : (most : ℕ) → length (listWords text cursor name longest most) ≡ listAfter text cursor name longest most .count
+  words-length : (most : ℕ) → length (listWords text cursor name longest most) ≡ listAfter text cursor name longest most .count
   unfolding listAfter listWords
   words-length most = list-length _ (countAfter text cursor name longest .value)
 
-  pub signed-words-length : length (signedListWords text cursor name longest) ≡ signedListAfter text cursor name longest .count
+  signed-words-length : length (signedListWords text cursor name longest) ≡ signedListAfter text cursor name longest .count
   unfolding signedListAfter signedListWords
   signed-words-length = list-length _ (countAfter text cursor name longest .value)
+
+  -- a list that was read into stands with its words first
+  pub words-first : (most count : ℕ) (rest list : List ℕ) → count ≡ listAfter text cursor name longest most .count → list ≡ listWords text cursor name longest most ++ rest → Front count (listWords text cursor name longest most) list
+  words-first most count rest list e h = front count _ rest list (words-length most ∙ sym e) h
+
+  pub signed-words-first : (count : ℕ) (rest list : List ℤ) → count ≡ signedListAfter text cursor name longest .count → list ≡ signedListWords text cursor name longest ++ rest → Front count (signedListWords text cursor name longest) list
+  signed-words-first count rest list e h = front count _ rest list (signed-words-length ∙ sym e) h

@@ -4,15 +4,14 @@ use Prim.Native.Nat.{_≤_}
 use native.Mathlib.Omega.{arith}
 use lib.ListN.{length, take}
 use lib.Seq.{length-take-le}
-use Rattle.journal.specs.Cursor.{mostWord}
-use Rattle.journal.specs.List.{listWords}
-use Rattle.journal.specs.Command.{longestList, seriesName, linesName, sectorsName, fixSeriesFrom, fixLinesFrom, fixSectorsFrom}
+use Rattle.journal.specs.Command.{fixAfter}
 use Rattle.journal.specs.declared.command.Command.the-variants.{Fix}
 use Rattle.journal.specs.declared.command.FixRead.{FixRead}
 use Rattle.ledger.specs.Fix.{fixingLedger}
 use Rattle.numbers.proofs.ListLaws.{Front}
+use Rattle.journal.proofs.ListLaws.{words-first}
 use Rattle.commands.specs.Replay.{fixingAnswered}
-use Rattle.commands.proofs.ReplayLaws.{series-first, lines-first, sectors-first, prices-most, fixing-made}
+use Rattle.commands.proofs.ReplayLaws.{seriesWords, lineWords, sectorWords, prices-most, fixing-made}
 use Rattle.commands.proofs.AnswerLaws.{command-broken, call-made}
 use borrow.Author.Needs.{needs}
 use Rattle.commands.proofs.run.run_fix.Statement.{statement}
@@ -38,17 +37,23 @@ module _ (d : tie.After-read-fix) where
   abbrev s : tie.Start
   s = d .before .before .before .before .before .before .before .before .before
 
-  seriesRead : Front (d .read-fix .result .series) (listWords (s .args .text .now) (fixSeriesFrom (s .args .text .now) (s .args .cursor)) seriesName longestList mostWord) (d .read-fix .last .1 .1 .0)
-  seriesRead = series-first _ _ _ (d .read-fix .ensures .0) _ _ (d .read-fix .ensures .1 .0)
+  abbrev read : FixRead
+  read = d .read-fix .result
 
-  linesRead : Front (d .read-fix .result .lines) (listWords (s .args .text .now) (fixLinesFrom (s .args .text .now) (s .args .cursor)) linesName longestList mostWord) (d .read-fix .last .1 .1 .1 .0)
-  linesRead = lines-first _ _ _ (d .read-fix .ensures .0) _ _ (d .read-fix .ensures .1 .1 .0)
+  seriesRead : Front (read .series) (seriesWords (s .args .text .now) (s .args .cursor)) (d .read-fix .last .1 .1 .0)
+  unfolding fixAfter
+  seriesRead = words-first _ _ _ _ _ _ _ _ (ap (λ r. r .series) (d .read-fix .ensures .0)) (d .read-fix .ensures .1 .0)
 
-  sectorsRead : Front (d .read-fix .result .sectors) (listWords (s .args .text .now) (fixSectorsFrom (s .args .text .now) (s .args .cursor)) sectorsName longestList mostWord) (d .read-fix .last .1 .1 .1 .1 .0)
-  sectorsRead = sectors-first _ _ _ (d .read-fix .ensures .0) _ _ (d .read-fix .ensures .1 .1 .1)
+  linesRead : Front (read .lines) (lineWords (s .args .text .now) (s .args .cursor)) (d .read-fix .last .1 .1 .1 .0)
+  unfolding fixAfter
+  linesRead = words-first _ _ _ _ _ _ _ _ (ap (λ r. r .lines) (d .read-fix .ensures .0)) (d .read-fix .ensures .1 .1 .0)
 
-  pricesLong : d .read-fix .result .prices ≤ length (s .args .prices .now)
-  pricesLong = omega (arith, prices-most _ _ (d .read-fix .result) (d .read-fix .ensures .0), s .pre .1 .1 .1 .1)
+  sectorsRead : Front (read .sectors) (sectorWords (s .args .text .now) (s .args .cursor)) (d .read-fix .last .1 .1 .1 .1 .0)
+  unfolding fixAfter
+  sectorsRead = words-first _ _ _ _ _ _ _ _ (ap (λ r. r .sectors) (d .read-fix .ensures .0)) (d .read-fix .ensures .1 .1 .1)
+
+  pricesLong : read .prices ≤ length (s .args .prices .now)
+  pricesLong = omega (arith, prices-most _ _ read (d .read-fix .ensures .0), s .pre .1 .1 .1 .1)
 
 returns : tie.Need-returns
 returns c =

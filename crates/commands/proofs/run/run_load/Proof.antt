@@ -3,13 +3,13 @@ use mathlib.Core.Path.{_≡_, sym, _∙_, ap}
 use Prim.Native.Nat.{_≤_}
 use lib.Seq.{length-take-le}
 use Rattle.numbers.specs.Sizes.{mostDistributors, sectorPlaces}
-use Rattle.journal.specs.List.{listWords, signedListWords}
-use Rattle.journal.specs.Command.{presentName, chargesName, balancesName, loadPresentFrom, loadChargesFrom, loadBalancesFrom}
+use Rattle.journal.specs.Command.{loadAfter}
 use Rattle.journal.specs.declared.command.Command.the-variants.{Load}
 use Rattle.journal.specs.declared.command.LoadRead.{LoadRead}
 use Rattle.journal.proofs.CommandLaws.{load-present-most, load-charges-most, load-balances-most}
 use Rattle.numbers.proofs.ListLaws.{Front}
-use Rattle.commands.proofs.ReplayLaws.{present-first, charges-first, balances-first, ledger-kept}
+use Rattle.journal.proofs.ListLaws.{words-first, signed-words-first}
+use Rattle.commands.proofs.ReplayLaws.{presentWords, chargeWords, balanceWords, ledger-kept}
 use Rattle.commands.proofs.AnswerLaws.{command-broken, command-made}
 use borrow.Author.Needs.{needs}
 use Rattle.commands.proofs.run.run_load.Statement.{statement}
@@ -35,16 +35,22 @@ module _ (d : tie.After-read-load) where
   abbrev s : tie.Start
   s = d .before .before .before .before .before .before
 
-  presences : Front (d .read-load .result .present) (listWords (s .args .text .now) (loadPresentFrom (s .args .text .now) (s .args .cursor)) presentName sectorPlaces 1) (d .read-load .last .1 .1 .0)
-  presences = present-first _ _ _ (d .read-load .ensures .0) _ _ (d .read-load .ensures .1 .0)
+  abbrev read : LoadRead
+  read = d .read-load .result
 
-  charged : Front (d .read-load .result .charges) (signedListWords (s .args .text .now) (loadChargesFrom (s .args .text .now) (s .args .cursor)) chargesName sectorPlaces) (d .read-load .last .1 .1 .1 .0)
-  charged = charges-first _ _ _ (d .read-load .ensures .0) _ _ (d .read-load .ensures .1 .1 .0)
+  presences : Front (read .present) (presentWords (s .args .text .now) (s .args .cursor)) (d .read-load .last .1 .1 .0)
+  unfolding loadAfter
+  presences = words-first _ _ _ _ _ _ _ _ (ap (λ r. r .present) (d .read-load .ensures .0)) (d .read-load .ensures .1 .0)
 
-  balanced : Front (d .read-load .result .balances) (signedListWords (s .args .text .now) (loadBalancesFrom (s .args .text .now) (s .args .cursor)) balancesName mostDistributors) (d .read-load .last .1 .1 .1 .1 .0)
-  balanced = balances-first _ _ _ (d .read-load .ensures .0) _ _ (d .read-load .ensures .1 .1 .1)
+  charged : Front (read .charges) (chargeWords (s .args .text .now) (s .args .cursor)) (d .read-load .last .1 .1 .1 .0)
+  unfolding loadAfter
+  charged = signed-words-first _ _ _ _ _ _ _ (ap (λ r. r .charges) (d .read-load .ensures .0)) (d .read-load .ensures .1 .1 .0)
 
-  few : (d .read-load .result .present ≤ sectorPlaces) × (d .read-load .result .charges ≤ sectorPlaces) × (d .read-load .result .balances ≤ mostDistributors)
+  balanced : Front (read .balances) (balanceWords (s .args .text .now) (s .args .cursor)) (d .read-load .last .1 .1 .1 .1 .0)
+  unfolding loadAfter
+  balanced = signed-words-first _ _ _ _ _ _ _ (ap (λ r. r .balances) (d .read-load .ensures .0)) (d .read-load .ensures .1 .1 .1)
+
+  few : (read .present ≤ sectorPlaces) × (read .charges ≤ sectorPlaces) × (read .balances ≤ mostDistributors)
   few =
       rw (d .read-load .ensures .0)
       (load-present-most (s .args .text .now) (s .args .cursor), load-charges-most (s .args .text .now) (s .args .cursor), load-balances-most (s .args .text .now) (s .args .cursor))

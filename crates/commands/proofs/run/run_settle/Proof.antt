@@ -4,15 +4,14 @@ use Prim.Native.Nat.{_≤_}
 use native.Mathlib.Omega.{arith}
 use lib.ListN.{length, take}
 use lib.Seq.{length-take-le}
-use Rattle.journal.specs.Cursor.{mostWord}
-use Rattle.journal.specs.List.{listWords}
-use Rattle.journal.specs.Command.{longestList, readingsName, lossesName, settleReadingsFrom, settleLossesFrom}
+use Rattle.journal.specs.Command.{settleAfter}
 use Rattle.journal.specs.declared.command.Command.the-variants.{Settle}
 use Rattle.journal.specs.declared.command.SettleRead.{SettleRead}
 use Rattle.ledger.specs.Settle.{settlementLedger}
 use Rattle.numbers.proofs.ListLaws.{Front}
+use Rattle.journal.proofs.ListLaws.{words-first}
 use Rattle.commands.specs.Replay.{settlementAnswered}
-use Rattle.commands.proofs.ReplayLaws.{readings-first, losses-first, transfers-most, settlement-made}
+use Rattle.commands.proofs.ReplayLaws.{readingWords, lossWords, transfers-most, settlement-made}
 use Rattle.commands.proofs.AnswerLaws.{command-broken, call-made}
 use borrow.Author.Needs.{needs}
 use Rattle.commands.proofs.run.run_settle.Statement.{statement}
@@ -35,14 +34,19 @@ module _ (d : tie.After-read-settle) where
   abbrev s : tie.Start
   s = d .before .before .before .before .before .before .before
 
-  readingsRead : Front (d .read-settle .result .readings) (listWords (s .args .text .now) (settleReadingsFrom (s .args .text .now) (s .args .cursor)) readingsName longestList mostWord) (d .read-settle .last .1 .1 .0)
-  readingsRead = readings-first _ _ _ (d .read-settle .ensures .0) _ _ (d .read-settle .ensures .1 .0)
+  abbrev read : SettleRead
+  read = d .read-settle .result
 
-  lossesRead : Front (d .read-settle .result .losses) (listWords (s .args .text .now) (settleLossesFrom (s .args .text .now) (s .args .cursor)) lossesName longestList mostWord) (d .read-settle .last .1 .1 .1 .0)
-  lossesRead = losses-first _ _ _ (d .read-settle .ensures .0) _ _ (d .read-settle .ensures .1 .1)
+  readingsRead : Front (read .readings) (readingWords (s .args .text .now) (s .args .cursor)) (d .read-settle .last .1 .1 .0)
+  unfolding settleAfter
+  readingsRead = words-first _ _ _ _ _ _ _ _ (ap (λ r. r .readings) (d .read-settle .ensures .0)) (d .read-settle .ensures .1 .0)
 
-  transfersLong : d .read-settle .result .transfers ≤ length (s .args .transfers .now)
-  transfersLong = omega (arith, transfers-most _ _ (d .read-settle .result) (d .read-settle .ensures .0), s .pre .1 .1 .1)
+  lossesRead : Front (read .losses) (lossWords (s .args .text .now) (s .args .cursor)) (d .read-settle .last .1 .1 .1 .0)
+  unfolding settleAfter
+  lossesRead = words-first _ _ _ _ _ _ _ _ (ap (λ r. r .losses) (d .read-settle .ensures .0)) (d .read-settle .ensures .1 .1)
+
+  transfersLong : read .transfers ≤ length (s .args .transfers .now)
+  transfersLong = omega (arith, transfers-most _ _ read (d .read-settle .ensures .0), s .pre .1 .1 .1)
 
 returns : tie.Need-returns
 returns c =

@@ -1,12 +1,21 @@
 -- By the first word that the token is.
 use mathlib.Core.Path.{sym, _∙_}
-use Rattle.journal.proofs.CommandLaws.{command-end, command-open, command-fix, command-settle, command-save, command-load, command-unknown}
+use Prim.Native.Nat.{ℕ}
+use lib.ListN.{drop}
+use Rattle.journal.proofs.CommandLaws.{commandWords, Among, command-end, among-all, command-word, among-rest, command-unknown}
 use borrow.Author.Needs.{needs}
 use Rattle.journal.proofs.command.command_in.Statement.{statement}
 use Rattle.journal.proofs.command.command_in.Tie as tie
 
+-- the token is none of the first k words
+abbrev Past : tie.Else1 → ℕ → Type 0
+Past c k = let s = c .before .before in Among (s .args .text .now) (s .args .start) (s .args .end) (drop k commandWords)
+
 returns : tie.Need-returns
 returns c = command-end _ _ _ (c .if1 .taken)
+
+past-end : (c : tie.Else1) → Past c 0
+past-end c = among-all _ _ _ (c .if1 .left)
 
 slice-aggregate-is-word : tie.Need-slice-aggregate-is-word
 slice-aggregate-is-word c = search needs
@@ -15,11 +24,10 @@ is-word-requires : tie.Need-is-word-requires
 is-word-requires c κs = search needs
 
 returns-2 : tie.Need-returns-2
-returns-2 c =
-    let e1 = c .before .before .before in
-    command-open _ _ _
-    (e1 .if1 .left)
-    (sym (c .before .is-word .ensures) ∙ c .if2 .taken)
+returns-2 c = command-word (past-end (c .before .before .before)) (sym (c .before .is-word .ensures) ∙ c .if2 .taken)
+
+past-open : (c : tie.Else2) → Past (c .before .before .before) 1
+past-open c = among-rest (past-end (c .before .before .before)) (sym (c .before .is-word .ensures) ∙ c .if2 .left)
 
 slice-aggregate-is-word-2 : tie.Need-slice-aggregate-is-word-2
 slice-aggregate-is-word-2 c = search needs
@@ -28,13 +36,10 @@ is-word-requires-2 : tie.Need-is-word-requires-2
 is-word-requires-2 c κs = search needs
 
 returns-3 : tie.Need-returns-3
-returns-3 c =
-    let e2 = c .before .before .before in
-    let e1 = e2 .before .before .before in
-    command-fix _ _ _
-    (e1 .if1 .left)
-    (sym (e2 .before .is-word .ensures) ∙ e2 .if2 .left)
-    (sym (c .before .is-word2 .ensures) ∙ c .if3 .taken)
+returns-3 c = command-word (past-open (c .before .before .before)) (sym (c .before .is-word2 .ensures) ∙ c .if3 .taken)
+
+past-fix : (c : tie.Else3) → Past (c .before .before .before .before .before .before) 2
+past-fix c = among-rest (past-open (c .before .before .before)) (sym (c .before .is-word2 .ensures) ∙ c .if3 .left)
 
 slice-aggregate-is-word-3 : tie.Need-slice-aggregate-is-word-3
 slice-aggregate-is-word-3 c = search needs
@@ -43,15 +48,10 @@ is-word-requires-3 : tie.Need-is-word-requires-3
 is-word-requires-3 c κs = search needs
 
 returns-4 : tie.Need-returns-4
-returns-4 c =
-    let e3 = c .before .before .before in
-    let e2 = e3 .before .before .before in
-    let e1 = e2 .before .before .before in
-    command-settle _ _ _
-    (e1 .if1 .left)
-    (sym (e2 .before .is-word .ensures) ∙ e2 .if2 .left)
-    (sym (e3 .before .is-word2 .ensures) ∙ e3 .if3 .left)
-    (sym (c .before .is-word3 .ensures) ∙ c .if4 .taken)
+returns-4 c = command-word (past-fix (c .before .before .before)) (sym (c .before .is-word3 .ensures) ∙ c .if4 .taken)
+
+past-settle : (c : tie.Else4) → Past (c .before .before .before .before .before .before .before .before .before) 3
+past-settle c = among-rest (past-fix (c .before .before .before)) (sym (c .before .is-word3 .ensures) ∙ c .if4 .left)
 
 slice-aggregate-is-word-4 : tie.Need-slice-aggregate-is-word-4
 slice-aggregate-is-word-4 c = search needs
@@ -60,17 +60,10 @@ is-word-requires-4 : tie.Need-is-word-requires-4
 is-word-requires-4 c κs = search needs
 
 returns-5 : tie.Need-returns-5
-returns-5 c =
-    let e4 = c .before .before .before in
-    let e3 = e4 .before .before .before in
-    let e2 = e3 .before .before .before in
-    let e1 = e2 .before .before .before in
-    command-save _ _ _
-    (e1 .if1 .left)
-    (sym (e2 .before .is-word .ensures) ∙ e2 .if2 .left)
-    (sym (e3 .before .is-word2 .ensures) ∙ e3 .if3 .left)
-    (sym (e4 .before .is-word3 .ensures) ∙ e4 .if4 .left)
-    (sym (c .before .is-word4 .ensures) ∙ c .if5 .taken)
+returns-5 c = command-word (past-settle (c .before .before .before)) (sym (c .before .is-word4 .ensures) ∙ c .if5 .taken)
+
+past-save : (c : tie.Else5) → Past (c .before .before .before .before .before .before .before .before .before .before .before .before) 4
+past-save c = among-rest (past-settle (c .before .before .before)) (sym (c .before .is-word4 .ensures) ∙ c .if5 .left)
 
 slice-aggregate-is-word-5 : tie.Need-slice-aggregate-is-word-5
 slice-aggregate-is-word-5 c = search needs
@@ -79,34 +72,13 @@ is-word-requires-5 : tie.Need-is-word-requires-5
 is-word-requires-5 c κs = search needs
 
 returns-6 : tie.Need-returns-6
-returns-6 c =
-    let e5 = c .before .before .before in
-    let e4 = e5 .before .before .before in
-    let e3 = e4 .before .before .before in
-    let e2 = e3 .before .before .before in
-    let e1 = e2 .before .before .before in
-    command-load _ _ _
-    (e1 .if1 .left)
-    (sym (e2 .before .is-word .ensures) ∙ e2 .if2 .left)
-    (sym (e3 .before .is-word2 .ensures) ∙ e3 .if3 .left)
-    (sym (e4 .before .is-word3 .ensures) ∙ e4 .if4 .left)
-    (sym (e5 .before .is-word4 .ensures) ∙ e5 .if5 .left)
-    (sym (c .before .is-word5 .ensures) ∙ c .if6 .taken)
+returns-6 c = command-word (past-save (c .before .before .before)) (sym (c .before .is-word5 .ensures) ∙ c .if6 .taken)
+
+past-load : (c : tie.Else6) → Past (c .before .before .before .before .before .before .before .before .before .before .before .before .before .before .before) 5
+past-load c = among-rest (past-save (c .before .before .before)) (sym (c .before .is-word5 .ensures) ∙ c .if6 .left)
 
 returns-7 : tie.Need-returns-7
-returns-7 c =
-    let e5 = c .before .before .before in
-    let e4 = e5 .before .before .before in
-    let e3 = e4 .before .before .before in
-    let e2 = e3 .before .before .before in
-    let e1 = e2 .before .before .before in
-    command-unknown _ _ _
-    (e1 .if1 .left)
-    (sym (e2 .before .is-word .ensures) ∙ e2 .if2 .left)
-    (sym (e3 .before .is-word2 .ensures) ∙ e3 .if3 .left)
-    (sym (e4 .before .is-word3 .ensures) ∙ e4 .if4 .left)
-    (sym (e5 .before .is-word4 .ensures) ∙ e5 .if5 .left)
-    (sym (c .before .is-word5 .ensures) ∙ c .if6 .left)
+returns-7 c = command-unknown (past-load c)
 
 pub command-in-spec : {M : Type 1} → statement M
 command-in-spec =
