@@ -1,5 +1,5 @@
--- What a conjunction or a disjunction of tests says of its parts, and the split of the indices below a bound.
--- Assumes nothing.
+-- What a conjunction or a disjunction of tests says of its parts, what a call's result says of its test, and the split
+-- of the indices below a bound. Assumes nothing.
 use mathlib.Core.Path.{_≡_, refl, sym, _∙_}
 use mathlib.Core.Bool.{Bool, true, false, not, _&&_, _||_, false≢true, true≢false}
 use Prim.Native.Nat.{ℕ, suc, _<_}
@@ -23,7 +23,7 @@ pub or-right : (a b : Bool) → (a || b) ≡ false → b ≡ false
 or-right true b h = absurd (true≢false h)
 or-right false b h = h
 
--- a call's result r is the test b, and the code goes on where not r fails, or stops where it holds
+-- a call's result r is the test b, and the code asks for `!r`
 pub told-true : {r b : Bool} → r ≡ b → not r ≡ false → b ≡ true
 told-true e h = sym e ∙ not-false _ h
 
