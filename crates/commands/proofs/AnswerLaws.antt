@@ -7,8 +7,8 @@ use Prim.Native.Nat.{ℕ, _≤_}
 use native.Mathlib.Omega.{arith}
 use lib.ListN.{length}
 use Rattle.numbers.proofs.ListLaws.{list-length}
-use Rattle.journal.specs.Cursor.{mostWord, numberAfter, readTo, brokenAt}
-use Rattle.journal.specs.Command.{longestList, isUnknown, commandAfter, fixAfter}
+use Rattle.journal.specs.Cursor.{mostWord, numberAfter}
+use Rattle.journal.specs.Command.{commandAfter}
 use Rattle.journal.specs.declared.cursor.Cursor.{Cursor}
 use Rattle.journal.specs.declared.command.Command.{Command}
 use Rattle.journal.specs.declared.command.Command.the-variants.{Open, Fix, Settle, Save, Load, Unknown, End}
@@ -26,7 +26,7 @@ use Rattle.answers.proofs.SizeLaws.{opening-size, loading-size, fixing-size, se
 use Rattle.commands.specs.Replay.{unwritten, fixingCall, settlementCall, commandNext, commandLedger, stepOf, stepAfter, fixingAnswered, settlementAnswered, commandAnswer, answerOf, answerAfter, longestAnswer, unansweredBy, CallMade, CommandMade, CommandAnswered}
 use Rattle.commands.specs.declared.call.Made.{Made}
 use Rattle.commands.specs.declared.run.Answered.{Answered}
-use Rattle.commands.proofs.ReplayLaws.{stepBy, step-broken, step-made, step-save, step-unknown, step-end, step-read}
+use Rattle.commands.proofs.ReplayLaws.{stepBy, step-broken, step-made, step-unknown, step-end, step-read}
 
 abbrev pub answeredBy : Ledger → Cursor → ℕ → Answered
 answeredBy book next count = record { step = stepBy book next; count = count }

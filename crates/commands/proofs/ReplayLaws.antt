@@ -3,10 +3,9 @@
 use mathlib.Core.Path.{_≡_, refl, sym, _∙_, ap}
 use mathlib.Core.Bool.{Bool, true, false, cond, false≢true}
 use mathlib.Core.List.{List}
-use Prim.Native.Nat.{ℕ, zero, suc, _+_, _-_, _^_, _<_, _≤_}
+use Prim.Native.Nat.{ℕ, zero, suc, _+_, _-_, _<_, _≤_}
 use native.Mathlib.Omega.{arith}
 use native.Mathlib.Decide.{decLt}
-use lib.Dec.{ltb, eqb}
 use lib.ListN.{length}
 use lib.IntN.{ℤ}
 use borrow.Author.Tests.{lt-ltb, le-ltb}
@@ -53,10 +52,6 @@ module _ (text : List ℕ) (cursor : Cursor) (book : Ledger) where
   same : (b : Bool) → stepBy book cursor ≡ stepBy (cond b book book) cursor
   same true = refl
   same false = refl
-
-  pub step-save : stepBy book cursor ≡ stepOf Save text cursor book
-  unfolding stepOf
-  step-save = same (cursor .broken)
 
   pub step-unknown : stepBy book cursor ≡ stepOf Unknown text cursor book
   unfolding stepOf

@@ -49,6 +49,19 @@ fn unanswered(ledger: Ledger, next: Cursor) -> Answered
     Answered { step, count: 0 }
 }
 
+// Lists of the longest length, from functions so that no goal writes their words out.
+fn words() -> [u64; 8192]
+    ensures { λ r. ⌜ length r ≡ longestList ⌝ }
+{
+    [0; 8192]
+}
+
+fn signed_words() -> [i64; 8192]
+    ensures { λ r. ⌜ length r ≡ longestList ⌝ }
+{
+    [0; 8192]
+}
+
 fn run_open(text: &[u8], cursor: Cursor, ledger: Ledger, buffer: &mut [u8]) -> Answered
     requires { ⌜ cursor .at ≤ length (now text) ⌝ }
     ensures { λ r. ⌜ CommandMade r (stepOf Open (now (text .entry)) cursor ledger) (answerOf Open (now (text .entry)) cursor ledger) (now (buffer .entry)) (now (buffer .exit)) ⌝ }
@@ -66,33 +79,28 @@ fn run_open(text: &[u8], cursor: Cursor, ledger: Ledger, buffer: &mut [u8]) -> A
     Answered { step, count }
 }
 
-fn run_fix(
-    text: &[u8],
-    cursor: Cursor,
-    ledger: Ledger,
-    series: &mut [u64],
-    lines: &mut [u64],
-    sectors: &mut [u64],
-    prices: &mut [i64],
-    buffer: &mut [u8],
-) -> Answered
-    requires { ⌜ cursor .at ≤ length (now text) ⌝ ∗ ⌜ length (now series) ≡ longestList ⌝ ∗ ⌜ length (now lines) ≡ longestList ⌝ ∗ ⌜ length (now sectors) ≡ longestList ⌝ ∗ ⌜ length (now prices) ≡ longestList ⌝ }
+fn run_fix(text: &[u8], cursor: Cursor, ledger: Ledger, buffer: &mut [u8]) -> Answered
+    requires { ⌜ cursor .at ≤ length (now text) ⌝ }
     ensures { λ r. ⌜ CommandMade r (stepOf Fix (now (text .entry)) cursor ledger) (answerOf Fix (now (text .entry)) cursor ledger) (now (buffer .entry)) (now (buffer .exit)) ⌝ }
 {
-    let read = read_fix(text, cursor, series, lines, sectors);
+    let mut series = words();
+    let mut lines = words();
+    let mut sectors = words();
+    let mut prices = signed_words();
+    let read = read_fix(text, cursor, &mut series, &mut lines, &mut sectors);
     let next = read.next;
     if next.broken {
         return unanswered(ledger, next);
     }
     let values = read.series;
-    let words = read.lines;
+    let line_words = read.lines;
     let factors = read.sectors;
     let lent = read.prices;
     let made = make_fixing(
         ledger,
         read,
         &series[..values],
-        &lines[..words],
+        &lines[..line_words],
         &sectors[..factors],
         &mut prices[..lent],
         buffer,
@@ -105,30 +113,25 @@ fn run_fix(
     }
 }
 
-fn run_settle(
-    text: &[u8],
-    cursor: Cursor,
-    ledger: Ledger,
-    readings: &mut [u64],
-    losses: &mut [u64],
-    transfers: &mut [i64],
-    buffer: &mut [u8],
-) -> Answered
-    requires { ⌜ cursor .at ≤ length (now text) ⌝ ∗ ⌜ length (now readings) ≡ longestList ⌝ ∗ ⌜ length (now losses) ≡ longestList ⌝ ∗ ⌜ length (now transfers) ≡ longestList ⌝ }
+fn run_settle(text: &[u8], cursor: Cursor, ledger: Ledger, buffer: &mut [u8]) -> Answered
+    requires { ⌜ cursor .at ≤ length (now text) ⌝ }
     ensures { λ r. ⌜ CommandMade r (stepOf Settle (now (text .entry)) cursor ledger) (answerOf Settle (now (text .entry)) cursor ledger) (now (buffer .entry)) (now (buffer .exit)) ⌝ }
 {
-    let read = read_settle(text, cursor, readings, losses);
+    let mut readings = words();
+    let mut losses = words();
+    let mut transfers = signed_words();
+    let read = read_settle(text, cursor, &mut readings, &mut losses);
     let next = read.next;
     if next.broken {
         return unanswered(ledger, next);
     }
-    let words = read.readings;
+    let counted = read.readings;
     let factors = read.losses;
     let lent = read.transfers;
     let made = make_settlement(
         ledger,
         read.month,
-        &readings[..words],
+        &readings[..counted],
         &losses[..factors],
         &mut transfers[..lent],
         buffer,
@@ -172,18 +175,8 @@ fn run_load(text: &[u8], cursor: Cursor, ledger: Ledger, buffer: &mut [u8]) -> A
 }
 
 // One command, from its word on, and its answer as the first bytes of the buffer.
-fn run_command(
-    text: &[u8],
-    at: usize,
-    ledger: Ledger,
-    series: &mut [u64],
-    lines: &mut [u64],
-    sectors: &mut [u64],
-    prices: &mut [i64],
-    buffer: &mut [u8],
-) -> Answered
-    requires { ⌜ at ≤ length (now text) ⌝ ∗ ⌜ length (now series) ≡ longestList ⌝ ∗ ⌜ length (now lines) ≡ longestList ⌝ ∗ ⌜ length (now sectors) ≡ longestList ⌝ ∗ ⌜ length (now prices) ≡ longestList ⌝ }
-    requires { ⌜ length (now buffer) ≡ longestAnswer ⌝ }
+fn run_command(text: &[u8], at: usize, ledger: Ledger, buffer: &mut [u8]) -> Answered
+    requires { ⌜ at ≤ length (now text) ⌝ ∗ ⌜ length (now buffer) ≡ longestAnswer ⌝ }
     ensures { λ r. ⌜ CommandAnswered r (stepAfter (now (text .entry)) at ledger) (answerAfter (now (text .entry)) at ledger) (now (buffer .exit)) ⌝ }
 {
     let read = next_command(text, at);
@@ -191,8 +184,8 @@ fn run_command(
     let command = read.command;
     match command {
         Command::Open => run_open(text, next, ledger, buffer),
-        Command::Fix => run_fix(text, next, ledger, series, lines, sectors, prices, buffer),
-        Command::Settle => run_settle(text, next, ledger, series, lines, prices, buffer),
+        Command::Fix => run_fix(text, next, ledger, buffer),
+        Command::Settle => run_settle(text, next, ledger, buffer),
         Command::Save => {
             let count = write_saving(buffer, 0, ledger);
             let step = Step { ledger, next };
@@ -204,17 +197,11 @@ fn run_command(
     }
 }
 
-// Lists of the longest length, from functions so that no goal of the loop below writes their words out.
-fn words() -> [u64; 8192]
-    ensures { λ r. ⌜ length r ≡ longestList ⌝ }
-{
-    [0; 8192]
-}
-
-fn signed_words() -> [i64; 8192]
-    ensures { λ r. ⌜ length r ≡ longestList ⌝ }
-{
-    [0; 8192]
+// Writes where the text cannot be read.
+fn print_error(next: Cursor) {
+    let mut buffer = io::buffer();
+    let count = write_error(&mut buffer, 0, next.at);
+    io::write_all(STDOUT_FILENO, &buffer[..count]);
 }
 
 fn answer_buffer() -> [u8; 262144]
@@ -223,36 +210,16 @@ fn answer_buffer() -> [u8; 262144]
     [0; 262144]
 }
 
-// Writes where the text cannot be read.
-fn print_error(next: Cursor) {
-    let mut buffer = io::buffer();
-    let count = write_error(&mut buffer, 0, next.at);
-    io::write_all(STDOUT_FILENO, &buffer[..count]);
-}
-
 // Makes the commands of a text that is not too long, in their order, and prints their answers.
 fn run_commands(text: &[u8]) -> Step
     requires { ⌜ length (now text) ≤ longestText ⌝ }
     ensures { λ r. ⌜ r ≡ replayed (now (text .entry)) ⌝ }
 {
-    let mut series = words();
-    let mut lines = words();
-    let mut sectors = words();
-    let mut prices = signed_words();
     let mut buffer = answer_buffer();
     let mut ledger = open(0).ledger;
     let mut at: usize = 0;
     while at < text.len() {
-        let answered = run_command(
-            text,
-            at,
-            ledger,
-            &mut series,
-            &mut lines,
-            &mut sectors,
-            &mut prices,
-            &mut buffer,
-        );
+        let answered = run_command(text, at, ledger, &mut buffer);
         let count = answered.count;
         io::write_all(STDOUT_FILENO, &buffer[..count]);
         let step = answered.step;

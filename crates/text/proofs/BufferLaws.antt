@@ -1,12 +1,10 @@
--- Laws of text in a buffer: two texts one after another are one, a buffer keeps its length, and a text that fits stands
--- in it whole. Assumes nothing.
+-- Laws of text in a buffer: two texts one after another are one, and a text for which there is room stands in it whole.
+-- Assumes nothing.
 use mathlib.Core.Path.{_≡_, refl, sym, _∙_, ap}
-use mathlib.Core.Bool.{Bool, true, false, cond}
 use mathlib.Core.List.{List, [], _∷_, _++_, append-assoc, append-nil}
 use Prim.Native.Nat.{ℕ, suc, _+_, _≤_, _<_}
 use native.Mathlib.Numerals.{add-one}
 use native.Mathlib.Omega.{arith}
-use lib.Dec.{ltb}
 use lib.ListN.{length, getD, take, drop, set, length-set, drop-of-length-le}
 use lib.Seq.{take-suc-set, drop-cons}
 use borrow.Author.Tests.{lt-ltb, le-ltb}
@@ -45,22 +43,6 @@ written-next text k buffer next p e = rw (e, add-one, drop-cons text k 0 p)
 pub written-all : (text : List ℕ) (k : ℕ) (buffer : Buffer) → length text ≤ k → written (drop k text) buffer ≡ buffer
 unfolding written
 written-all text k buffer p = rw (drop-of-length-le text p)
-
--- a buffer keeps its length
-choice-keeps : (room : Bool) (next buffer : Buffer) → length (next .bytes) ≡ length (buffer .bytes) → length (cond room next buffer .bytes) ≡ length (buffer .bytes)
-choice-keeps true next buffer e = e
-choice-keeps false next buffer e = refl
-
-pub byte-keeps : (byte : ℕ) (buffer : Buffer) → length (writtenByte byte buffer .bytes) ≡ length (buffer .bytes)
-unfolding writtenByte
-byte-keeps byte buffer =
-    choice-keeps (ltb (buffer .count) (length (buffer .bytes))) (bufferOf (set (buffer .bytes) (buffer .count) byte) (suc (buffer .count))) buffer
-    (length-set (buffer .bytes) (buffer .count) byte)
-
-pub text-keeps : (text : List ℕ) (buffer : Buffer) → length (written text buffer .bytes) ≡ length (buffer .bytes)
-unfolding written
-text-keeps [] buffer = refl
-text-keeps (byte ∷ text) buffer = text-keeps text (writtenByte byte buffer) ∙ byte-keeps byte buffer
 
 -- a byte after a text
 pub after-byte : (a : List ℕ) (byte : ℕ) (buffer next last : Buffer) → next ≡ written a buffer → last ≡ writtenByte byte next → last ≡ written (a ++ byte ∷ []) buffer

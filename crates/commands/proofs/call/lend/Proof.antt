@@ -19,15 +19,6 @@ abbrev μ-loop : tie.MeasureT-loop
 loop-holds : tie.Need-loop-holds Inv-loop μ-loop
 loop-holds c = (omega arith, refl, list-none (λ i. negsuc 0) (c .args .list .now))
 
-mul-list : tie.Need-mul-list Inv-loop μ-loop
-mul-list c = omega arith
-
-slice-set-of-list : tie.Need-slice-set-of-list Inv-loop μ-loop
-slice-set-of-list c = omega arith
-
-add-k : tie.Need-add-k Inv-loop μ-loop
-add-k c = omega arith
-
 loop-less : tie.Need-loop-less Inv-loop μ-loop
 loop-less c = simp length-set (omega arith)
 
@@ -54,9 +45,7 @@ lend-spec =
     Inv-loop
     μ-loop
     loop-holds
-    mul-list
-    slice-set-of-list
-    add-k
+    (λ c. omega arith) (λ c. omega arith) (λ c. omega arith)
     loop-less
     loop-again
     same-length

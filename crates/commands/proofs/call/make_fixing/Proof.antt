@@ -23,21 +23,6 @@ module _ (d : tie.After-fix) where
   lent : d .before .before .before .lend .last .0 ≡ unwritten (length (s .args .prices .now))
   lent = d .before .before .before .lend .ensures
 
-lend-requires : tie.Need-lend-requires
-lend-requires c κs = search needs
-
-fix-requires : tie.Need-fix-requires
-fix-requires c κs = search needs
-
-write-fixing-requires : tie.Need-write-fixing-requires
-write-fixing-requires c κs = search needs
-
-same-length : tie.Need-same-length
-same-length c = search needs
-
-same-length-2 : tie.Need-same-length-2
-same-length-2 c = search needs
-
 returns : tie.Need-returns
 unfolding fixingAnswered
 returns c =
@@ -54,4 +39,6 @@ returns c =
 pub make-fixing-spec : {M : Type 1} → statement M
 make-fixing-spec =
     tie.close
-    (tie.spec lend-requires fix-requires write-fixing-requires same-length same-length-2 returns)
+    (tie.spec
+    (λ c κs. search needs) (λ c κs. search needs) (λ c κs. search needs) (λ c. search needs) (λ c. search needs)
+    returns)

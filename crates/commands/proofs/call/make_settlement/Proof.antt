@@ -23,21 +23,6 @@ module _ (d : tie.After-settle) where
   lent : d .before .before .before .lend .last .0 ≡ unwritten (length (s .args .transfers .now))
   lent = d .before .before .before .lend .ensures
 
-lend-requires : tie.Need-lend-requires
-lend-requires c κs = search needs
-
-settle-requires : tie.Need-settle-requires
-settle-requires c κs = search needs
-
-write-settlement-requires : tie.Need-write-settlement-requires
-write-settlement-requires c κs = search needs
-
-same-length : tie.Need-same-length
-same-length c = search needs
-
-same-length-2 : tie.Need-same-length-2
-same-length-2 c = search needs
-
 returns : tie.Need-returns
 unfolding settlementAnswered
 returns c =
@@ -56,9 +41,5 @@ pub make-settlement-spec : {M : Type 1} → statement M
 make-settlement-spec =
     tie.close
     (tie.spec
-    lend-requires
-    settle-requires
-    write-settlement-requires
-    same-length
-    same-length-2
+    (λ c κs. search needs) (λ c κs. search needs) (λ c κs. search needs) (λ c. search needs) (λ c. search needs)
     returns)

@@ -1,5 +1,5 @@
 -- The line fits into the buffer.
-use mathlib.Core.Path.{_≡_, sym}
+use mathlib.Core.Path.{sym}
 use mathlib.Core.List.{[]}
 use native.Mathlib.Omega.{arith}
 use lib.Seq.{length-take-le}
@@ -11,15 +11,6 @@ use borrow.Author.Needs.{needs}
 use Rattle.commands.proofs.run.print_error.Statement.{statement}
 use Rattle.commands.proofs.run.print_error.Tie as tie
 
-buffer-requires : tie.Need-buffer-requires
-buffer-requires c κs = search needs
-
-slice-aggregate-write-error : tie.Need-slice-aggregate-write-error
-slice-aggregate-write-error c = search needs
-
-write-error-requires : tie.Need-write-error-requires
-write-error-requires c κs = search needs
-
 -- the line stands in the buffer
 stands : (d : tie.After-write-error) → Stands [] (errorText (d .before .before .before .args .next .at)) (bufferOf (d .write-error .last .0) (d .write-error .result))
 stands d = let e = d .before .before in rw (d .write-error .ensures) (text-stands _ (e .buffer .result) 0 (omega (arith, error-size (e .before .args .next .at), e .buffer .ensures)))
@@ -30,20 +21,11 @@ array-share-prefix-buffer c = stands (c .before) .within
 slice-aggregate-write-all : tie.Need-slice-aggregate-write-all
 slice-aggregate-write-all c = sym (length-take-le _ _ (stands (c .before .before) .within))
 
-write-all-requires : tie.Need-write-all-requires
-write-all-requires c κs = search needs
-
-returns : tie.Need-returns
-returns c = search needs
-
 pub print-error-spec : {M : Type 1} → statement M
 print-error-spec =
     tie.close
     (tie.spec
-    buffer-requires
-    slice-aggregate-write-error
-    write-error-requires
+    (λ c κs. search needs) (λ c. search needs) (λ c κs. search needs)
     array-share-prefix-buffer
     slice-aggregate-write-all
-    write-all-requires
-    returns)
+    (λ c κs. search needs) (λ c. search needs))

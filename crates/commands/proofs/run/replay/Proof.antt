@@ -15,18 +15,6 @@ told j =
     (λ w. w .2 ∙ w .1 .ensures)
     (j .if1 .came)
 
-open-requires : tie.Need-open-requires
-open-requires c κs = search needs
-
-broken-at-requires : tie.Need-broken-at-requires
-broken-at-requires c κs = search needs
-
-run-commands-requires : tie.Need-run-commands-requires
-run-commands-requires c κs = search needs
-
-print-error-requires : tie.Need-print-error-requires
-print-error-requires c κs = search needs
-
 returns : tie.Need-returns
 returns c = told (c .before .before .before)
 
@@ -37,9 +25,6 @@ pub replay-spec : {M : Type 1} → statement M
 replay-spec =
     tie.close
     (tie.spec
-    open-requires
-    broken-at-requires
-    run-commands-requires
-    print-error-requires
+    (λ c κs. search needs) (λ c κs. search needs) (λ c κs. search needs) (λ c κs. search needs)
     returns
     returns-2)

@@ -1,41 +1,26 @@
 -- The lists hold the words of the text, and a command that is broken is not made.
-use mathlib.Core.Path.{_≡_, sym, _∙_, ap}
+use mathlib.Core.Path.{sym, ap}
 use Prim.Native.Nat.{_≤_}
 use native.Mathlib.Omega.{arith}
-use lib.ListN.{length, take}
+use lib.ListN.{length}
 use lib.Seq.{length-take-le}
+use Rattle.numbers.proofs.ListLaws.{Front}
 use Rattle.journal.specs.Command.{fixAfter}
 use Rattle.journal.specs.declared.command.Command.the-variants.{Fix}
 use Rattle.journal.specs.declared.command.FixRead.{FixRead}
-use Rattle.ledger.specs.Fix.{fixingLedger}
-use Rattle.numbers.proofs.ListLaws.{Front}
 use Rattle.journal.proofs.ListLaws.{words-first}
+use Rattle.ledger.specs.Fix.{fixingLedger}
 use Rattle.commands.specs.Replay.{fixingAnswered}
-use Rattle.commands.proofs.ReplayLaws.{seriesWords, lineWords, sectorWords, prices-most, fixing-made}
 use Rattle.commands.proofs.AnswerLaws.{command-broken, call-made}
+use Rattle.commands.proofs.ReplayLaws.{seriesWords, lineWords, sectorWords, prices-most, fixing-made}
 use borrow.Author.Needs.{needs}
 use Rattle.commands.proofs.run.run_fix.Statement.{statement}
 use Rattle.commands.proofs.run.run_fix.Tie as tie
 
-read-fix-requires : tie.Need-read-fix-requires
-read-fix-requires c κs = search needs
-
-unanswered-requires : tie.Need-unanswered-requires
-unanswered-requires c κs = search needs
-
-same-length : tie.Need-same-length
-same-length c = search needs
-
-same-length-2 : tie.Need-same-length-2
-same-length-2 c = search needs
-
-same-length-3 : tie.Need-same-length-3
-same-length-3 c = search needs
-
 -- what was read stands first in the lists
 module _ (d : tie.After-read-fix) where
   abbrev s : tie.Start
-  s = d .before .before .before .before .before .before .before .before .before
+  s = d .before .before .before .before .before .before .before .before .before .before
 
   abbrev read : FixRead
   read = d .read-fix .result
@@ -52,62 +37,42 @@ module _ (d : tie.After-read-fix) where
   unfolding fixAfter
   sectorsRead = words-first _ _ _ _ _ _ _ _ (ap (λ r. r .sectors) (d .read-fix .ensures .0)) (d .read-fix .ensures .1 .1 .1)
 
-  pricesLong : read .prices ≤ length (s .args .prices .now)
-  pricesLong = omega (arith, prices-most _ _ read (d .read-fix .ensures .0), s .pre .1 .1 .1 .1)
+  pricesLong : read .prices ≤ length (d .before .before .before .before .signed-words .result)
+  pricesLong = omega (arith, prices-most _ _ read (d .read-fix .ensures .0), d .before .before .before .before .signed-words .ensures)
 
 returns : tie.Need-returns
 returns c =
-    command-broken Fix _ _ _ _ (ap (λ (r : FixRead). r .next) (c .before .before .before .before .before .before .before .before .before .read-fix .ensures .0)) (c .before .if1 .taken) _ (c .unanswered .ensures) _
+    command-broken Fix _ _ _ _ (ap (λ (r : FixRead). r .next) (c .before .before .before .before .before .before .read-fix .ensures .0)) (c .before .if1 .taken) _ (c .unanswered .ensures) _
 
-slice-reshare-prefix-make-fixing : tie.Need-slice-reshare-prefix-make-fixing
-slice-reshare-prefix-make-fixing c = seriesRead (c .before .before .before .before .before .before .before .before) .long
+array-share-prefix-series : tie.Need-array-share-prefix-series
+array-share-prefix-series c = seriesRead (c .before .before .before .before .before) .long
 
 slice-aggregate-make-fixing : tie.Need-slice-aggregate-make-fixing
-slice-aggregate-make-fixing c = sym (length-take-le _ _ (seriesRead (c .before .before .before .before .before .before .before .before .before) .long))
+slice-aggregate-make-fixing c = sym (length-take-le _ _ (seriesRead (c .before .before .before .before .before .before) .long))
 
-slice-reshare-prefix-make-fixing-2 : tie.Need-slice-reshare-prefix-make-fixing-2
-slice-reshare-prefix-make-fixing-2 c = linesRead (c .before .before .before .before .before .before .before .before .before) .long
+array-share-prefix-lines : tie.Need-array-share-prefix-lines
+array-share-prefix-lines c = linesRead (c .before .before .before .before .before .before) .long
 
 slice-aggregate-make-fixing-2 : tie.Need-slice-aggregate-make-fixing-2
-slice-aggregate-make-fixing-2 c = sym (length-take-le _ _ (linesRead (c .before .before .before .before .before .before .before .before .before .before) .long))
+slice-aggregate-make-fixing-2 c = sym (length-take-le _ _ (linesRead (c .before .before .before .before .before .before .before) .long))
 
-slice-reshare-prefix-make-fixing-3 : tie.Need-slice-reshare-prefix-make-fixing-3
-slice-reshare-prefix-make-fixing-3 c = sectorsRead (c .before .before .before .before .before .before .before .before .before .before) .long
+array-share-prefix-sectors : tie.Need-array-share-prefix-sectors
+array-share-prefix-sectors c = sectorsRead (c .before .before .before .before .before .before .before) .long
 
 slice-aggregate-make-fixing-3 : tie.Need-slice-aggregate-make-fixing-3
-slice-aggregate-make-fixing-3 c = sym (length-take-le _ _ (sectorsRead (c .before .before .before .before .before .before .before .before .before .before .before) .long))
+slice-aggregate-make-fixing-3 c = sym (length-take-le _ _ (sectorsRead (c .before .before .before .before .before .before .before .before) .long))
 
-slice-relend-prefix-make-fixing : tie.Need-slice-relend-prefix-make-fixing
-slice-relend-prefix-make-fixing c = pricesLong (c .before .before .before .before .before .before .before .before .before .before .before)
+array-borrow-prefix-prices : tie.Need-array-borrow-prefix-prices
+array-borrow-prefix-prices c = pricesLong (c .before .before .before .before .before .before .before .before)
 
 slice-aggregate-make-fixing-4 : tie.Need-slice-aggregate-make-fixing-4
-slice-aggregate-make-fixing-4 c = sym (length-take-le _ _ (pricesLong (c .before .before .before .before .before .before .before .before .before .before .before .before)))
-
-make-fixing-requires : tie.Need-make-fixing-requires
-make-fixing-requires c κs = search needs
-
-same-length-4 : tie.Need-same-length-4
-same-length-4 c = search needs
-
-same-length-5 : tie.Need-same-length-5
-same-length-5 c = search needs
-
-same-length-6 : tie.Need-same-length-6
-same-length-6 c = search needs
-
-same-length-7 : tie.Need-same-length-7
-same-length-7 c = search needs
-
-same-length-8 : tie.Need-same-length-8
-same-length-8 c = search needs
+slice-aggregate-make-fixing-4 c = sym (length-take-le _ _ (pricesLong (c .before .before .before .before .before .before .before .before .before)))
 
 returns-2 : tie.Need-returns-2
 returns-2 c =
     let m = c .before .before .before .before in
-    let d = m .before .before .before .before .before .before .before .before .before .before .before .before .before .before in
-    let made =
-    fixing-made _ _ (d .read-fix .result) (d .read-fix .ensures .0) _ _ _ _ (seriesRead d .first) (linesRead d .first) (sectorsRead d .first)
-    (length-take-le _ _ (pricesLong d)) in
+    let d = m .before .before .before .before .before .before .before .before .before .before .before in
+    let made = fixing-made _ _ (read d) (d .read-fix .ensures .0) _ _ _ _ (seriesRead d .first) (linesRead d .first) (sectorsRead d .first) (length-take-le _ _ (pricesLong d)) in
     call-made Fix _ _ _ _ (ap (λ (r : FixRead). r .next) (d .read-fix .ensures .0)) (m .before .before .before .before .before .before .if1 .left) _ _ _ _ _ (m .make-fixing .ensures)
     (ap (fixingLedger (s d .args .ledger)) made)
     (ap (fixingAnswered (s d .args .ledger)) made)
@@ -116,24 +81,16 @@ pub run-fix-spec : {M : Type 1} → statement M
 run-fix-spec =
     tie.close
     (tie.spec
-    read-fix-requires
-    unanswered-requires
-    same-length
-    same-length-2
-    same-length-3
+    (λ c κs. search needs) (λ c κs. search needs) (λ c κs. search needs) (λ c κs. search needs) (λ c. search needs) (λ c. search needs)
+    (λ c. search needs) (λ c κs. search needs) (λ c κs. search needs)
     returns
-    slice-reshare-prefix-make-fixing
+    array-share-prefix-series
     slice-aggregate-make-fixing
-    slice-reshare-prefix-make-fixing-2
+    array-share-prefix-lines
     slice-aggregate-make-fixing-2
-    slice-reshare-prefix-make-fixing-3
+    array-share-prefix-sectors
     slice-aggregate-make-fixing-3
-    slice-relend-prefix-make-fixing
+    array-borrow-prefix-prices
     slice-aggregate-make-fixing-4
-    make-fixing-requires
-    same-length-4
-    same-length-5
-    same-length-6
-    same-length-7
-    same-length-8
+    (λ c κs. search needs) (λ c. search needs)
     returns-2)

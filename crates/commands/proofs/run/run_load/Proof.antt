@@ -1,34 +1,19 @@
 -- The lists hold the words of the text, and a command that is broken is not made.
-use mathlib.Core.Path.{_≡_, sym, _∙_, ap}
+use mathlib.Core.Path.{sym, _∙_, ap}
 use Prim.Native.Nat.{_≤_}
 use lib.Seq.{length-take-le}
 use Rattle.numbers.specs.Sizes.{mostDistributors, sectorPlaces}
+use Rattle.numbers.proofs.ListLaws.{Front}
 use Rattle.journal.specs.Command.{loadAfter}
 use Rattle.journal.specs.declared.command.Command.the-variants.{Load}
 use Rattle.journal.specs.declared.command.LoadRead.{LoadRead}
 use Rattle.journal.proofs.CommandLaws.{load-present-most, load-charges-most, load-balances-most}
-use Rattle.numbers.proofs.ListLaws.{Front}
 use Rattle.journal.proofs.ListLaws.{words-first, signed-words-first}
-use Rattle.commands.proofs.ReplayLaws.{presentWords, chargeWords, balanceWords, ledger-kept}
 use Rattle.commands.proofs.AnswerLaws.{command-broken, command-made}
+use Rattle.commands.proofs.ReplayLaws.{presentWords, chargeWords, balanceWords, ledger-kept}
 use borrow.Author.Needs.{needs}
 use Rattle.commands.proofs.run.run_load.Statement.{statement}
 use Rattle.commands.proofs.run.run_load.Tie as tie
-
-slice-aggregate-read-load : tie.Need-slice-aggregate-read-load
-slice-aggregate-read-load c = search needs
-
-slice-aggregate-read-load-2 : tie.Need-slice-aggregate-read-load-2
-slice-aggregate-read-load-2 c = search needs
-
-slice-aggregate-read-load-3 : tie.Need-slice-aggregate-read-load-3
-slice-aggregate-read-load-3 c = search needs
-
-read-load-requires : tie.Need-read-load-requires
-read-load-requires c κs = search needs
-
-unanswered-requires : tie.Need-unanswered-requires
-unanswered-requires c κs = search needs
 
 -- what was read stands first in the lists
 module _ (d : tie.After-read-load) where
@@ -87,12 +72,6 @@ load-requires c κs =
       ),
     )
 
-write-loading-requires : tie.Need-write-loading-requires
-write-loading-requires c κs = search needs
-
-same-length : tie.Need-same-length
-same-length c = search needs
-
 returns-2 : tie.Need-returns-2
 returns-2 c =
     let w = c .before .before in
@@ -107,11 +86,7 @@ pub run-load-spec : {M : Type 1} → statement M
 run-load-spec =
     tie.close
     (tie.spec
-    slice-aggregate-read-load
-    slice-aggregate-read-load-2
-    slice-aggregate-read-load-3
-    read-load-requires
-    unanswered-requires
+    (λ c. search needs) (λ c. search needs) (λ c. search needs) (λ c κs. search needs) (λ c κs. search needs)
     returns
     array-share-prefix-present
     slice-aggregate-load
@@ -120,6 +95,5 @@ run-load-spec =
     array-share-prefix-balances
     slice-aggregate-load-3
     load-requires
-    write-loading-requires
-    same-length
+    (λ c κs. search needs) (λ c. search needs)
     returns-2)

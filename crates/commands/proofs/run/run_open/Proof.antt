@@ -1,7 +1,7 @@
 -- A command that is broken is not made.
-use mathlib.Core.Path.{_≡_, _∙_, ap}
-use Rattle.journal.specs.declared.cursor.NumberRead.{NumberRead}
+use mathlib.Core.Path.{_∙_, ap}
 use Rattle.journal.specs.declared.command.Command.the-variants.{Open}
+use Rattle.journal.specs.declared.cursor.NumberRead.{NumberRead}
 use Rattle.ledger.specs.Ledger.{openingOf}
 use Rattle.ledger.specs.declared.open.Opening.{Opening}
 use Rattle.text.specs.Buffer.{bufferOf, written}
@@ -11,24 +11,9 @@ use borrow.Author.Needs.{needs}
 use Rattle.commands.proofs.run.run_open.Statement.{statement}
 use Rattle.commands.proofs.run.run_open.Tie as tie
 
-next-number-requires : tie.Need-next-number-requires
-next-number-requires c κs = search needs
-
-unanswered-requires : tie.Need-unanswered-requires
-unanswered-requires c κs = search needs
-
 returns : tie.Need-returns
 returns c =
     command-broken Open _ _ _ _ (ap (λ (r : NumberRead). r .next) (c .before .before .before .next-number .ensures)) (c .before .if1 .taken) _ (c .unanswered .ensures) _
-
-open-requires : tie.Need-open-requires
-open-requires c κs = search needs
-
-write-opening-requires : tie.Need-write-opening-requires
-write-opening-requires c κs = search needs
-
-same-length : tie.Need-same-length
-same-length c = search needs
 
 returns-2 : tie.Need-returns-2
 returns-2 c =
@@ -45,10 +30,7 @@ pub run-open-spec : {M : Type 1} → statement M
 run-open-spec =
     tie.close
     (tie.spec
-    next-number-requires
-    unanswered-requires
+    (λ c κs. search needs) (λ c κs. search needs)
     returns
-    open-requires
-    write-opening-requires
-    same-length
+    (λ c κs. search needs) (λ c κs. search needs) (λ c. search needs)
     returns-2)
