@@ -8,7 +8,7 @@ use Rattle.journal.specs.declared.command.Command.the-variants.{Open, Fix, Sett
 use Rattle.commands.specs.Replay.{stepOf, answerOf, stepAfter, answerAfter, CommandMade, CommandAnswered}
 use Rattle.commands.specs.declared.run.Answered.{Answered}
 use Rattle.commands.proofs.ReplayLaws.{read-within}
-use Rattle.commands.proofs.AnswerLaws.{command-made, unknown-made, end-made, save-whole, answer-read}
+use Rattle.commands.proofs.AnswerLaws.{command-made, nothing-made, save-whole, answer-read}
 use borrow.Author.Needs.{needs}
 use Rattle.commands.proofs.run.run_command.Statement.{statement}
 use Rattle.commands.proofs.run.run_command.Tie as tie
@@ -80,7 +80,10 @@ same-length : tie.Need-same-length
 same-length c = search needs
 
 returns : tie.Need-returns
-returns c = told (c .before .before .before .before .before .before .before) Open (c .before .before .before .before .enum-told .given .1) _ _ (c .before .before .run-open .ensures)
+returns c =
+    let r = c .before .before in
+    let t = r .before .before in
+    told (t .before .before .before) Open (t .enum-told .given .1) _ _ (r .run-open .ensures)
 
 same-length-2 : tie.Need-same-length-2
 same-length-2 c = search needs
@@ -98,7 +101,10 @@ same-length-6 : tie.Need-same-length-6
 same-length-6 c = search needs
 
 returns-2 : tie.Need-returns-2
-returns-2 c = told (c .before .before .before .before .before .before .before .before .before .before .before .before .before .before .before .before .before .before) Fix (c .before .before .before .before .before .before .before .before .before .before .before .before .before .before .before .enum-told2 .given .1) _ _ (c .before .before .before .before .before .before .before .before .before .run-fix .ensures)
+returns-2 c =
+    let r = c .before .before .before .before .before .before .before .before .before in
+    let t = r .before .before .before .before .before .before in
+    told (t .before .before .before) Fix (t .enum-told2 .given .1) _ _ (r .run-fix .ensures)
 
 same-length-7 : tie.Need-same-length-7
 same-length-7 c = search needs
@@ -113,7 +119,10 @@ same-length-10 : tie.Need-same-length-10
 same-length-10 c = search needs
 
 returns-3 : tie.Need-returns-3
-returns-3 c = told (c .before .before .before .before .before .before .before .before .before .before .before .before .before .before .before) Settle (c .before .before .before .before .before .before .before .before .before .before .before .before .enum-told3 .given .1) _ _ (c .before .before .before .before .before .before .before .run-settle .ensures)
+returns-3 c =
+    let r = c .before .before .before .before .before .before .before in
+    let t = r .before .before .before .before .before in
+    told (t .before .before .before) Settle (t .enum-told3 .given .1) _ _ (r .run-settle .ensures)
 
 same-length-11 : tie.Need-same-length-11
 same-length-11 c = search needs
@@ -129,13 +138,16 @@ same-length-12 : tie.Need-same-length-12
 same-length-12 c = search needs
 
 returns-5 : tie.Need-returns-5
-returns-5 c = told (c .before .before .before .before .before .before .before) Load (c .before .before .before .before .enum-told5 .given .1) _ _ (c .before .before .run-load .ensures)
+returns-5 c =
+    let r = c .before .before in
+    let t = r .before .before in
+    told (t .before .before .before) Load (t .enum-told5 .given .1) _ _ (r .run-load .ensures)
 
 returns-6 : tie.Need-returns-6
-returns-6 c = told (c .before .before .before .before) Unknown (c .before .enum-told6 .given .1) _ _ (unknown-made _ _ _ _ (c .unanswered .ensures) _)
+returns-6 c = told (c .before .before .before .before) Unknown (c .before .enum-told6 .given .1) _ _ (nothing-made Unknown _ _ _ _ refl refl refl _ (c .unanswered .ensures) _)
 
 returns-7 : tie.Need-returns-7
-returns-7 c = told (c .before .before .before .before) End (c .before .enum-told7 .given .1) _ _ (end-made _ _ _ _ (c .unanswered2 .ensures) _)
+returns-7 c = told (c .before .before .before .before) End (c .before .enum-told7 .given .1) _ _ (nothing-made End _ _ _ _ refl refl refl _ (c .unanswered2 .ensures) _)
 
 pub run-command-spec : {M : Type 1} → statement M
 run-command-spec =

@@ -1,8 +1,8 @@
 -- The lists hold the words of the text, and a command that is broken is not made.
-use mathlib.Core.Path.{_≡_, sym, _∙_, ap}
+use mathlib.Core.Path.{sym, ap}
 use Prim.Native.Nat.{_≤_}
 use native.Mathlib.Omega.{arith}
-use lib.ListN.{length, take}
+use lib.ListN.{length}
 use lib.Seq.{length-take-le}
 use Rattle.journal.specs.Command.{fixAfter}
 use Rattle.journal.specs.declared.command.Command.the-variants.{Fix}
@@ -63,25 +63,25 @@ slice-reshare-prefix-make-fixing : tie.Need-slice-reshare-prefix-make-fixing
 slice-reshare-prefix-make-fixing c = seriesRead (c .before .before .before .before .before .before .before .before) .long
 
 slice-aggregate-make-fixing : tie.Need-slice-aggregate-make-fixing
-slice-aggregate-make-fixing c = sym (length-take-le _ _ (seriesRead (c .before .before .before .before .before .before .before .before .before) .long))
+slice-aggregate-make-fixing c = sym (length-take-le _ _ (slice-reshare-prefix-make-fixing (c .before)))
 
 slice-reshare-prefix-make-fixing-2 : tie.Need-slice-reshare-prefix-make-fixing-2
 slice-reshare-prefix-make-fixing-2 c = linesRead (c .before .before .before .before .before .before .before .before .before) .long
 
 slice-aggregate-make-fixing-2 : tie.Need-slice-aggregate-make-fixing-2
-slice-aggregate-make-fixing-2 c = sym (length-take-le _ _ (linesRead (c .before .before .before .before .before .before .before .before .before .before) .long))
+slice-aggregate-make-fixing-2 c = sym (length-take-le _ _ (slice-reshare-prefix-make-fixing-2 (c .before)))
 
 slice-reshare-prefix-make-fixing-3 : tie.Need-slice-reshare-prefix-make-fixing-3
 slice-reshare-prefix-make-fixing-3 c = sectorsRead (c .before .before .before .before .before .before .before .before .before .before) .long
 
 slice-aggregate-make-fixing-3 : tie.Need-slice-aggregate-make-fixing-3
-slice-aggregate-make-fixing-3 c = sym (length-take-le _ _ (sectorsRead (c .before .before .before .before .before .before .before .before .before .before .before) .long))
+slice-aggregate-make-fixing-3 c = sym (length-take-le _ _ (slice-reshare-prefix-make-fixing-3 (c .before)))
 
 slice-relend-prefix-make-fixing : tie.Need-slice-relend-prefix-make-fixing
 slice-relend-prefix-make-fixing c = pricesLong (c .before .before .before .before .before .before .before .before .before .before .before)
 
 slice-aggregate-make-fixing-4 : tie.Need-slice-aggregate-make-fixing-4
-slice-aggregate-make-fixing-4 c = sym (length-take-le _ _ (pricesLong (c .before .before .before .before .before .before .before .before .before .before .before .before)))
+slice-aggregate-make-fixing-4 c = sym (length-take-le _ _ (slice-relend-prefix-make-fixing (c .before)))
 
 make-fixing-requires : tie.Need-make-fixing-requires
 make-fixing-requires c κs = search needs

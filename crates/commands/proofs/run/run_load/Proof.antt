@@ -1,5 +1,5 @@
 -- The lists hold the words of the text, and a command that is broken is not made.
-use mathlib.Core.Path.{_≡_, sym, _∙_, ap}
+use mathlib.Core.Path.{sym, _∙_, ap}
 use Prim.Native.Nat.{_≤_}
 use lib.Seq.{length-take-le}
 use Rattle.numbers.specs.Sizes.{mostDistributors, sectorPlaces}
@@ -63,19 +63,19 @@ array-share-prefix-present : tie.Need-array-share-prefix-present
 array-share-prefix-present c = presences (c .before .before .before .before .before) .long
 
 slice-aggregate-load : tie.Need-slice-aggregate-load
-slice-aggregate-load c = sym (length-take-le _ _ (presences (c .before .before .before .before .before .before) .long))
+slice-aggregate-load c = sym (length-take-le _ _ (array-share-prefix-present (c .before)))
 
 array-share-prefix-charges : tie.Need-array-share-prefix-charges
 array-share-prefix-charges c = charged (c .before .before .before .before .before .before) .long
 
 slice-aggregate-load-2 : tie.Need-slice-aggregate-load-2
-slice-aggregate-load-2 c = sym (length-take-le _ _ (charged (c .before .before .before .before .before .before .before) .long))
+slice-aggregate-load-2 c = sym (length-take-le _ _ (array-share-prefix-charges (c .before)))
 
 array-share-prefix-balances : tie.Need-array-share-prefix-balances
 array-share-prefix-balances c = balanced (c .before .before .before .before .before .before .before) .long
 
 slice-aggregate-load-3 : tie.Need-slice-aggregate-load-3
-slice-aggregate-load-3 c = sym (length-take-le _ _ (balanced (c .before .before .before .before .before .before .before .before) .long))
+slice-aggregate-load-3 c = sym (length-take-le _ _ (array-share-prefix-balances (c .before)))
 
 load-requires : tie.Need-load-requires
 load-requires c κs =

@@ -1,5 +1,5 @@
 -- A command that is broken is not made.
-use mathlib.Core.Path.{_≡_, _∙_, ap}
+use mathlib.Core.Path.{_∙_, ap}
 use Rattle.journal.specs.declared.cursor.NumberRead.{NumberRead}
 use Rattle.journal.specs.declared.command.Command.the-variants.{Open}
 use Rattle.ledger.specs.Ledger.{openingOf}

@@ -1,8 +1,8 @@
 -- The lists hold the words of the text, and a command that is broken is not made.
-use mathlib.Core.Path.{_≡_, sym, _∙_, ap}
+use mathlib.Core.Path.{sym, ap}
 use Prim.Native.Nat.{_≤_}
 use native.Mathlib.Omega.{arith}
-use lib.ListN.{length, take}
+use lib.ListN.{length}
 use lib.Seq.{length-take-le}
 use Rattle.journal.specs.Command.{settleAfter}
 use Rattle.journal.specs.declared.command.Command.the-variants.{Settle}
@@ -56,19 +56,19 @@ slice-reshare-prefix-make-settlement : tie.Need-slice-reshare-prefix-make-settle
 slice-reshare-prefix-make-settlement c = readingsRead (c .before .before .before .before .before .before) .long
 
 slice-aggregate-make-settlement : tie.Need-slice-aggregate-make-settlement
-slice-aggregate-make-settlement c = sym (length-take-le _ _ (readingsRead (c .before .before .before .before .before .before .before) .long))
+slice-aggregate-make-settlement c = sym (length-take-le _ _ (slice-reshare-prefix-make-settlement (c .before)))
 
 slice-reshare-prefix-make-settlement-2 : tie.Need-slice-reshare-prefix-make-settlement-2
 slice-reshare-prefix-make-settlement-2 c = lossesRead (c .before .before .before .before .before .before .before) .long
 
 slice-aggregate-make-settlement-2 : tie.Need-slice-aggregate-make-settlement-2
-slice-aggregate-make-settlement-2 c = sym (length-take-le _ _ (lossesRead (c .before .before .before .before .before .before .before .before) .long))
+slice-aggregate-make-settlement-2 c = sym (length-take-le _ _ (slice-reshare-prefix-make-settlement-2 (c .before)))
 
 slice-relend-prefix-make-settlement : tie.Need-slice-relend-prefix-make-settlement
 slice-relend-prefix-make-settlement c = transfersLong (c .before .before .before .before .before .before .before .before)
 
 slice-aggregate-make-settlement-3 : tie.Need-slice-aggregate-make-settlement-3
-slice-aggregate-make-settlement-3 c = sym (length-take-le _ _ (transfersLong (c .before .before .before .before .before .before .before .before .before)))
+slice-aggregate-make-settlement-3 c = sym (length-take-le _ _ (slice-relend-prefix-make-settlement (c .before)))
 
 make-settlement-requires : tie.Need-make-settlement-requires
 make-settlement-requires c κs = search needs
