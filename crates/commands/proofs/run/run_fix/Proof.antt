@@ -57,7 +57,7 @@ module _ (d : tie.After-read-fix) where
 
 returns : tie.Need-returns
 returns c =
-    command-broken Fix _ _ _ _ (ap (λ (r : FixRead). r .next) (c .before .before .before .before .before .before .before .before .before .read-fix .ensures .0)) (c .before .if1 .taken) _ (c .unanswered .ensures) _
+    command-broken Fix _ _ _ _ (ap (λ r. r .next) (c .before .before .before .before .before .before .before .before .before .read-fix .ensures .0)) (c .before .if1 .taken) _ (c .unanswered .ensures) _
 
 slice-reshare-prefix-make-fixing : tie.Need-slice-reshare-prefix-make-fixing
 slice-reshare-prefix-make-fixing c = seriesRead (c .before .before .before .before .before .before .before .before) .long
@@ -108,7 +108,7 @@ returns-2 c =
     let made =
     fixing-made _ _ (d .read-fix .result) (d .read-fix .ensures .0) _ _ _ _ (seriesRead d .first) (linesRead d .first) (sectorsRead d .first)
     (length-take-le _ _ (pricesLong d)) in
-    call-made Fix _ _ _ _ (ap (λ (r : FixRead). r .next) (d .read-fix .ensures .0)) (m .before .before .before .before .before .before .if1 .left) _ _ _ _ _ (m .make-fixing .ensures)
+    call-made Fix _ _ _ _ (ap (λ r. r .next) (d .read-fix .ensures .0)) (m .before .before .before .before .before .before .if1 .left) _ _ _ _ _ (m .make-fixing .ensures)
     (ap (fixingLedger (s d .args .ledger)) made)
     (ap (fixingAnswered (s d .args .ledger)) made)
 

@@ -57,7 +57,7 @@ module _ (d : tie.After-read-load) where
 
 returns : tie.Need-returns
 returns c =
-    command-broken Load _ _ _ _ (ap (λ (r : LoadRead). r .next) (c .before .before .before .before .before .before .read-load .ensures .0)) (c .before .if1 .taken) _ (c .unanswered .ensures) _
+    command-broken Load _ _ _ _ (ap (λ r. r .next) (c .before .before .before .before .before .before .read-load .ensures .0)) (c .before .if1 .taken) _ (c .unanswered .ensures) _
 
 array-share-prefix-present : tie.Need-array-share-prefix-present
 array-share-prefix-present c = presences (c .before .before .before .before .before) .long
@@ -98,7 +98,7 @@ returns-2 c =
     let w = c .before .before in
     let l = w .before .before in
     let d = l .before .before .before .before .before .before .before .before .before in
-    command-made Load _ _ _ _ (ap (λ (r : LoadRead). r .next) (d .read-load .ensures .0)) (l .before .before .before .before .if1 .left) _
+    command-made Load _ _ _ _ (ap (λ r. r .next) (d .read-load .ensures .0)) (l .before .before .before .before .if1 .left) _
     (l .load .ensures
     ∙ ledger-kept _ _ (d .read-load .result) (d .read-load .ensures .0) _ _ _ (presences d .first) (charged d .first) (balanced d .first))
     _ _ _ (w .write-loading .ensures)

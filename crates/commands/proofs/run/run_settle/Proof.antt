@@ -50,7 +50,7 @@ module _ (d : tie.After-read-settle) where
 
 returns : tie.Need-returns
 returns c =
-    command-broken Settle _ _ _ _ (ap (λ (r : SettleRead). r .next) (c .before .before .before .before .before .before .before .read-settle .ensures .0)) (c .before .if1 .taken) _ (c .unanswered .ensures) _
+    command-broken Settle _ _ _ _ (ap (λ r. r .next) (c .before .before .before .before .before .before .before .read-settle .ensures .0)) (c .before .if1 .taken) _ (c .unanswered .ensures) _
 
 slice-reshare-prefix-make-settlement : tie.Need-slice-reshare-prefix-make-settlement
 slice-reshare-prefix-make-settlement c = readingsRead (c .before .before .before .before .before .before) .long
@@ -92,7 +92,7 @@ returns-2 c =
     let made =
     settlement-made _ _ (d .read-settle .result) (d .read-settle .ensures .0) _ _ _ (readingsRead d .first) (lossesRead d .first)
     (length-take-le _ _ (transfersLong d)) in
-    call-made Settle _ _ _ _ (ap (λ (r : SettleRead). r .next) (d .read-settle .ensures .0)) (m .before .before .before .before .before .if1 .left) _ _ _ _ _ (m .make-settlement .ensures)
+    call-made Settle _ _ _ _ (ap (λ r. r .next) (d .read-settle .ensures .0)) (m .before .before .before .before .before .if1 .left) _ _ _ _ _ (m .make-settlement .ensures)
     (ap (settlementLedger (s d .args .ledger)) made)
     (ap (settlementAnswered (s d .args .ledger)) made)
 
