@@ -1,7 +1,7 @@
 -- Laws of a command's answer: it stands whole in the buffer, and it is the answer of the command that was read.
 -- Assumes nothing.
 use mathlib.Core.Path.{_≡_, refl, sym, _∙_, ap}
-use mathlib.Core.Bool.{Bool, true, false, cond}
+use mathlib.Core.Bool.{Bool, true, false}
 use mathlib.Core.List.{List, []}
 use Prim.Native.Nat.{ℕ, _≤_}
 use native.Mathlib.Omega.{arith}
@@ -26,7 +26,7 @@ use Rattle.answers.proofs.SizeLaws.{opening-size, loading-size, fixing-size, se
 use Rattle.commands.specs.Replay.{unwritten, fixingCall, settlementCall, commandNext, commandLedger, stepOf, stepAfter, fixingAnswered, settlementAnswered, commandAnswer, answerOf, answerAfter, longestAnswer, unansweredBy, CallMade, CommandMade, CommandAnswered}
 use Rattle.commands.specs.declared.call.Made.{Made}
 use Rattle.commands.specs.declared.run.Answered.{Answered}
-use Rattle.commands.proofs.ReplayLaws.{stepBy, step-broken, step-made, step-unknown, step-end, step-read}
+use Rattle.commands.proofs.ReplayLaws.{stepBy, step-broken, step-made, step-read}
 
 abbrev pub answeredBy : Ledger → Cursor → ℕ → Answered
 answeredBy book next count = record { step = stepBy book next; count = count }
@@ -67,19 +67,14 @@ module _ (command : Command) (text : List ℕ) (cursor : Cursor) (book : Ledger)
   call-made b made after answer found left m h k =
       command-made b (made .ledger) (m .booked ∙ h) (made .count) found left (m .answered ∙ ap (λ text. written text (bufferOf found 0)) k)
 
--- commands that leave the ledger and answer nothing
-none : (b : Bool) → cond {A = List ℕ} b [] [] ≡ []
-none true = refl
-none false = refl
-
-module _ (text : List ℕ) (cursor : Cursor) (book : Ledger) (made : Answered) (e : made ≡ unansweredBy book cursor) (found : List ℕ) where
-  pub unknown-made : CommandMade made (stepOf Unknown text cursor book) (answerOf Unknown text cursor book) found found
-  unfolding answerOf written
-  unknown-made = rw e (record { stepped = step-unknown text cursor book; answered = rw (none (cursor .broken)) refl })
-
-  pub end-made : CommandMade made (stepOf End text cursor book) (answerOf End text cursor book) found found
-  unfolding answerOf written
-  end-made = rw e (record { stepped = step-end text cursor book; answered = rw (none (cursor .broken)) refl })
+  -- one that leaves the ledger and answers nothing, broken or not
+  pub nothing-made : commandLedger command text cursor book ≡ book → commandAnswer command text cursor book ≡ [] → (made : Answered) → made ≡ unansweredBy book next → (found : List ℕ) → CommandMade made (stepOf command text cursor book) (answerOf command text cursor book) found found
+  unfolding written
+  nothing-made l a made h found = go (next .broken) refl
+    where
+      go : (b : Bool) → next .broken ≡ b → CommandMade made (stepOf command text cursor book) (answerOf command text cursor book) found found
+      go true b = command-broken b made h found
+      go false b = rw h (command-made b book (sym l) 0 found found (rw a refl))
 
 -- the command that was read
 module _ (text : List ℕ) (at : ℕ) (book : Ledger) (read : CommandRead) (e : read ≡ commandAfter text at) where

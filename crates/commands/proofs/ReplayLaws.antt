@@ -47,20 +47,6 @@ module _ (command : Command) (text : List ℕ) (cursor : Cursor) (book : Ledger)
   unfolding stepOf
   step-made b after h = rw (← e, b, h)
 
--- commands that leave the ledger
-module _ (text : List ℕ) (cursor : Cursor) (book : Ledger) where
-  same : (b : Bool) → stepBy book cursor ≡ stepBy (cond b book book) cursor
-  same true = refl
-  same false = refl
-
-  pub step-unknown : stepBy book cursor ≡ stepOf Unknown text cursor book
-  unfolding stepOf
-  step-unknown = same (cursor .broken)
-
-  pub step-end : stepBy book cursor ≡ stepOf End text cursor book
-  unfolding stepOf
-  step-end = same (cursor .broken)
-
 -- the step of the command that was read
 module _ (text : List ℕ) (at : ℕ) (book : Ledger) (read : CommandRead) (e : read ≡ commandAfter text at) where
   pub step-read : (command : Command) → read .command ≡ command → (step : Step) → step ≡ stepOf command text (read .next) book → step ≡ stepAfter text at book
@@ -122,7 +108,7 @@ module _ (text : List ℕ) (cursor : Cursor) (read : LoadRead) (e : read ≡ loa
   ledger-kept present charges balances p q r = rw (p, q, r, e)
 
 -- every command reads on
-pub command-onward : (command : Command) (text : List ℕ) (cursor : Cursor) → cursor .at ≤ length text → Onward text cursor (commandNext command text cursor)
+command-onward : (command : Command) (text : List ℕ) (cursor : Cursor) → cursor .at ≤ length text → Onward text cursor (commandNext command text cursor)
 command-onward Open text cursor p = onward-number text cursor p mostWord
 command-onward Fix text cursor p = onward-fix text cursor p
 command-onward Settle text cursor p = onward-settle text cursor p
@@ -159,10 +145,10 @@ module _ (text : List ℕ) (at : ℕ) (p : at < length text) where
     unfolding stepAfter stepOf
     onward = command-onward (commandAfter text at .command) text (commandAfter text at .next) (command-within text at (omega arith))
 
-    pub step-within : stepAfter text at book .next .at ≤ length text
+    step-within : stepAfter text at book .next .at ≤ length text
     step-within = onward .within
 
-    pub step-later : stepAfter text at book .next .broken ≡ false → at < stepAfter text at book .next .at
+    step-later : stepAfter text at book .next .broken ≡ false → at < stepAfter text at book .next .at
     step-later h = omega (arith, word-later (onward .whole h), onward .later h)
 
 -- past the text no command is made

@@ -47,7 +47,7 @@ module _ (text : List ℕ) (start : ℕ) where
   value-up k zero = rw zero-add (omega arith)
   value-up k (suc m) = rw suc-add (omega (arith, value-up k m))
 
-  pub value-grows : (k m : ℕ) → k ≤ m → digitsValue k text start ≤ digitsValue m text start
+  value-grows : (k m : ℕ) → k ≤ m → digitsValue k text start ≤ digitsValue m text start
   value-grows k m p =
       let e : m - k + k ≡ m = omega arith in
       rw e at (value-up k (m - k))

@@ -7,7 +7,7 @@ use Rattle.journal.specs.declared.command.Command.the-variants.{Open, Fix, Sett
 use Rattle.journal.specs.declared.command.Command.{Command}
 use Rattle.commands.specs.Replay.{stepOf, answerOf, stepAfter, answerAfter, CommandMade, CommandAnswered}
 use Rattle.commands.specs.declared.run.Answered.{Answered}
-use Rattle.commands.proofs.AnswerLaws.{command-made, unknown-made, end-made, save-whole, answer-read}
+use Rattle.commands.proofs.AnswerLaws.{command-made, nothing-made, save-whole, answer-read}
 use Rattle.commands.proofs.ReplayLaws.{read-within}
 use borrow.Author.Needs.{needs}
 use Rattle.commands.proofs.run.run_command.Statement.{statement}
@@ -60,10 +60,10 @@ returns-5 : tie.Need-returns-5
 returns-5 c = told (c .before .before .before .before .before .before .before) Load (c .before .before .before .before .enum-told5 .given .1) _ _ (c .before .before .run-load .ensures)
 
 returns-6 : tie.Need-returns-6
-returns-6 c = told (c .before .before .before .before) Unknown (c .before .enum-told6 .given .1) _ _ (unknown-made _ _ _ _ (c .unanswered .ensures) _)
+returns-6 c = told (c .before .before .before .before) Unknown (c .before .enum-told6 .given .1) _ _ (nothing-made Unknown _ _ _ _ refl refl refl _ (c .unanswered .ensures) _)
 
 returns-7 : tie.Need-returns-7
-returns-7 c = told (c .before .before .before .before) End (c .before .enum-told7 .given .1) _ _ (end-made _ _ _ _ (c .unanswered2 .ensures) _)
+returns-7 c = told (c .before .before .before .before) End (c .before .enum-told7 .given .1) _ _ (nothing-made End _ _ _ _ refl refl refl _ (c .unanswered2 .ensures) _)
 
 pub run-command-spec : {M : Type 1} → statement M
 run-command-spec =

@@ -42,38 +42,38 @@ module _ (d : tie.After-read-fix) where
 
 returns : tie.Need-returns
 returns c =
-    command-broken Fix _ _ _ _ (ap (λ (r : FixRead). r .next) (c .before .before .before .before .before .before .read-fix .ensures .0)) (c .before .if1 .taken) _ (c .unanswered .ensures) _
+    command-broken Fix _ _ _ _ (ap (λ r. r .next) (c .before .before .before .before .before .before .read-fix .ensures .0)) (c .before .if1 .taken) _ (c .unanswered .ensures) _
 
 array-share-prefix-series : tie.Need-array-share-prefix-series
 array-share-prefix-series c = seriesRead (c .before .before .before .before .before) .long
 
 slice-aggregate-make-fixing : tie.Need-slice-aggregate-make-fixing
-slice-aggregate-make-fixing c = sym (length-take-le _ _ (seriesRead (c .before .before .before .before .before .before) .long))
+slice-aggregate-make-fixing c = sym (length-take-le _ _ (array-share-prefix-series (c .before)))
 
 array-share-prefix-lines : tie.Need-array-share-prefix-lines
 array-share-prefix-lines c = linesRead (c .before .before .before .before .before .before) .long
 
 slice-aggregate-make-fixing-2 : tie.Need-slice-aggregate-make-fixing-2
-slice-aggregate-make-fixing-2 c = sym (length-take-le _ _ (linesRead (c .before .before .before .before .before .before .before) .long))
+slice-aggregate-make-fixing-2 c = sym (length-take-le _ _ (array-share-prefix-lines (c .before)))
 
 array-share-prefix-sectors : tie.Need-array-share-prefix-sectors
 array-share-prefix-sectors c = sectorsRead (c .before .before .before .before .before .before .before) .long
 
 slice-aggregate-make-fixing-3 : tie.Need-slice-aggregate-make-fixing-3
-slice-aggregate-make-fixing-3 c = sym (length-take-le _ _ (sectorsRead (c .before .before .before .before .before .before .before .before) .long))
+slice-aggregate-make-fixing-3 c = sym (length-take-le _ _ (array-share-prefix-sectors (c .before)))
 
 array-borrow-prefix-prices : tie.Need-array-borrow-prefix-prices
 array-borrow-prefix-prices c = pricesLong (c .before .before .before .before .before .before .before .before)
 
 slice-aggregate-make-fixing-4 : tie.Need-slice-aggregate-make-fixing-4
-slice-aggregate-make-fixing-4 c = sym (length-take-le _ _ (pricesLong (c .before .before .before .before .before .before .before .before .before)))
+slice-aggregate-make-fixing-4 c = sym (length-take-le _ _ (array-borrow-prefix-prices (c .before)))
 
 returns-2 : tie.Need-returns-2
 returns-2 c =
     let m = c .before .before .before .before in
     let d = m .before .before .before .before .before .before .before .before .before .before .before in
     let made = fixing-made _ _ (read d) (d .read-fix .ensures .0) _ _ _ _ (seriesRead d .first) (linesRead d .first) (sectorsRead d .first) (length-take-le _ _ (pricesLong d)) in
-    call-made Fix _ _ _ _ (ap (λ (r : FixRead). r .next) (d .read-fix .ensures .0)) (m .before .before .before .before .before .before .if1 .left) _ _ _ _ _ (m .make-fixing .ensures)
+    call-made Fix _ _ _ _ (ap (λ r. r .next) (d .read-fix .ensures .0)) (m .before .before .before .before .before .before .if1 .left) _ _ _ _ _ (m .make-fixing .ensures)
     (ap (fixingLedger (s d .args .ledger)) made)
     (ap (fixingAnswered (s d .args .ledger)) made)
 

@@ -42,25 +42,25 @@ module _ (d : tie.After-read-load) where
 
 returns : tie.Need-returns
 returns c =
-    command-broken Load _ _ _ _ (ap (λ (r : LoadRead). r .next) (c .before .before .before .before .before .before .read-load .ensures .0)) (c .before .if1 .taken) _ (c .unanswered .ensures) _
+    command-broken Load _ _ _ _ (ap (λ r. r .next) (c .before .before .before .before .before .before .read-load .ensures .0)) (c .before .if1 .taken) _ (c .unanswered .ensures) _
 
 array-share-prefix-present : tie.Need-array-share-prefix-present
 array-share-prefix-present c = presences (c .before .before .before .before .before) .long
 
 slice-aggregate-load : tie.Need-slice-aggregate-load
-slice-aggregate-load c = sym (length-take-le _ _ (presences (c .before .before .before .before .before .before) .long))
+slice-aggregate-load c = sym (length-take-le _ _ (array-share-prefix-present (c .before)))
 
 array-share-prefix-charges : tie.Need-array-share-prefix-charges
 array-share-prefix-charges c = charged (c .before .before .before .before .before .before) .long
 
 slice-aggregate-load-2 : tie.Need-slice-aggregate-load-2
-slice-aggregate-load-2 c = sym (length-take-le _ _ (charged (c .before .before .before .before .before .before .before) .long))
+slice-aggregate-load-2 c = sym (length-take-le _ _ (array-share-prefix-charges (c .before)))
 
 array-share-prefix-balances : tie.Need-array-share-prefix-balances
 array-share-prefix-balances c = balanced (c .before .before .before .before .before .before .before) .long
 
 slice-aggregate-load-3 : tie.Need-slice-aggregate-load-3
-slice-aggregate-load-3 c = sym (length-take-le _ _ (balanced (c .before .before .before .before .before .before .before .before) .long))
+slice-aggregate-load-3 c = sym (length-take-le _ _ (array-share-prefix-balances (c .before)))
 
 load-requires : tie.Need-load-requires
 load-requires c κs =
@@ -77,7 +77,7 @@ returns-2 c =
     let w = c .before .before in
     let l = w .before .before in
     let d = l .before .before .before .before .before .before .before .before .before in
-    command-made Load _ _ _ _ (ap (λ (r : LoadRead). r .next) (d .read-load .ensures .0)) (l .before .before .before .before .if1 .left) _
+    command-made Load _ _ _ _ (ap (λ r. r .next) (d .read-load .ensures .0)) (l .before .before .before .before .if1 .left) _
     (l .load .ensures
     ∙ ledger-kept _ _ (d .read-load .result) (d .read-load .ensures .0) _ _ _ (presences d .first) (charged d .first) (balanced d .first))
     _ _ _ (w .write-loading .ensures)

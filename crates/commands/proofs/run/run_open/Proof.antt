@@ -1,11 +1,6 @@
 -- A command that is broken is not made.
 use mathlib.Core.Path.{_∙_, ap}
 use Rattle.journal.specs.declared.command.Command.the-variants.{Open}
-use Rattle.journal.specs.declared.cursor.NumberRead.{NumberRead}
-use Rattle.ledger.specs.Ledger.{openingOf}
-use Rattle.ledger.specs.declared.open.Opening.{Opening}
-use Rattle.text.specs.Buffer.{bufferOf, written}
-use Rattle.answers.specs.Answer.{openingText}
 use Rattle.commands.proofs.AnswerLaws.{command-broken, command-made}
 use borrow.Author.Needs.{needs}
 use Rattle.commands.proofs.run.run_open.Statement.{statement}
@@ -13,18 +8,15 @@ use Rattle.commands.proofs.run.run_open.Tie as tie
 
 returns : tie.Need-returns
 returns c =
-    command-broken Open _ _ _ _ (ap (λ (r : NumberRead). r .next) (c .before .before .before .next-number .ensures)) (c .before .if1 .taken) _ (c .unanswered .ensures) _
+    command-broken Open _ _ _ _ (ap (λ n. n .next) (c .before .before .before .next-number .ensures)) (c .before .if1 .taken) _ (c .unanswered .ensures) _
 
 returns-2 : tie.Need-returns-2
 returns-2 c =
     let w = c .before .before in
     let o = w .before .before .before in
     let r = o .before .before .before in
-    command-made Open _ _ _ _ (ap (λ (n : NumberRead). n .next) (r .next-number .ensures)) (o .before .if1 .left) _
-    (ap (λ (p : Opening). p .ledger) (o .open .ensures) ∙ ap (λ (n : NumberRead). openingOf (n .value) .ledger) (r .next-number .ensures))
-    _ _ _
-    (w .write-opening .ensures
-    ∙ ap (λ answer. written (openingText answer) (bufferOf (r .before .before .before .args .buffer .now) 0)) (ap (λ (p : Opening). p .answer) (o .open .ensures) ∙ ap (λ (n : NumberRead). openingOf (n .value) .answer) (r .next-number .ensures)))
+    command-made Open _ _ _ _ (ap (λ n. n .next) (r .next-number .ensures)) (o .before .if1 .left) _ (rw (o .open .ensures, r .next-number .ensures)) _ _ _
+    (w .write-opening .ensures ∙ rw (o .open .ensures, r .next-number .ensures))
 
 pub run-open-spec : {M : Type 1} → statement M
 run-open-spec =

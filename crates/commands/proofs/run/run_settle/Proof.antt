@@ -38,32 +38,32 @@ module _ (d : tie.After-read-settle) where
 
 returns : tie.Need-returns
 returns c =
-    command-broken Settle _ _ _ _ (ap (λ (r : SettleRead). r .next) (c .before .before .before .before .before .read-settle .ensures .0)) (c .before .if1 .taken) _ (c .unanswered .ensures) _
+    command-broken Settle _ _ _ _ (ap (λ r. r .next) (c .before .before .before .before .before .read-settle .ensures .0)) (c .before .if1 .taken) _ (c .unanswered .ensures) _
 
 array-share-prefix-readings : tie.Need-array-share-prefix-readings
 array-share-prefix-readings c = readingsRead (c .before .before .before .before) .long
 
 slice-aggregate-make-settlement : tie.Need-slice-aggregate-make-settlement
-slice-aggregate-make-settlement c = sym (length-take-le _ _ (readingsRead (c .before .before .before .before .before) .long))
+slice-aggregate-make-settlement c = sym (length-take-le _ _ (array-share-prefix-readings (c .before)))
 
 array-share-prefix-losses : tie.Need-array-share-prefix-losses
 array-share-prefix-losses c = lossesRead (c .before .before .before .before .before) .long
 
 slice-aggregate-make-settlement-2 : tie.Need-slice-aggregate-make-settlement-2
-slice-aggregate-make-settlement-2 c = sym (length-take-le _ _ (lossesRead (c .before .before .before .before .before .before) .long))
+slice-aggregate-make-settlement-2 c = sym (length-take-le _ _ (array-share-prefix-losses (c .before)))
 
 array-borrow-prefix-transfers : tie.Need-array-borrow-prefix-transfers
 array-borrow-prefix-transfers c = transfersLong (c .before .before .before .before .before .before)
 
 slice-aggregate-make-settlement-3 : tie.Need-slice-aggregate-make-settlement-3
-slice-aggregate-make-settlement-3 c = sym (length-take-le _ _ (transfersLong (c .before .before .before .before .before .before .before)))
+slice-aggregate-make-settlement-3 c = sym (length-take-le _ _ (array-borrow-prefix-transfers (c .before)))
 
 returns-2 : tie.Need-returns-2
 returns-2 c =
     let m = c .before .before .before .before in
     let d = m .before .before .before .before .before .before .before .before .before in
     let made = settlement-made _ _ (read d) (d .read-settle .ensures .0) _ _ _ (readingsRead d .first) (lossesRead d .first) (length-take-le _ _ (transfersLong d)) in
-    call-made Settle _ _ _ _ (ap (λ (r : SettleRead). r .next) (d .read-settle .ensures .0)) (m .before .before .before .before .before .if1 .left) _ _ _ _ _ (m .make-settlement .ensures)
+    call-made Settle _ _ _ _ (ap (λ r. r .next) (d .read-settle .ensures .0)) (m .before .before .before .before .before .if1 .left) _ _ _ _ _ (m .make-settlement .ensures)
     (ap (settlementLedger (s d .args .ledger)) made)
     (ap (settlementAnswered (s d .args .ledger)) made)
 
