@@ -47,9 +47,6 @@ module _ (c : tie.After-line-word2 Inv-loop μ-loop) where
   sums : linesAmount price (l .loop .j) (s .args .lines .now) (c .before .line-word .result) ≤ l .loop .j * 20000000000000
   sums = amounts-most (s .args .n) (s .args .t2) (s .args .lines .now) (s .args .count) (s .pre) (c .before .line-word .result) (l .loop .j) (omega arith)
 
-no-amounts-requires : tie.Need-no-amounts-requires Inv-loop μ-loop
-no-amounts-requires c κs = search needs
-
 loop-holds : tie.Need-loop-holds Inv-loop μ-loop
 loop-holds c =
     let s = c .before .before in
@@ -87,9 +84,6 @@ array-set-from-amounts c = below (c .before .before .before)
 add-j : tie.Need-add-j Inv-loop μ-loop
 add-j c = omega (arith, s (c .before .before .before) .pre .own .checked .lent .few)
 
-loop-less : tie.Need-loop-less Inv-loop μ-loop
-loop-less c = omega arith
-
 loop-again : tie.Need-loop-again Inv-loop μ-loop
 loop-again c =
     let w = c .before .before .before in (
@@ -112,7 +106,7 @@ add-up-spec =
     (tie.spec
     Inv-loop
     μ-loop
-    no-amounts-requires
+    (λ c κs. search needs)
     loop-holds
     line-word-requires
     line-word-requires-2
@@ -124,6 +118,6 @@ add-up-spec =
     mul-amounts
     array-set-from-amounts
     add-j
-    loop-less
+    (λ c. omega arith)
     loop-again
     returns)

@@ -30,34 +30,13 @@ abbrev μ-loop : tie.MeasureT-loop
 unread : (c : tie.After-struct-told Inv-loop μ-loop) → toZ w64 (ofZ w64 (getD (c .before .before .before .before .before .args .t2) (c .before .before .before .loop .i) noMoney .0)) ≡ getD (c .before .before .before .before .before .args .t2) (c .before .before .before .loop .i) noMoney .0
 unread c = toZ-ofZ (sfits-of (c .struct-told .given .0 .1))
 
-no-energies-requires : tie.Need-no-energies-requires Inv-loop μ-loop
-no-energies-requires c κs = search needs
-
 loop-holds : tie.Need-loop-holds Inv-loop μ-loop
 loop-holds c = (omega arith, c .no-energies .ensures ∙ filled-none 40 noEnergy (energyIn (c .before .args .t2)))
-
-mul-amount : tie.Need-mul-amount Inv-loop μ-loop
-mul-amount c = omega arith
-
-array-copy-out-amount : tie.Need-array-copy-out-amount Inv-loop μ-loop
-array-copy-out-amount c = omega arith
 
 magnitude-requires : tie.Need-magnitude-requires Inv-loop μ-loop
 magnitude-requires c κs =
     let l = c .before .before .before in
     rw (unread c) (l .before .before .pre .1 (l .loop .i) (omega arith))
-
-mul-energies : tie.Need-mul-energies Inv-loop μ-loop
-mul-energies c = omega arith
-
-array-set-from-energies : tie.Need-array-set-from-energies Inv-loop μ-loop
-array-set-from-energies c = omega arith
-
-add-i : tie.Need-add-i Inv-loop μ-loop
-add-i c = omega arith
-
-loop-less : tie.Need-loop-less Inv-loop μ-loop
-loop-less c = omega arith
 
 loop-again : tie.Need-loop-again Inv-loop μ-loop
 loop-again c =
@@ -80,14 +59,10 @@ as-energies-spec =
     (tie.spec
     Inv-loop
     μ-loop
-    no-energies-requires
+    (λ c κs. search needs)
     loop-holds
-    mul-amount
-    array-copy-out-amount
+    (λ c. omega arith) (λ c. omega arith)
     magnitude-requires
-    mul-energies
-    array-set-from-energies
-    add-i
-    loop-less
+    (λ c. omega arith) (λ c. omega arith) (λ c. omega arith) (λ c. omega arith)
     loop-again
     returns)

@@ -30,9 +30,6 @@ module _ (c : tie.After-add-up) (i : ℕ) where
       ap (λ (xs : List Energy). getD xs i noEnergy .0) (s .pre .1 .0)
       ∙ energy-at (s .args .n) (s .args .count) (s .args .lines .now) i p (s .pre .0 .own .few)
 
-add-up-requires : tie.Need-add-up-requires
-add-up-requires c κs = search needs
-
 divide-amounts-requires : tie.Need-divide-amounts-requires
 divide-amounts-requires c κs =
     let s = c .before .before in
@@ -52,4 +49,7 @@ returns c =
     (λ i p. ap₂ {C = PesoPrice} (λ x y. record { 0 = halfUp x y }) (amount (c .before) i (omega (arith, s .pre .0 .own .few))) (energy (c .before) i p))
 
 pub averages-spec : {M : Type 1} → statement M
-averages-spec = tie.close (tie.spec add-up-requires divide-amounts-requires returns)
+averages-spec = tie.close (tie.spec
+    (λ c κs. search needs)
+    divide-amounts-requires
+    returns)

@@ -75,9 +75,6 @@ array-set-from-averages c = omega (arith, c .before .before .before .before .bef
 add-i : tie.Need-add-i Inv-loop μ-loop
 add-i c = omega (arith, c .before .before .before .before .before .before .before .pre .few)
 
-loop-less : tie.Need-loop-less Inv-loop μ-loop
-loop-less c = omega arith
-
 loop-again : tie.Need-loop-again Inv-loop μ-loop
 loop-again c =
     let l = c .before .before .before .before .before in
@@ -111,6 +108,6 @@ divide-amounts-spec =
     mul-averages
     array-set-from-averages
     add-i
-    loop-less
+    (λ c. omega arith)
     loop-again
     returns)

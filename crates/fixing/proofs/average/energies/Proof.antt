@@ -25,9 +25,6 @@ amount c i p =
     ∙ ap (λ (prices : List PesoPrice). linesAmount (λ j. getD prices j noPrice .0) (s .args .count) (s .args .lines .now) i) (c .before .price-of-one .ensures)
     ∙ ones-add (s .args .n) (s .args .lines .now) (s .args .count) (s .pre) i
 
-price-of-one-requires : tie.Need-price-of-one-requires
-price-of-one-requires c κs = search needs
-
 add-up-requires : tie.Need-add-up-requires
 add-up-requires c κs =
     let s = c .before .before in
@@ -50,4 +47,8 @@ returns c =
 
 pub energies-spec : {M : Type 1} → statement M
 energies-spec =
-    tie.close (tie.spec price-of-one-requires add-up-requires as-energies-requires returns)
+    tie.close (tie.spec
+    (λ c κs. search needs)
+    add-up-requires
+    as-energies-requires
+    returns)

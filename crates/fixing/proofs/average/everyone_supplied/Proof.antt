@@ -3,7 +3,7 @@ use mathlib.Core.List.{List}
 use Rattle.numbers.specs.declared.units.Energy.{Energy}
 use mathlib.Core.Path.{_≡_, refl, sym, _∙_, ap}
 use mathlib.Core.Bool.{true}
-use Prim.Native.Nat.{ℕ, _+_, _-_, _≤_, _<_}
+use Prim.Native.Nat.{_-_, _≤_}
 use lib.ListN.{getD}
 use Rattle.numbers.specs.Bounded.{allBelow}
 use Rattle.numbers.specs.Units.{noEnergy}
@@ -48,9 +48,6 @@ returns c =
 add-i : tie.Need-add-i Inv-loop μ-loop
 add-i c = omega (arith, c .before .before .before .pre .0 .few)
 
-loop-less : tie.Need-loop-less Inv-loop μ-loop
-loop-less c = omega arith
-
 loop-again : tie.Need-loop-again Inv-loop μ-loop
 loop-again c =
     let l = c .before .before in
@@ -78,6 +75,6 @@ everyone-supplied-spec =
     element-copy-out-if1
     returns
     add-i
-    loop-less
+    (λ c. omega arith)
     loop-again
     returns-2)

@@ -29,12 +29,6 @@ module _ (c : tie.After-struct-told) where
       is-fits code (s .args .amount .0 +ℤ pos (s .args .price .0 * s .args .energy .0)) sum
       (omega (arith, size-add (s .args .amount .0) (pos (s .args .price .0 * s .args .energy .0)), s .pre))
 
-mul-difference : tie.Need-mul-difference
-mul-difference c = search needs
-
-difference-requires : tie.Need-difference-requires
-difference-requires c κs = search needs
-
 add-t6 : tie.Need-add-t6
 add-t6 c = fits c
 
@@ -42,4 +36,7 @@ returns : tie.Need-returns
 returns c = ap {B = Pesos} (λ (z : ℤ). record { 0 = z }) (toZ-ofZ (fits c) ∙ sum c)
 
 pub plus-line-spec : {M : Type 1} → statement M
-plus-line-spec = tie.close (tie.spec mul-difference difference-requires add-t6 returns)
+plus-line-spec = tie.close (tie.spec
+    (λ c. search needs) (λ c κs. search needs)
+    add-t6
+    returns)

@@ -51,34 +51,16 @@ passed-nine c =
       supplied = sym (c .before .everyone-supplied .ensures) ∙ not-false _ (c .if4 .left);
     }
 
-input-in-range-requires : tie.Need-input-in-range-requires
-input-in-range-requires c κs = search needs
-
-refused-requires : tie.Need-refused-requires
-refused-requires c κs = search needs
-
 returns : tie.Need-returns
 returns c =
     let t = c .before in
     c .refused .ensures ∙ fixing-six _ (input (start (t .before))) (sym (t .before .input-in-range .ensures) ∙ not-true _ (t .if1 .taken))
-
-values-in-range-requires : tie.Need-values-in-range-requires
-values-in-range-requires c κs = search needs
-
-refused-requires-2 : tie.Need-refused-requires-2
-refused-requires-2 c κs = search needs
 
 returns-2 : tie.Need-returns-2
 returns-2 c =
     let t = c .before in
     let e = t .before .before in
     c .refused2 .ensures ∙ fixing-seven _ (input (start (e .before))) (passed-six e) (sym (t .before .values-in-range .ensures) ∙ not-true _ (t .if2 .taken))
-
-sectors-allowed-requires : tie.Need-sectors-allowed-requires
-sectors-allowed-requires c κs = search needs
-
-refused-requires-3 : tie.Need-refused-requires-3
-refused-requires-3 c κs = search needs
 
 returns-3 : tie.Need-returns-3
 returns-3 c =
@@ -91,9 +73,6 @@ energies-requires c κs = own c
 
 everyone-supplied-requires : tie.Need-everyone-supplied-requires
 everyone-supplied-requires c κs = (own (c .before), c .energies .ensures)
-
-refused-requires-4 : tie.Need-refused-requires-4
-refused-requires-4 c κs = search needs
 
 returns-4 : tie.Need-returns-4
 returns-4 c =
@@ -112,18 +91,15 @@ pub fix-input-spec : {M : Type 1} → statement M
 fix-input-spec =
     tie.close
     (tie.spec
-    input-in-range-requires
-    refused-requires
+    (λ c κs. search needs) (λ c κs. search needs)
     returns
-    values-in-range-requires
-    refused-requires-2
+    (λ c κs. search needs) (λ c κs. search needs)
     returns-2
-    sectors-allowed-requires
-    refused-requires-3
+    (λ c κs. search needs) (λ c κs. search needs)
     returns-3
     energies-requires
     everyone-supplied-requires
-    refused-requires-4
+    (λ c κs. search needs)
     returns-4
     price-lines-requires
     returns-5)

@@ -30,20 +30,11 @@ module _ (r : tie.After-reference-prices) where
   listed : r .reference-prices .result .prices ≡ inputReferences (input (start filled))
   listed = references-told (input (start filled)) _ (filled .fill .ensures) _ (r .reference-prices .ensures)
 
-fill-requires : tie.Need-fill-requires
-fill-requires c κs = search needs
-
 search-months-requires : tie.Need-search-months-requires
 search-months-requires c κs =
     let s = start c in
     let ok = s .pre .0 in
     (checked-own _ (input s) ok .checked, (checked-table _ (input s) ok _ (c .fill .ensures), checked-market _ (input s) ok .start))
-
-enum-known-line : tie.Need-enum-known-line
-enum-known-line c = search needs
-
-refused-requires : tie.Need-refused-requires
-refused-requires c κs = search needs
 
 enum-told : tie.Need-enum-told
 enum-told c = search needs
@@ -59,15 +50,6 @@ reference-prices-requires c κs =
         (checked-market _ (input s) ok, sym (m .search-months .ensures) ∙ c .enum-told .given .1),
       ),
     )
-
-enum-known-search : tie.Need-enum-known-search
-enum-known-search c = search needs
-
-refused-requires-2 : tie.Need-refused-requires-2
-refused-requires-2 c κs = search needs
-
-enum-told-2 : tie.Need-enum-told-2
-enum-told-2 c = search needs
 
 accepted-requires : tie.Need-accepted-requires
 unfolding inputEnergies
@@ -100,15 +82,12 @@ pub price-lines-spec : {M : Type 1} → statement M
 price-lines-spec =
     tie.close
     (tie.spec
-    fill-requires
+    (λ c κs. search needs)
     search-months-requires
-    enum-known-line
-    refused-requires
+    (λ c. search needs) (λ c κs. search needs)
     enum-told
     reference-prices-requires
-    enum-known-search
-    refused-requires-2
-    enum-told-2
+    (λ c. search needs) (λ c κs. search needs) (λ c. search needs)
     accepted-requires
     returns
     returns-2

@@ -8,15 +8,6 @@ use borrow.Author.Needs.{needs}
 use Rattle.fixing.proofs.fix.refused.Statement.{statement}
 use Rattle.fixing.proofs.fix.refused.Tie as tie
 
-no-prices-requires : tie.Need-no-prices-requires
-no-prices-requires c κs = search needs
-
-no-charge-list-requires : tie.Need-no-charge-list-requires
-no-charge-list-requires c κs = search needs
-
-no-charges-requires : tie.Need-no-charges-requires
-no-charges-requires c κs = search needs
-
 returns : tie.Need-returns
 unfolding refusedFixing noPrices
 returns c =
@@ -24,4 +15,6 @@ returns c =
 
 pub refused-spec : {M : Type 1} → statement M
 refused-spec =
-    tie.close (tie.spec no-prices-requires no-charge-list-requires no-charges-requires returns)
+    tie.close (tie.spec
+    (λ c κs. search needs) (λ c κs. search needs) (λ c κs. search needs)
+    returns)

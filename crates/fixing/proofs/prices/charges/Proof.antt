@@ -30,35 +30,11 @@ no-charge-list-requires c κs = tt
 loop-holds : tie.Need-loop-holds Inv-loop μ-loop
 loop-holds c = (omega arith, c .no-charge-list .ensures ∙ filled-none 40 (pos 0) _)
 
-mul-average : tie.Need-mul-average Inv-loop μ-loop
-mul-average c = omega arith
-
-element-copy-out-average : tie.Need-element-copy-out-average Inv-loop μ-loop
-element-copy-out-average c = omega arith
-
-mul-price : tie.Need-mul-price Inv-loop μ-loop
-mul-price c = omega arith
-
-element-copy-out-price : tie.Need-element-copy-out-price Inv-loop μ-loop
-element-copy-out-price c = omega arith
-
 difference-requires : tie.Need-difference-requires Inv-loop μ-loop
 difference-requires c κs =
     let l = c .before in
     let s = l .before .before in
     omega (arith, s .pre .1 .0 (l .loop .i) (omega arith), s .pre .1 .1 (l .loop .i) (omega arith))
-
-mul-charges : tie.Need-mul-charges Inv-loop μ-loop
-mul-charges c = omega arith
-
-array-set-from-charges : tie.Need-array-set-from-charges Inv-loop μ-loop
-array-set-from-charges c = omega arith
-
-add-i : tie.Need-add-i Inv-loop μ-loop
-add-i c = omega arith
-
-loop-less : tie.Need-loop-less Inv-loop μ-loop
-loop-less c = omega arith
 
 loop-again : tie.Need-loop-again Inv-loop μ-loop
 loop-again c =
@@ -83,14 +59,8 @@ charges-spec =
     μ-loop
     no-charge-list-requires
     loop-holds
-    mul-average
-    element-copy-out-average
-    mul-price
-    element-copy-out-price
+    (λ c. omega arith) (λ c. omega arith) (λ c. omega arith) (λ c. omega arith)
     difference-requires
-    mul-charges
-    array-set-from-charges
-    add-i
-    loop-less
+    (λ c. omega arith) (λ c. omega arith) (λ c. omega arith) (λ c. omega arith)
     loop-again
     returns)

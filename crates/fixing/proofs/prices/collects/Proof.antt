@@ -26,18 +26,6 @@ loop-holds : tie.Need-loop-holds Inv-loop μ-loop
 unfolding sumBelow
 loop-holds c = (omega arith, refl)
 
-mul-total : tie.Need-mul-total Inv-loop μ-loop
-mul-total c = omega arith
-
-element-copy-out-total : tie.Need-element-copy-out-total Inv-loop μ-loop
-element-copy-out-total c = omega arith
-
-mul-total-2 : tie.Need-mul-total-2 Inv-loop μ-loop
-mul-total-2 c = omega arith
-
-element-copy-out-total-2 : tie.Need-element-copy-out-total-2 Inv-loop μ-loop
-element-copy-out-total-2 c = omega arith
-
 -- what is paid so far, with the distributor at hand
 module _ (c : tie.In-loop Inv-loop μ-loop) where
   abbrev l : tie.At-loop Inv-loop μ-loop
@@ -54,12 +42,6 @@ mul-total-3 c = omega (arith, paid c)
 
 add-total : tie.Need-add-total Inv-loop μ-loop
 add-total c = omega (arith, paid c)
-
-add-i : tie.Need-add-i Inv-loop μ-loop
-add-i c = omega arith
-
-loop-less : tie.Need-loop-less Inv-loop μ-loop
-loop-less c = omega arith
 
 loop-again : tie.Need-loop-again Inv-loop μ-loop
 loop-again c = (omega arith, rw sum-step (omega arith))
@@ -89,14 +71,10 @@ collects-spec =
     Inv-loop
     μ-loop
     loop-holds
-    mul-total
-    element-copy-out-total
-    mul-total-2
-    element-copy-out-total-2
+    (λ c. omega arith) (λ c. omega arith) (λ c. omega arith) (λ c. omega arith)
     mul-total-3
     add-total
-    add-i
-    loop-less
+    (λ c. omega arith) (λ c. omega arith)
     loop-again
     difference-requires
     returns)

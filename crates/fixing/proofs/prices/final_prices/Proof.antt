@@ -27,29 +27,11 @@ no-prices-requires c κs = tt
 loop-holds : tie.Need-loop-holds Inv-loop μ-loop
 loop-holds c = (omega arith, c .no-prices .ensures ∙ filled-none 40 noPrice _)
 
-mul-average : tie.Need-mul-average Inv-loop μ-loop
-mul-average c = omega arith
-
-array-copy-out-average : tie.Need-array-copy-out-average Inv-loop μ-loop
-array-copy-out-average c = omega arith
-
 final-price-requires : tie.Need-final-price-requires Inv-loop μ-loop
 final-price-requires c κs =
     let l = c .before .before in
     let s = l .before .before in
     (s .pre .1 .1 (l .loop .i) (omega arith), s .pre .1 .0)
-
-mul-finals : tie.Need-mul-finals Inv-loop μ-loop
-mul-finals c = omega arith
-
-array-set-from-finals : tie.Need-array-set-from-finals Inv-loop μ-loop
-array-set-from-finals c = omega arith
-
-add-i : tie.Need-add-i Inv-loop μ-loop
-add-i c = omega arith
-
-loop-less : tie.Need-loop-less Inv-loop μ-loop
-loop-less c = omega arith
 
 loop-again : tie.Need-loop-again Inv-loop μ-loop
 loop-again c =
@@ -73,12 +55,8 @@ final-prices-spec =
     μ-loop
     no-prices-requires
     loop-holds
-    mul-average
-    array-copy-out-average
+    (λ c. omega arith) (λ c. omega arith)
     final-price-requires
-    mul-finals
-    array-set-from-finals
-    add-i
-    loop-less
+    (λ c. omega arith) (λ c. omega arith) (λ c. omega arith) (λ c. omega arith)
     loop-again
     returns)

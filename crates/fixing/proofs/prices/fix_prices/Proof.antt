@@ -21,9 +21,6 @@ use native.Mathlib.Omega.{arith}
 abbrev d : tie.Start → Distributors
 d s = distributors (s .args .n) (s .args .averages) (s .args .energies)
 
-collects-requires : tie.Need-collects-requires
-collects-requires c κs = search needs
-
 energy-total-requires : tie.Need-energy-total-requires
 unfolding totalEnergy
 energy-total-requires c κs = (c .before .pre .few, c .before .pre .total)
@@ -121,7 +118,7 @@ pub fix-prices-spec : {M : Type 1} → statement M
 fix-prices-spec =
     tie.close
     (tie.spec
-    collects-requires
+    (λ c κs. search needs)
     energy-total-requires
     magnitude-requires
     mul-floor

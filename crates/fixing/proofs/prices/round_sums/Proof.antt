@@ -32,18 +32,6 @@ abbrev μ-loop : tie.MeasureT-loop
 loop-holds : tie.Need-loop-holds Inv-loop μ-loop
 loop-holds c = (omega arith, sums-none _ _ _)
 
-mul-average : tie.Need-mul-average Inv-loop μ-loop
-mul-average c = omega arith
-
-element-copy-out-average : tie.Need-element-copy-out-average Inv-loop μ-loop
-element-copy-out-average c = omega arith
-
-mul-energy : tie.Need-mul-energy Inv-loop μ-loop
-mul-energy c = omega arith
-
-element-copy-out-energy : tie.Need-element-copy-out-energy Inv-loop μ-loop
-element-copy-out-energy c = omega arith
-
 -- the distributor at hand, and the sums so far with it
 module _ (c : tie.In-loop Inv-loop μ-loop) where
   abbrev l : tie.At-loop Inv-loop μ-loop
@@ -86,12 +74,6 @@ add-inside c = omega (arith, energy (begun (c .before)))
 add-outside : tie.Need-add-outside Inv-loop μ-loop
 add-outside c = omega (arith, energy (begun (c .before)))
 
-add-i : tie.Need-add-i Inv-loop μ-loop
-add-i c = omega arith
-
-loop-less : tie.Need-loop-less Inv-loop μ-loop
-loop-less c = omega arith
-
 loop-again : tie.Need-loop-again Inv-loop μ-loop
 loop-again c =
     let l = begun (c .before) .before in
@@ -129,17 +111,13 @@ round-sums-spec =
     Inv-loop
     μ-loop
     loop-holds
-    mul-average
-    element-copy-out-average
-    mul-energy
-    element-copy-out-energy
+    (λ c. omega arith) (λ c. omega arith) (λ c. omega arith) (λ c. omega arith)
     add-if1
     mul-paid
     add-paid
     add-inside
     add-outside
-    add-i
-    loop-less
+    (λ c. omega arith) (λ c. omega arith)
     loop-again
     difference-requires
     returns)

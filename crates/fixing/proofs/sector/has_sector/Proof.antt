@@ -1,7 +1,7 @@
 -- The invariant: no sector passed is present.
 use mathlib.Core.Path.{_≡_, refl, sym, ap}
-use mathlib.Core.Bool.{Bool, true, false, not}
-use Prim.Native.Nat.{ℕ, _≤_, _-_, _+_, _*_}
+use mathlib.Core.Bool.{false, not}
+use Prim.Native.Nat.{_≤_, _-_, _+_, _*_}
 use borrow.Author.Tests.{eq-eqb, ne-eqb}
 use Rattle.numbers.specs.Bounded.{anyBelow}
 use Rattle.numbers.proofs.TestLaws.{any-more, any-holds}
@@ -20,30 +20,12 @@ loop-holds : tie.Need-loop-holds Inv-loop μ-loop
 unfolding anyBelow
 loop-holds c = (omega arith, refl)
 
-mul-if1 : tie.Need-mul-if1 Inv-loop μ-loop
-mul-if1 c = omega arith
-
-add-if1 : tie.Need-add-if1 Inv-loop μ-loop
-add-if1 c = omega arith
-
-mul-if1-2 : tie.Need-mul-if1-2 Inv-loop μ-loop
-mul-if1-2 c = omega arith
-
-shared-slice-read-if1 : tie.Need-shared-slice-read-if1 Inv-loop μ-loop
-shared-slice-read-if1 c = omega arith
-
 returns : tie.Need-returns Inv-loop μ-loop
 unfolding hasSector sectorPresent
 returns c =
     let l = c .before .before .before in
     let a = l .before in
     sym (any-holds 8 (λ k. sectorPresent (a .args .sectors .now) (a .args .i * 8 + k)) (l .loop .s) (omega arith) (ap not (ne-eqb _ _ (c .if1 .taken))))
-
-add-s : tie.Need-add-s Inv-loop μ-loop
-add-s c = omega arith
-
-loop-less : tie.Need-loop-less Inv-loop μ-loop
-loop-less c = omega arith
 
 loop-again : tie.Need-loop-again Inv-loop μ-loop
 unfolding sectorPresent
@@ -66,12 +48,8 @@ has-sector-spec =
     Inv-loop
     μ-loop
     loop-holds
-    mul-if1
-    add-if1
-    mul-if1-2
-    shared-slice-read-if1
+    (λ c. omega arith) (λ c. omega arith) (λ c. omega arith) (λ c. omega arith)
     returns
-    add-s
-    loop-less
+    (λ c. omega arith) (λ c. omega arith)
     loop-again
     returns-2)

@@ -1,8 +1,7 @@
 -- Empty lists are filled with nothing.
-use mathlib.Core.Path.{_≡_, ap₂}
-use mathlib.Core.Bool.{Bool, false}
-use mathlib.Core.List.{List, []}
-use lib.IntN.{ℤ, pos}
+use mathlib.Core.Path.{ap₂}
+use mathlib.Core.Bool.{false}
+use lib.IntN.{pos}
 use Rattle.numbers.proofs.ListLaws.{filled-none}
 use Rattle.fixing.specs.Sector.{chargedPlaces, noCharges}
 use Rattle.fixing.specs.declared.sector.SectorCharges.{SectorCharges}

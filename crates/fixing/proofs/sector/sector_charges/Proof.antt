@@ -50,12 +50,6 @@ mul-charge c = omega (arith, own (c .before) (omega arith))
 array-copy-out-charge : tie.Need-array-copy-out-charge Inv-loop μ-loop
 array-copy-out-charge c = omega (arith, own (c .before) (omega arith), start (c .before) .pre .few)
 
-mul-factor : tie.Need-mul-factor Inv-loop μ-loop
-mul-factor c = omega arith
-
-shared-slice-read-factor : tie.Need-shared-slice-read-factor Inv-loop μ-loop
-shared-slice-read-factor c = omega arith
-
 element-write-force : tie.Need-element-write-force Inv-loop μ-loop
 element-write-force c = few (c .before .before .before) (omega arith)
 
@@ -81,9 +75,6 @@ element-set-from-force c = few (c .before .before .before .before) (omega arith)
 
 add-k : tie.Need-add-k Inv-loop μ-loop
 add-k c = omega (arith, few (c .before .before .before .before) (omega arith))
-
-loop-less : tie.Need-loop-less Inv-loop μ-loop
-loop-less c = omega arith
 
 loop-again : tie.Need-loop-again Inv-loop μ-loop
 unfolding sectorPresent
@@ -115,13 +106,12 @@ sector-charges-spec =
     loop-holds
     mul-charge
     array-copy-out-charge
-    mul-factor
-    shared-slice-read-factor
+    (λ c. omega arith) (λ c. omega arith)
     element-write-force
     sector-charge-requires
     mul-t11
     element-set-from-force
     add-k
-    loop-less
+    (λ c. omega arith)
     loop-again
     returns)

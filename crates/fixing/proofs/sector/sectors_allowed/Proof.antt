@@ -4,12 +4,6 @@ use borrow.Author.Needs.{needs}
 use Rattle.fixing.proofs.sector.sectors_allowed.Statement.{statement}
 use Rattle.fixing.proofs.sector.sectors_allowed.Tie as tie
 
-factors-allowed-requires : tie.Need-factors-allowed-requires
-factors-allowed-requires c κs = search needs
-
-all-have-sectors-requires : tie.Need-all-have-sectors-requires
-all-have-sectors-requires c κs = search needs
-
 returns : tie.Need-returns
 unfolding sectorsAllowed
 returns c = rw (← c .before .before .factors-allowed .ensures, c .before .if1 .taken) (c .all-have-sectors .ensures)
@@ -20,4 +14,7 @@ returns-2 c = rw (← c .before .factors-allowed .ensures, c .if1 .left)
 
 pub sectors-allowed-spec : {M : Type 1} → statement M
 sectors-allowed-spec =
-    tie.close (tie.spec factors-allowed-requires all-have-sectors-requires returns returns-2)
+    tie.close (tie.spec
+    (λ c κs. search needs) (λ c κs. search needs)
+    returns
+    returns-2)

@@ -6,9 +6,6 @@ use borrow.Author.Needs.{needs}
 use Rattle.ledger.proofs.fix.in_turn.Statement.{statement}
 use Rattle.ledger.proofs.fix.in_turn.Tie as tie
 
-add-result : tie.Need-add-result
-add-result c = search needs
-
 returns : tie.Need-returns
 unfolding fixingTurn anySettled
 returns c = rw (le-leb _ _ (c .before .if1 .taken), eq-eqb _ _ (c .if2 .taken))
@@ -22,4 +19,8 @@ unfolding fixingTurn anySettled
 returns-3 c = rw (lt-leb _ _ (c .if1 .left))
 
 pub in-turn-spec : {M : Type 1} → statement M
-in-turn-spec = tie.close (tie.spec add-result returns returns-2 returns-3)
+in-turn-spec = tie.close (tie.spec
+    (λ c. search needs)
+    returns
+    returns-2
+    returns-3)

@@ -5,15 +5,6 @@ use borrow.Author.Needs.{needs}
 use Rattle.ledger.proofs.fix.lengths_right.Statement.{statement}
 use Rattle.ledger.proofs.fix.lengths_right.Tie as tie
 
-lines-whole-requires : tie.Need-lines-whole-requires
-lines-whole-requires c κs = search needs
-
-mul-if3 : tie.Need-mul-if3
-mul-if3 c = search needs
-
-mul-result : tie.Need-mul-result
-mul-result c = search needs
-
 returns : tie.Need-returns
 unfolding fixingLengths
 returns c = let w = c .before .before in
@@ -36,4 +27,9 @@ returns-4 c = rw (ne-eqb _ _ (c .if1 .left))
 pub lengths-right-spec : {M : Type 1} → statement M
 lengths-right-spec =
     tie.close
-    (tie.spec lines-whole-requires mul-if3 mul-result returns returns-2 returns-3 returns-4)
+    (tie.spec
+    (λ c κs. search needs) (λ c. search needs) (λ c. search needs)
+    returns
+    returns-2
+    returns-3
+    returns-4)

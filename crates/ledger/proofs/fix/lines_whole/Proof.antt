@@ -5,9 +5,6 @@ use borrow.Author.Needs.{needs}
 use Rattle.ledger.proofs.fix.lines_whole.Statement.{statement}
 use Rattle.ledger.proofs.fix.lines_whole.Tie as tie
 
-is-between-requires : tie.Need-is-between-requires
-is-between-requires c κs = search needs
-
 returns : tie.Need-returns
 unfolding linesWhole
 returns c = rw (eq-eqb _ _ (c .before .if1 .taken)) (c .is-between .ensures)
@@ -17,4 +14,7 @@ unfolding linesWhole
 returns-2 c = rw (ne-eqb _ _ (c .if1 .left))
 
 pub lines-whole-spec : {M : Type 1} → statement M
-lines-whole-spec = tie.close (tie.spec is-between-requires returns returns-2)
+lines-whole-spec = tie.close (tie.spec
+    (λ c κs. search needs)
+    returns
+    returns-2)

@@ -9,29 +9,11 @@ use borrow.Author.Needs.{needs, sfits-of}
 use Rattle.ledger.proofs.fix.price_word.Statement.{statement}
 use Rattle.ledger.proofs.fix.price_word.Tie as tie
 
-mul-difference : tie.Need-mul-difference
-mul-difference c = search needs
-
-element-copy-out-difference : tie.Need-element-copy-out-difference
-element-copy-out-difference c = search needs
-
 difference-requires : tie.Need-difference-requires
 difference-requires c κs = (omega (arith, c .before .pre .0 .average (c .before .args .k / 3)), omega arith)
 
-mul-difference-2 : tie.Need-mul-difference-2
-mul-difference-2 c = search needs
-
-element-copy-out-difference-2 : tie.Need-element-copy-out-difference-2
-element-copy-out-difference-2 c = search needs
-
 difference-requires-2 : tie.Need-difference-requires-2
 difference-requires-2 c κs = (omega (arith, c .before .pre .0 .final (c .before .args .k / 3)), omega arith)
-
-mul-result : tie.Need-mul-result
-mul-result c = search needs
-
-array-copy-out-result : tie.Need-array-copy-out-result
-array-copy-out-result c = search needs
 
 returns : tie.Need-returns
 unfolding priceWord
@@ -51,14 +33,11 @@ pub price-word-spec : {M : Type 1} → statement M
 price-word-spec =
     tie.close
     (tie.spec
-    mul-difference
-    element-copy-out-difference
+    (λ c. search needs) (λ c. search needs)
     difference-requires
-    mul-difference-2
-    element-copy-out-difference-2
+    (λ c. search needs) (λ c. search needs)
     difference-requires-2
-    mul-result
-    array-copy-out-result
+    (λ c. search needs) (λ c. search needs)
     returns
     returns-2
     returns-3)

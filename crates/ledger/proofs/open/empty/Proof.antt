@@ -9,9 +9,6 @@ use borrow.Author.Needs.{needs}
 use Rattle.ledger.proofs.open.empty.Statement.{statement}
 use Rattle.ledger.proofs.open.empty.Tie as tie
 
-no-charges-requires : tie.Need-no-charges-requires
-no-charges-requires c κs = search needs
-
 returns : tie.Need-returns
 unfolding emptyLedger noBalances
 returns c = ap₂ {C = Ledger}
@@ -19,4 +16,6 @@ returns c = ap₂ {C = Ledger}
     (c .no-charges .ensures) (money-none (λ i. pos 0))
 
 pub empty-spec : {M : Type 1} → statement M
-empty-spec = tie.close (tie.spec no-charges-requires returns)
+empty-spec = tie.close (tie.spec
+    (λ c κs. search needs)
+    returns)

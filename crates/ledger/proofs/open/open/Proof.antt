@@ -17,16 +17,10 @@ unfolding between
 wrong c =
     ⊎-elim (λ w. rw (le-leb _ _ (w .0 .taken), w .1 .left)) (λ w. rw (lt-leb _ _ (w .left))) (c .if1 .came)
 
-empty-requires : tie.Need-empty-requires
-empty-requires c κs = search needs
-
 returns : tie.Need-returns
 unfolding openingOf between
 returns c = rw (le-leb _ _ (c .before .before .if1 .taken), c .before .if2 .taken)
     (ap {B = Opening} (λ l. record { answer = Opened; ledger = l }) (c .empty .ensures))
-
-empty-requires-2 : tie.Need-empty-requires-2
-empty-requires-2 c κs = search needs
 
 returns-2 : tie.Need-returns-2
 unfolding openingOf
@@ -34,4 +28,8 @@ returns-2 c =
     rw (wrong (c .before)) (ap {B = Opening} (λ l. record { answer = WrongCount; ledger = l }) (c .empty2 .ensures))
 
 pub open-spec : {M : Type 1} → statement M
-open-spec = tie.close (tie.spec empty-requires returns empty-requires-2 returns-2)
+open-spec = tie.close (tie.spec
+    (λ c κs. search needs)
+    returns
+    (λ c κs. search needs)
+    returns-2)

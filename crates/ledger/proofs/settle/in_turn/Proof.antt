@@ -10,9 +10,6 @@ returns : tie.Need-returns
 unfolding settlementTurn anySettled
 returns c = rw (lt-leb _ _ (c .if1 .taken))
 
-add-result : tie.Need-add-result
-add-result c = search needs
-
 returns-2 : tie.Need-returns-2
 unfolding settlementTurn anySettled
 returns-2 c = rw (le-leb _ _ (c .before .if1 .left), ne-eqb _ _ (c .if2 .taken))
@@ -26,4 +23,9 @@ unfolding settlementTurn anySettled
 returns-4 c = rw (le-leb _ _ (c .before .before .if1 .left), eq-eqb _ _ (c .before .if2 .left), c .if3 .left)
 
 pub in-turn-spec : {M : Type 1} → statement M
-in-turn-spec = tie.close (tie.spec returns add-result returns-2 returns-3 returns-4)
+in-turn-spec = tie.close (tie.spec
+    returns
+    (λ c. search needs)
+    returns-2
+    returns-3
+    returns-4)

@@ -5,12 +5,6 @@ use borrow.Author.Needs.{needs}
 use Rattle.ledger.proofs.settle.lengths_right.Statement.{statement}
 use Rattle.ledger.proofs.settle.lengths_right.Tie as tie
 
-mul-if1 : tie.Need-mul-if1
-mul-if1 c = search needs
-
-mul-if2 : tie.Need-mul-if2
-mul-if2 c = search needs
-
 returns : tie.Need-returns
 unfolding settlementLengths
 returns c = rw (eq-eqb _ _ (c .before .if1 .taken), eq-eqb _ _ (c .if2 .taken))
@@ -24,4 +18,8 @@ unfolding settlementLengths
 returns-3 c = rw (ne-eqb _ _ (c .if1 .left))
 
 pub lengths-right-spec : {M : Type 1} → statement M
-lengths-right-spec = tie.close (tie.spec mul-if1 mul-if2 returns returns-2 returns-3)
+lengths-right-spec = tie.close (tie.spec
+    (λ c. search needs) (λ c. search needs)
+    returns
+    returns-2
+    returns-3)

@@ -53,9 +53,6 @@ module _ (c : tie.Else2) where
 billing-in-range-requires : tie.Need-billing-in-range-requires
 billing-in-range-requires c κs = lists-due _ (call (start c)) (start c .pre)
 
-refused-requires : tie.Need-refused-requires
-refused-requires c κs = search needs
-
 returns : tie.Need-returns
 returns c =
     let t = c .before in
@@ -71,9 +68,6 @@ positions-requires c κs =
 
 positions-in-range-requires : tie.Need-positions-in-range-requires
 positions-in-range-requires c κs = omega (arith, sound-few (book (begun (twelve c))) (begun (twelve c) .pre .whole))
-
-refused-requires-2 : tie.Need-refused-requires-2
-refused-requires-2 c κs = search needs
 
 returns-2 : tie.Need-returns-2
 returns-2 c =
@@ -97,9 +91,6 @@ book-month-requires c κs =
     let s = begun (twelve (placed (c .before .before .before .before .before .before))) in
     omega (arith, sound-months (book s) (s .pre .whole))
 
-same-length : tie.Need-same-length
-same-length c = search needs
-
 returns-3 : tie.Need-returns-3
 returns-3 c =
     let w = c .before .before in
@@ -114,14 +105,14 @@ settle-month-spec =
     tie.close
     (tie.spec
     billing-in-range-requires
-    refused-requires
+    (λ c κs. search needs)
     returns
     positions-requires
     positions-in-range-requires
-    refused-requires-2
+    (λ c κs. search needs)
     returns-2
     settle-positions-requires
     write-transfers-requires
     book-month-requires
-    same-length
+    (λ c. search needs)
     returns-3)

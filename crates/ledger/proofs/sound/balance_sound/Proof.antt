@@ -30,9 +30,6 @@ settled c =
     (λ w. rw (own (c .before), w .0 .left) (sym (w .3 ∙ zero-bits (c .before .before .args .balance .0) (sfits-of (w .2 .given .0 .1)))))
     (c .if2 .came)
 
-within-size-requires : tie.Need-within-size-requires
-within-size-requires c κs = search needs
-
 returns : tie.Need-returns
 unfolding balanceTest
 returns c = let t = c .before .before in
@@ -43,4 +40,7 @@ unfolding balanceTest
 returns-2 c = rw (settled (c .before), c .if3 .left)
 
 pub balance-sound-spec : {M : Type 1} → statement M
-balance-sound-spec = tie.close (tie.spec within-size-requires returns returns-2)
+balance-sound-spec = tie.close (tie.spec
+    (λ c κs. search needs)
+    returns
+    returns-2)

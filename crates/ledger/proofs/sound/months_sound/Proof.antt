@@ -14,12 +14,6 @@ returns-2 : tie.Need-returns-2
 unfolding monthsSound anySettled
 returns-2 c = rw (le-leb _ _ (c .before .if1 .left), lt-leb _ _ (c .if2 .taken))
 
-add-if4 : tie.Need-add-if4
-add-if4 c = search needs
-
-add-if5 : tie.Need-add-if5
-add-if5 c = search needs
-
 returns-3 : tie.Need-returns-3
 unfolding monthsSound anySettled
 returns-3 c = rw (le-leb _ _ (c .before .before .if1 .left), le-leb _ _ (c .before .if2 .left), eq-eqb _ _ (c .if3 .taken))
@@ -41,4 +35,11 @@ returns-6 c = let f = c .before in
 
 pub months-sound-spec : {M : Type 1} → statement M
 months-sound-spec =
-    tie.close (tie.spec returns returns-2 add-if4 add-if5 returns-3 returns-4 returns-5 returns-6)
+    tie.close (tie.spec
+    returns
+    returns-2
+    (λ c. search needs) (λ c. search needs)
+    returns-3
+    returns-4
+    returns-5
+    returns-6)

@@ -1,6 +1,6 @@
 -- The invariant: the two flags tell whether a balance passed is above zero, and whether one is below.
-use mathlib.Core.Path.{_≡_, refl, sym, _∙_, ap, ap₂}
-use mathlib.Core.Bool.{Bool, true, not, _&&_}
+use mathlib.Core.Path.{_≡_, refl, _∙_, ap, ap₂}
+use mathlib.Core.Bool.{Bool, not, _&&_}
 use mathlib.Core.List.{List}
 use mathlib.Core.Logic.{⊎-elim}
 use Prim.Native.Nat.{ℕ, _≤_, _-_, _+_}
@@ -59,18 +59,6 @@ loop-holds : tie.Need-loop-holds Inv-loop μ-loop
 unfolding anyBelow
 loop-holds c = (omega arith, refl, refl)
 
-mul-balance : tie.Need-mul-balance Inv-loop μ-loop
-mul-balance c = omega arith
-
-array-copy-out-balance : tie.Need-array-copy-out-balance Inv-loop μ-loop
-array-copy-out-balance c = omega arith
-
-add-i : tie.Need-add-i Inv-loop μ-loop
-add-i c = omega arith
-
-loop-less : tie.Need-loop-less Inv-loop μ-loop
-loop-less c = omega arith
-
 loop-again : tie.Need-loop-again Inv-loop μ-loop
 loop-again c = (omega arith, next-above (c .before), next-below c)
 
@@ -87,9 +75,6 @@ one-sign-spec =
     Inv-loop
     μ-loop
     loop-holds
-    mul-balance
-    array-copy-out-balance
-    add-i
-    loop-less
+    (λ c. omega arith) (λ c. omega arith) (λ c. omega arith) (λ c. omega arith)
     loop-again
     returns)

@@ -28,12 +28,6 @@ charged c =
     (λ w. rw (w .0 .left) (sym (w .1 ∙ zero-bits _ (c .before .before .before .fits .charge))))
     (c .if3 .came)
 
-mul-if1 : tie.Need-mul-if1
-mul-if1 c = search needs
-
-within-size-requires : tie.Need-within-size-requires
-within-size-requires c κs = search needs
-
 returns : tie.Need-returns
 unfolding placeTest
 returns c =
@@ -53,4 +47,8 @@ returns-3 c = rw (own-place (c .before), c .if2 .left)
 pub place-sound-spec : {M : Type 1} → statement M
 place-sound-spec =
     tie.close
-    (tie.spec mul-if1 within-size-requires returns returns-2 returns-3)
+    (tie.spec
+    (λ c. search needs) (λ c κs. search needs)
+    returns
+    returns-2
+    returns-3)

@@ -35,9 +35,6 @@ unset c = sym (c .before .unset-zero .ensures) ∙ not-false _ (c .if3 .left)
 dated : (c : tie.Else4) → monthsSound (book4 (c .before) .months) (book4 (c .before) .last) (book4 (c .before) .fixed) (book4 (c .before) .month) ≡ true
 dated c = sym (c .before .months-sound .ensures) ∙ not-false _ (c .if4 .left)
 
-is-between-requires : tie.Need-is-between-requires
-is-between-requires c κs = search needs
-
 returns : tie.Need-returns
 unfolding sound
 returns c = rw (sym (c .before .is-between .ensures) ∙ not-true _ (c .if1 .taken))
@@ -49,17 +46,11 @@ returns-2 : tie.Need-returns-2
 unfolding sound
 returns-2 c = rw (counted (c .before .before .before), sym (c .before .force-sound .ensures) ∙ not-true _ (c .if2 .taken))
 
-unset-zero-requires : tie.Need-unset-zero-requires
-unset-zero-requires c κs = search needs
-
 returns-3 : tie.Need-returns-3
 unfolding sound
 returns-3 c =
     let e = c .before .before in
     rw (counted (e .before .before .before), charged e, sym (c .before .unset-zero .ensures) ∙ not-true _ (c .if3 .taken))
-
-months-sound-requires : tie.Need-months-sound-requires
-months-sound-requires c κs = search needs
 
 returns-4 : tie.Need-returns-4
 unfolding sound
@@ -67,12 +58,6 @@ returns-4 c =
     let e = c .before .before in
     let f = e .before .before in
     rw (counted (f .before .before .before), charged f, unset e, sym (c .before .months-sound .ensures) ∙ not-true _ (c .if4 .taken))
-
-each-balance-sound-requires : tie.Need-each-balance-sound-requires
-each-balance-sound-requires c κs = search needs
-
-one-sign-requires : tie.Need-one-sign-requires
-one-sign-requires c κs = search needs
 
 -- where all but the last clause hold, the last one is soundness
 last-clause : (c : tie.Else4) → sound (book4 (c .before)) ≡ balancesSound (book4 (c .before) .n) (book4 (c .before) .months) (book4 (c .before) .balances)
@@ -98,15 +83,14 @@ pub sound-spec : {M : Type 1} → statement M
 sound-spec =
     tie.close
     (tie.spec
-    is-between-requires
+    (λ c κs. search needs)
     returns
     force-sound-requires
     returns-2
-    unset-zero-requires
+    (λ c κs. search needs)
     returns-3
-    months-sound-requires
+    (λ c κs. search needs)
     returns-4
-    each-balance-sound-requires
-    one-sign-requires
+    (λ c κs. search needs) (λ c κs. search needs)
     returns-5
     returns-6)

@@ -20,9 +20,6 @@ unset c =
     (λ w. rw (w .0 .left, ne-eqb _ _ (w .1 .left)) (sym (w .2 ∙ ne-eqb _ _ (w .1 .left)))))
     (c .if1 .came)
 
-nothing-present-requires : tie.Need-nothing-present-requires
-nothing-present-requires c κs = search needs
-
 returns : tie.Need-returns
 unfolding unsetZero anySettled
 returns c = rw (unset (c .before .before), c .before .if3 .taken, ne-eqb _ _ (c .if4 .taken))
@@ -36,4 +33,8 @@ unfolding unsetZero
 returns-3 c = rw (unset (c .before), c .if3 .left)
 
 pub unset-zero-spec : {M : Type 1} → statement M
-unset-zero-spec = tie.close (tie.spec nothing-present-requires returns returns-2 returns-3)
+unset-zero-spec = tie.close (tie.spec
+    (λ c κs. search needs)
+    returns
+    returns-2
+    returns-3)

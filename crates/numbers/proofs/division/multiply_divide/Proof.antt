@@ -1,6 +1,6 @@
 -- The invariant: the digits of b that have gone in, divided by m, are the quotient and the remainder.
-use mathlib.Core.Path.{_≡_, refl, sym, _∙_, ap, ap₂}
-use Prim.Native.Nat.{ℕ, _≤_, _-_, _+_, _*_, _/_, _%_, _^_, _<_}
+use mathlib.Core.Path.{_≡_, refl, _∙_, ap, ap₂}
+use Prim.Native.Nat.{ℕ, _≤_, _+_, _*_, _/_, _%_, _^_, _<_}
 use native.Mathlib.Omega.{arith}
 use Rattle.numbers.proofs.Digits.{Part, Down, down, rest-lt, product-le, next, next-le, rebase, start}
 use Rattle.numbers.specs.declared.division.Division.{Division}
@@ -41,9 +41,6 @@ module _ (c : tie.In-loop Inv-loop μ-loop) where
 loop-holds : tie.Need-loop-holds Inv-loop μ-loop
 loop-holds c = (omega arith, refl, start _ _ _ (c .pre .1 .1 .1))
 
-sub-digits : tie.Need-sub-digits Inv-loop μ-loop
-sub-digits c = omega arith
-
 div-digit : tie.Need-div-digit Inv-loop μ-loop
 div-digit c = omega (arith, lower c .more)
 
@@ -59,17 +56,8 @@ add-next c = omega (arith, less c, few c)
 mul-quotient : tie.Need-mul-quotient Inv-loop μ-loop
 mul-quotient c = omega (arith, most c)
 
-div-quotient : tie.Need-div-quotient Inv-loop μ-loop
-div-quotient c = omega arith
-
 add-quotient : tie.Need-add-quotient Inv-loop μ-loop
 add-quotient c = omega (arith, most c)
-
-rem-remainder : tie.Need-rem-remainder Inv-loop μ-loop
-rem-remainder c = omega arith
-
-loop-less : tie.Need-loop-less Inv-loop μ-loop
-loop-less c = omega arith
 
 loop-again : tie.Need-loop-again Inv-loop μ-loop
 loop-again c = (omega arith, lower c .power, next _ _ _ _ _ _ (s c .pre .0) (s c .pre .1 .1 .0) (part c))
@@ -93,15 +81,14 @@ multiply-divide-spec =
     Inv-loop
     μ-loop
     loop-holds
-    sub-digits
+    (λ c. omega arith)
     div-digit
     mul-next
     mul-next-2
     add-next
     mul-quotient
-    div-quotient
+    (λ c. omega arith)
     add-quotient
-    rem-remainder
-    loop-less
+    (λ c. omega arith) (λ c. omega arith)
     loop-again
     returns)

@@ -5,18 +5,11 @@ use borrow.Author.Needs.{needs}
 use Rattle.numbers.proofs.rounding.divide_up.Statement.{statement}
 use Rattle.numbers.proofs.rounding.divide_up.Tie as tie
 
-sub-result : tie.Need-sub-result
-sub-result c = search needs
-
-add-result : tie.Need-add-result
-add-result c = search needs
-
-div-result : tie.Need-div-result
-div-result c = search needs
-
 returns : tie.Need-returns
 unfolding divideUp
 returns c = refl
 
 pub divide-up-spec : {M : Type 1} → statement M
-divide-up-spec = tie.close (tie.spec sub-result add-result div-result returns)
+divide-up-spec = tie.close (tie.spec
+    (λ c. search needs) (λ c. search needs) (λ c. search needs)
+    returns)

@@ -1,6 +1,6 @@
 -- By sign and size: the size is rounded half up, and the sign is put back.
 use lib.IntN.{subℕ, natAbs}
-use mathlib.Core.Path.{_≡_, _∙_, sym, ap, ap₂}
+use mathlib.Core.Path.{_≡_, _∙_, sym, ap}
 use native.Mathlib.Omega.{arith}
 use Prim.Native.Nat.{_<_, _^_}
 use mir.Facts.{toZ-ofZ}
@@ -30,9 +30,6 @@ module _ (c : tie.After-half-up) where
   small : c .half-up .result < 2 ^ 63
   small = omega (arith, rounded, half-up-self (natAbs (c .before .before .args .x)) (c .before .before .args .b) (c .before .before .pre .0))
 
-is-negative-requires : tie.Need-is-negative-requires
-is-negative-requires c κs = search needs
-
 difference-requires : tie.Need-difference-requires
 difference-requires c κs = (omega arith, small (c .before .before))
 
@@ -59,7 +56,7 @@ half-away-spec =
     (tie.spec
     magnitude-requires
     half-up-requires
-    is-negative-requires
+    (λ c κs. search needs)
     difference-requires
     difference-requires-2
     returns

@@ -5,12 +5,6 @@ use borrow.Author.Needs.{needs}
 use Rattle.numbers.proofs.signed.difference.Statement.{statement}
 use Rattle.numbers.proofs.signed.difference.Tie as tie
 
-cast-result : tie.Need-cast-result
-cast-result c = search needs
-
-cast-result-2 : tie.Need-cast-result-2
-cast-result-2 c = search needs
-
 sub-result : tie.Need-sub-result
 sub-result c = rw (sub-bits (c .args .p) (c .args .n) (c .pre .0) (c .pre .1)) (sub-fits _ _ (c .pre .0) (c .pre .1))
 
@@ -18,4 +12,7 @@ returns : tie.Need-returns
 returns c = rw (sub-bits (c .args .p) (c .args .n) (c .pre .0) (c .pre .1)) (toZ-ofZ (sub-fits _ _ (c .pre .0) (c .pre .1)))
 
 pub difference-spec : {M : Type 1} → statement M
-difference-spec = tie.close (tie.spec cast-result cast-result-2 sub-result returns)
+difference-spec = tie.close (tie.spec
+    (λ c. search needs) (λ c. search needs)
+    sub-result
+    returns)

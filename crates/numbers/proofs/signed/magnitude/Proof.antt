@@ -31,8 +31,10 @@ returns c =
     let n = neg-size (c .before .args .x) (below c) (c .before .pre) in
     rw (toZ-ofZ (c .before .fits .x), toZ-ofZ (n .0)) (n .2)
 
-returns-2 : tie.Need-returns-2
-returns-2 c = search needs
-
 pub magnitude-spec : {M : Type 1} → statement M
-magnitude-spec = tie.close (tie.spec sub-result cast-result cast-result-2 returns returns-2)
+magnitude-spec = tie.close (tie.spec
+    sub-result
+    cast-result
+    cast-result-2
+    returns
+    (λ c. search needs))

@@ -1,6 +1,5 @@
 -- The two comparisons, of the numbers behind the bits, are the test of the size.
 use mathlib.Core.Path.{_≡_, _∙_, sym, ap, ap₂}
-use mathlib.Core.Bool.{true, false}
 use native.Mathlib.Omega.{arith}
 use lib.IntN.{pos, subℕ, _-ℤ_}
 use lib.Signed.{leZ}
@@ -23,14 +22,8 @@ module _ (c : tie.Start) where
   test : leZ (toZ w64 (ofZ w64 (pos 0 -ℤ toZ w64 (c .args .bound)))) (toZ w64 (ofZ w64 (c .args .x))) ≡ leZ (subℕ 0 (c .args .bound)) (c .args .x)
   test = ap₂ leZ (ap (λ z. toZ w64 (ofZ w64 z)) lower ∙ toZ-ofZ fits) (toZ-ofZ (c .fits .x))
 
-cast-if1 : tie.Need-cast-if1
-cast-if1 c = search needs
-
 sub-if1 : tie.Need-sub-if1
 sub-if1 c = rw (lower c) (fits c)
-
-cast-result : tie.Need-cast-result
-cast-result c = search needs
 
 returns : tie.Need-returns
 returns c =
@@ -44,4 +37,9 @@ returns-2 c =
     c .if1 .left ∙ sym (within-low (s .args .bound) (s .args .x) (sym (test s) ∙ c .if1 .left))
 
 pub within-size-spec : {M : Type 1} → statement M
-within-size-spec = tie.close (tie.spec cast-if1 sub-if1 cast-result returns returns-2)
+within-size-spec = tie.close (tie.spec
+    (λ c. search needs)
+    sub-if1
+    (λ c. search needs)
+    returns
+    returns-2)

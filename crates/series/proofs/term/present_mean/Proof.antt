@@ -6,12 +6,6 @@ use borrow.Author.Needs.{needs}
 use Rattle.series.proofs.term.present_mean.Statement.{statement}
 use Rattle.series.proofs.term.present_mean.Tie as tie
 
-term-mean-requires : tie.Need-term-mean-requires
-term-mean-requires c κs = search needs
-
-enum-known-mean : tie.Need-enum-known-mean
-enum-known-mean c = search needs
-
 enum-told : tie.Need-enum-told
 enum-told c = search needs
 
@@ -31,4 +25,8 @@ returns-2 c =
 
 pub present-mean-spec : {M : Type 1} → statement M
 present-mean-spec =
-    tie.close (tie.spec term-mean-requires enum-known-mean enum-told returns returns-2)
+    tie.close (tie.spec
+    (λ c κs. search needs) (λ c. search needs)
+    enum-told
+    returns
+    returns-2)

@@ -5,7 +5,7 @@ use Rattle.numbers.specs.Rounding.{halfUp}
 use Rattle.series.specs.declared.term.Mean.the-variants.{Published}
 use mathlib.Core.Path.{_≡_, refl, sym, _∙_, ap}
 use mathlib.Core.Bool.{false}
-use Prim.Native.Nat.{_≤_, _-_, _+_, _*_}
+use Prim.Native.Nat.{_≤_, _-_}
 use lib.Dec.{eqb}
 use borrow.Author.Tests.{eq-eqb, ne-eqb}
 use Rattle.numbers.specs.Bounded.{sumBelow, anyBelow}
@@ -16,19 +16,12 @@ use Rattle.series.proofs.SeriesLaws.{value-most, values-most}
 use Rattle.series.proofs.term.term_mean.Statement.{statement}
 use Rattle.series.proofs.term.term_mean.Tie as tie
 use native.Mathlib.Omega.{arith}
-use borrow.Author.Needs.{needs}
 
 abbrev Inv-loop : tie.InvT-loop
 Inv-loop first month series lag window row sum₀ k₀ sum k = (k ≤ window) × (anyBelow k (λ i. eqb (termValue row first month lag i) 0) ≡ false) × (sum ≡ sumBelow k (termValue row first month lag))
 
 abbrev μ-loop : tie.MeasureT-loop
 μ-loop first month series lag window row sum₀ k₀ sum k = window - k
-
-mul-row : tie.Need-mul-row Inv-loop μ-loop
-mul-row c = omega arith
-
-array-copy-out-row : tie.Need-array-copy-out-row Inv-loop μ-loop
-array-copy-out-row c = omega arith
 
 loop-holds : tie.Need-loop-holds Inv-loop μ-loop
 unfolding anyBelow sumBelow
@@ -60,9 +53,6 @@ add-sum c =
 
 add-k : tie.Need-add-k Inv-loop μ-loop
 add-k c = omega (arith, c .before .before .before .before .before .before .pre .1 .few)
-
-loop-less : tie.Need-loop-less Inv-loop μ-loop
-loop-less c = omega arith
 
 loop-again : tie.Need-loop-again Inv-loop μ-loop
 loop-again c =
@@ -100,14 +90,13 @@ term-mean-spec =
     (tie.spec
     Inv-loop
     μ-loop
-    mul-row
-    array-copy-out-row
+    (λ c. omega arith) (λ c. omega arith)
     loop-holds
     term-value-requires
     returns
     add-sum
     add-k
-    loop-less
+    (λ c. omega arith)
     loop-again
     half-up-requires
     returns-2)

@@ -5,20 +5,11 @@ use borrow.Author.Needs.{needs}
 use Rattle.series.proofs.term.term_value.Statement.{statement}
 use Rattle.series.proofs.term.term_value.Tie as tie
 
-add-back : tie.Need-add-back
-add-back c = search needs
-
 returns : tie.Need-returns
 returns c = let s = c .before in sym (value-below (s .args .row .now) (s .args .first) (s .args .month) (s .args .lag) (s .args .k) (c .if1 .taken))
 
 returns-2 : tie.Need-returns-2
 returns-2 c = let s = c .before .before in sym (value-before (s .args .row .now) (s .args .first) (s .args .month) (s .args .lag) (s .args .k) (c .before .if1 .left) (c .if2 .taken))
-
-mul-result : tie.Need-mul-result
-mul-result c = search needs
-
-element-copy-out-result : tie.Need-element-copy-out-result
-element-copy-out-result c = search needs
 
 returns-3 : tie.Need-returns-3
 returns-3 c = let s = c .before .before .before .before in sym (value-inside (s .args .row .now) (s .args .first) (s .args .month) (s .args .lag) (s .args .k) (c .before .before .before .if1 .left) (c .before .before .if2 .left) (c .before .if3 .taken))
@@ -29,4 +20,10 @@ returns-4 c = let s = c .before .before .before in sym (value-past (s .args .row
 pub term-value-spec : {M : Type 1} → statement M
 term-value-spec =
     tie.close
-    (tie.spec add-back returns returns-2 mul-result element-copy-out-result returns-3 returns-4)
+    (tie.spec
+    (λ c. search needs)
+    returns
+    returns-2
+    (λ c. search needs) (λ c. search needs)
+    returns-3
+    returns-4)

@@ -37,9 +37,6 @@ loop-holds : tie.Need-loop-holds Inv-loop μ-loop
 unfolding allBelow
 loop-holds c = (omega arith, refl)
 
-readings-allowed-requires : tie.Need-readings-allowed-requires Inv-loop μ-loop
-readings-allowed-requires c κs = search needs
-
 returns : tie.Need-returns Inv-loop μ-loop
 unfolding billingInRange
 returns c =
@@ -48,9 +45,6 @@ returns c =
     (all-fails (s l .args .n) (test l) (l .loop .i) (omega arith)
     (rw (sym (c .before .readings-allowed .ensures) ∙ not-true _ (c .if1 .taken))))
 
-losses-allowed-requires : tie.Need-losses-allowed-requires Inv-loop μ-loop
-losses-allowed-requires c κs = search needs
-
 returns-2 : tie.Need-returns-2 Inv-loop μ-loop
 unfolding billingInRange
 returns-2 c =
@@ -58,12 +52,6 @@ returns-2 c =
     sym
     (all-fails (s l .args .n) (test l) (l .loop .i) (omega arith)
     (rw (passed (c .before .before), sym (c .before .losses-allowed .ensures) ∙ not-true _ (c .if2 .taken))))
-
-add-i : tie.Need-add-i Inv-loop μ-loop
-add-i c = omega arith
-
-loop-less : tie.Need-loop-less Inv-loop μ-loop
-loop-less c = omega arith
 
 loop-again : tie.Need-loop-again Inv-loop μ-loop
 loop-again c =
@@ -86,11 +74,10 @@ billing-in-range-spec =
     Inv-loop
     μ-loop
     loop-holds
-    readings-allowed-requires
+    (λ c κs. search needs)
     returns
-    losses-allowed-requires
+    (λ c κs. search needs)
     returns-2
-    add-i
-    loop-less
+    (λ c. omega arith) (λ c. omega arith)
     loop-again
     returns-3)

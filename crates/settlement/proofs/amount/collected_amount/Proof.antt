@@ -82,32 +82,11 @@ loop-holds : tie.Need-loop-holds Inv-loop μ-loop
 unfolding signedSumBelow
 loop-holds c = (omega arith, refl)
 
-mul-charge : tie.Need-mul-charge Inv-loop μ-loop
-mul-charge c = omega arith
-
-add-charge : tie.Need-add-charge Inv-loop μ-loop
-add-charge c = omega arith
-
-mul-charge-2 : tie.Need-mul-charge-2 Inv-loop μ-loop
-mul-charge-2 c = omega arith
-
-element-copy-out-charge : tie.Need-element-copy-out-charge Inv-loop μ-loop
-element-copy-out-charge c = omega arith
-
-energy-with-losses-requires : tie.Need-energy-with-losses-requires Inv-loop μ-loop
-energy-with-losses-requires c κs = search needs
-
 mul-sum : tie.Need-mul-sum Inv-loop μ-loop
 mul-sum c = rw (product c) (one (d c) (l c .loop .s) (under c))
 
 add-sum : tie.Need-add-sum Inv-loop μ-loop
 add-sum c = rw (next c) (all (d c) (l c .loop .s + 1) (omega arith))
-
-add-s : tie.Need-add-s Inv-loop μ-loop
-add-s c = omega arith
-
-loop-less : tie.Need-loop-less Inv-loop μ-loop
-loop-less c = omega arith
 
 loop-again : tie.Need-loop-again Inv-loop μ-loop
 loop-again c = (omega arith, ap (ofZ w64) (next c))
@@ -128,15 +107,10 @@ collected-amount-spec =
     Inv-loop
     μ-loop
     loop-holds
-    mul-charge
-    add-charge
-    mul-charge-2
-    element-copy-out-charge
-    energy-with-losses-requires
+    (λ c. omega arith) (λ c. omega arith) (λ c. omega arith) (λ c. omega arith) (λ c κs. search needs)
     mul-sum
     add-sum
-    add-s
-    loop-less
+    (λ c. omega arith) (λ c. omega arith)
     loop-again
     half-away-requires
     returns)

@@ -109,33 +109,15 @@ module _ (c : tie.After-difference4) where
   carried : back sumCode ≡ highPart (c .before) +ℤ lowPart
   carried = toZ-ofZ fits ∙ sum
 
-reading-requires : tie.Need-reading-requires
-reading-requires c κs = search needs
-
-reading-requires-2 : tie.Need-reading-requires-2
-reading-requires-2 c κs = search needs
-
 difference-requires : tie.Need-difference-requires
 difference-requires c κs =
     let s = c .before .before .before .before in
     (small s 0 _ (omega arith) (c .before .reading .ensures), small s 1 _ (omega arith) (c .reading2 .ensures))
 
-reading-requires-3 : tie.Need-reading-requires-3
-reading-requires-3 c κs = search needs
-
-reading-requires-4 : tie.Need-reading-requires-4
-reading-requires-4 c κs = search needs
-
 difference-requires-2 : tie.Need-difference-requires-2
 difference-requires-2 c κs =
     let s = c .before .before .before .before .before .before .before in
     (small s 2 _ (omega arith) (c .before .reading3 .ensures), small s 3 _ (omega arith) (c .reading4 .ensures))
-
-loss-requires : tie.Need-loss-requires
-loss-requires c κs = search needs
-
-loss-requires-2 : tie.Need-loss-requires-2
-loss-requires-2 c κs = search needs
 
 mul-difference : tie.Need-mul-difference
 mul-difference c = omega (arith, most c)
@@ -170,14 +152,11 @@ pub energy-with-losses-spec : {M : Type 1} → statement M
 energy-with-losses-spec =
     tie.close
     (tie.spec
-    reading-requires
-    reading-requires-2
+    (λ c κs. search needs) (λ c κs. search needs)
     difference-requires
-    reading-requires-3
-    reading-requires-4
+    (λ c κs. search needs) (λ c κs. search needs)
     difference-requires-2
-    loss-requires
-    loss-requires-2
+    (λ c κs. search needs) (λ c κs. search needs)
     mul-difference
     difference-requires-3
     mul-carried

@@ -13,18 +13,6 @@ high c =
     ap (between 10000 20000) (sym (high-first (c .before .before .before .args .losses .now) (c .before .before .before .args .i)) ∙ sym (c .before .loss .ensures))
     ∙ sym (c .is-between .ensures)
 
-loss-requires : tie.Need-loss-requires
-loss-requires c κs = search needs
-
-is-between-requires : tie.Need-is-between-requires
-is-between-requires c κs = search needs
-
-loss-requires-2 : tie.Need-loss-requires-2
-loss-requires-2 c κs = search needs
-
-is-between-requires-2 : tie.Need-is-between-requires-2
-is-between-requires-2 c κs = search needs
-
 returns : tie.Need-returns
 unfolding lossesAllowed
 returns c =
@@ -38,9 +26,6 @@ pub losses-allowed-spec : {M : Type 1} → statement M
 losses-allowed-spec =
     tie.close
     (tie.spec
-    loss-requires
-    is-between-requires
-    loss-requires-2
-    is-between-requires-2
+    (λ c κs. search needs) (λ c κs. search needs) (λ c κs. search needs) (λ c κs. search needs)
     returns
     returns-2)

@@ -51,24 +51,6 @@ module _ (c : tie.After-struct-told Inv-loop μ-loop) where
 loop-holds : tie.Need-loop-holds Inv-loop μ-loop
 loop-holds c = (omega arith, money-none _, money-none _)
 
-mul-position : tie.Need-mul-position Inv-loop μ-loop
-mul-position c = omega arith
-
-array-copy-out-position : tie.Need-array-copy-out-position Inv-loop μ-loop
-array-copy-out-position c = omega arith
-
-mul-difference : tie.Need-mul-difference Inv-loop μ-loop
-mul-difference c = omega arith
-
-element-copy-out-difference : tie.Need-element-copy-out-difference Inv-loop μ-loop
-element-copy-out-difference c = omega arith
-
-mul-difference-2 : tie.Need-mul-difference-2 Inv-loop μ-loop
-mul-difference-2 c = omega arith
-
-element-copy-out-difference-2 : tie.Need-element-copy-out-difference-2 Inv-loop μ-loop
-element-copy-out-difference-2 c = omega arith
-
 difference-requires : tie.Need-difference-requires Inv-loop μ-loop
 difference-requires c κs =
     let l = c .before .before .before .before in
@@ -77,24 +59,6 @@ difference-requires c κs =
 
 add-t24 : tie.Need-add-t24 Inv-loop μ-loop
 add-t24 c = fits c
-
-mul-balances : tie.Need-mul-balances Inv-loop μ-loop
-mul-balances c = omega arith
-
-array-set-from-balances : tie.Need-array-set-from-balances Inv-loop μ-loop
-array-set-from-balances c = omega arith
-
-mul-transfers : tie.Need-mul-transfers Inv-loop μ-loop
-mul-transfers c = omega arith
-
-array-set-from-transfers : tie.Need-array-set-from-transfers Inv-loop μ-loop
-array-set-from-transfers c = omega arith
-
-add-i : tie.Need-add-i Inv-loop μ-loop
-add-i c = omega arith
-
-loop-less : tie.Need-loop-less Inv-loop μ-loop
-loop-less c = omega arith
 
 loop-again : tie.Need-loop-again Inv-loop μ-loop
 loop-again c = (
@@ -117,19 +81,9 @@ moved-spec =
     Inv-loop
     μ-loop
     loop-holds
-    mul-position
-    array-copy-out-position
-    mul-difference
-    element-copy-out-difference
-    mul-difference-2
-    element-copy-out-difference-2
+    (λ c. omega arith) (λ c. omega arith) (λ c. omega arith) (λ c. omega arith) (λ c. omega arith) (λ c. omega arith)
     difference-requires
     add-t24
-    mul-balances
-    array-set-from-balances
-    mul-transfers
-    array-set-from-transfers
-    add-i
-    loop-less
+    (λ c. omega arith) (λ c. omega arith) (λ c. omega arith) (λ c. omega arith) (λ c. omega arith) (λ c. omega arith)
     loop-again
     returns)

@@ -50,29 +50,8 @@ module _ (c : tie.After-struct-told2 Inv-loop μ-loop) where
 loop-holds : tie.Need-loop-holds Inv-loop μ-loop
 loop-holds c = (omega arith, money-none _)
 
-mul-balance : tie.Need-mul-balance Inv-loop μ-loop
-mul-balance c = omega arith
-
-array-copy-out-balance : tie.Need-array-copy-out-balance Inv-loop μ-loop
-array-copy-out-balance c = omega arith
-
-collected-amount-requires : tie.Need-collected-amount-requires Inv-loop μ-loop
-collected-amount-requires c κs = search needs
-
 add-t17 : tie.Need-add-t17 Inv-loop μ-loop
 add-t17 c = fits c
-
-mul-positions : tie.Need-mul-positions Inv-loop μ-loop
-mul-positions c = omega arith
-
-array-set-from-positions : tie.Need-array-set-from-positions Inv-loop μ-loop
-array-set-from-positions c = omega arith
-
-add-i : tie.Need-add-i Inv-loop μ-loop
-add-i c = omega arith
-
-loop-less : tie.Need-loop-less Inv-loop μ-loop
-loop-less c = omega arith
 
 loop-again : tie.Need-loop-again Inv-loop μ-loop
 loop-again c = (
@@ -93,13 +72,8 @@ positions-spec =
     Inv-loop
     μ-loop
     loop-holds
-    mul-balance
-    array-copy-out-balance
-    collected-amount-requires
+    (λ c. omega arith) (λ c. omega arith) (λ c κs. search needs)
     add-t17
-    mul-positions
-    array-set-from-positions
-    add-i
-    loop-less
+    (λ c. omega arith) (λ c. omega arith) (λ c. omega arith) (λ c. omega arith)
     loop-again
     returns)

@@ -56,12 +56,6 @@ module _ (c : tie.Joined1) where
   unfolding transferred
   smaller = ⊎-elim (λ w. omega (arith, owingTotal, owedTotal)) (λ w. omega (arith, owingTotal, owedTotal)) (c .if1 .came)
 
-side-sizes-requires : tie.Need-side-sizes-requires
-side-sizes-requires c κs = search needs
-
-side-sizes-requires-2 : tie.Need-side-sizes-requires-2
-side-sizes-requires-2 c κs = search needs
-
 side-total-requires : tie.Need-side-total-requires
 side-total-requires c κs = owingSide (c .before)
 
@@ -109,8 +103,7 @@ pub settle-positions-spec : {M : Type 1} → statement M
 settle-positions-spec =
     tie.close
     (tie.spec
-    side-sizes-requires
-    side-sizes-requires-2
+    (λ c κs. search needs) (λ c κs. search needs)
     side-total-requires
     side-total-requires-2
     shares-requires

@@ -47,31 +47,10 @@ loop-holds : tie.Need-loop-holds Inv-loop μ-loop
 unfolding sizesBelow
 loop-holds c = (omega arith, filled-none 40 0 _)
 
-mul-position : tie.Need-mul-position Inv-loop μ-loop
-mul-position c = omega arith
-
-array-copy-out-position : tie.Need-array-copy-out-position Inv-loop μ-loop
-array-copy-out-position c = omega arith
-
-is-negative-requires : tie.Need-is-negative-requires Inv-loop μ-loop
-is-negative-requires c κs = search needs
-
 magnitude-requires : tie.Need-magnitude-requires Inv-loop μ-loop
 magnitude-requires c κs =
     let l = c .before .before .before .before .before .before in
     rw (toZ-ofZ (sfits-of (c .struct-told2 .given .0 .1))) (omega (arith, l .before .pre .within (l .loop .i) (omega arith)))
-
-mul-sizes : tie.Need-mul-sizes Inv-loop μ-loop
-mul-sizes c = omega arith
-
-array-write-sizes : tie.Need-array-write-sizes Inv-loop μ-loop
-array-write-sizes c = omega arith
-
-add-i : tie.Need-add-i Inv-loop μ-loop
-add-i c = omega arith
-
-loop-less : tie.Need-loop-less Inv-loop μ-loop
-loop-less c = omega arith
 
 loop-again : tie.Need-loop-again Inv-loop μ-loop
 unfolding sizesBelow sideSize owing owed
@@ -103,13 +82,8 @@ side-sizes-spec =
     Inv-loop
     μ-loop
     loop-holds
-    mul-position
-    array-copy-out-position
-    is-negative-requires
+    (λ c. omega arith) (λ c. omega arith) (λ c κs. search needs)
     magnitude-requires
-    mul-sizes
-    array-write-sizes
-    add-i
-    loop-less
+    (λ c. omega arith) (λ c. omega arith) (λ c. omega arith) (λ c. omega arith)
     loop-again
     returns)

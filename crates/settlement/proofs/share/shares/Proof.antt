@@ -77,12 +77,6 @@ loop-holds c =
       sym (before-none (s .args .n) size (s .args .transferred) (s .pre .1)),
     )
 
-mul-running : tie.Need-mul-running Inv-loop μ-loop
-mul-running c = omega arith
-
-element-copy-out-running : tie.Need-element-copy-out-running Inv-loop μ-loop
-element-copy-out-running c = omega arith
-
 add-running : tie.Need-add-running Inv-loop μ-loop
 add-running c = omega (arith, running c, most c)
 
@@ -91,18 +85,6 @@ multiply-divide-requires c κs = omega (arith, total c, running c, most c, whole
 
 sub-shares : tie.Need-sub-shares Inv-loop μ-loop
 sub-shares c = omega (arith, shared c, up c)
-
-mul-shares : tie.Need-mul-shares Inv-loop μ-loop
-mul-shares c = omega arith
-
-array-write-shares : tie.Need-array-write-shares Inv-loop μ-loop
-array-write-shares c = omega arith
-
-add-i : tie.Need-add-i Inv-loop μ-loop
-add-i c = omega arith
-
-loop-less : tie.Need-loop-less Inv-loop μ-loop
-loop-less c = omega arith
 
 loop-again : tie.Need-loop-again Inv-loop μ-loop
 unfolding share
@@ -131,14 +113,10 @@ shares-spec =
     side-total-requires
     returns
     loop-holds
-    mul-running
-    element-copy-out-running
+    (λ c. omega arith) (λ c. omega arith)
     add-running
     multiply-divide-requires
     sub-shares
-    mul-shares
-    array-write-shares
-    add-i
-    loop-less
+    (λ c. omega arith) (λ c. omega arith) (λ c. omega arith) (λ c. omega arith)
     loop-again
     returns-2)

@@ -5,7 +5,7 @@ use native.Mathlib.Omega.{arith}
 use lib.ListN.{length, getD}
 use lib.IntN.{pos}
 use mir.Facts.{toZ-ofZ}
-use borrow.Author.Needs.{needs, sfits-of}
+use borrow.Author.Needs.{sfits-of}
 use Rattle.settlement.specs.Month.{moneyBelow}
 use Rattle.settlement.proofs.MonthLaws.{money-none, money-next}
 use Rattle.store.specs.Store.{loadedBalances}
@@ -20,24 +20,6 @@ abbrev μ-loop : tie.MeasureT-loop
 
 loop-holds : tie.Need-loop-holds Inv-loop μ-loop
 loop-holds c = (omega arith, money-none _)
-
-mul-t5 : tie.Need-mul-t5 Inv-loop μ-loop
-mul-t5 c = omega arith
-
-shared-slice-copy-out-t8 : tie.Need-shared-slice-copy-out-t8 Inv-loop μ-loop
-shared-slice-copy-out-t8 c = omega arith
-
-mul-balances : tie.Need-mul-balances Inv-loop μ-loop
-mul-balances c = omega arith
-
-array-set-from-balances : tie.Need-array-set-from-balances Inv-loop μ-loop
-array-set-from-balances c = omega arith
-
-add-i : tie.Need-add-i Inv-loop μ-loop
-add-i c = omega arith
-
-loop-less : tie.Need-loop-less Inv-loop μ-loop
-loop-less c = omega arith
 
 loop-again : tie.Need-loop-again Inv-loop μ-loop
 loop-again c = let l = c .before .before in
@@ -56,11 +38,6 @@ load-balances-spec =
     Inv-loop
     μ-loop
     loop-holds
-    mul-t5
-    shared-slice-copy-out-t8
-    mul-balances
-    array-set-from-balances
-    add-i
-    loop-less
+    (λ c. omega arith) (λ c. omega arith) (λ c. omega arith) (λ c. omega arith) (λ c. omega arith) (λ c. omega arith)
     loop-again
     returns)

@@ -5,7 +5,7 @@ use native.Mathlib.Omega.{arith}
 use lib.ListN.{length, getD}
 use lib.IntN.{pos}
 use mir.Facts.{toZ-ofZ}
-use borrow.Author.Needs.{needs, sfits-of}
+use borrow.Author.Needs.{sfits-of}
 use Rattle.numbers.specs.Sizes.{sectorPlaces}
 use Rattle.numbers.specs.Bounded.{filledBelow}
 use Rattle.numbers.proofs.ListLaws.{filled-none, filled-next}
@@ -20,24 +20,6 @@ abbrev μ-loop : tie.MeasureT-loop
 
 loop-holds : tie.Need-loop-holds Inv-loop μ-loop
 loop-holds c = (omega arith, filled-none sectorPlaces (pos 0) _)
-
-mul-charges : tie.Need-mul-charges Inv-loop μ-loop
-mul-charges c = omega arith
-
-shared-slice-copy-out-charges : tie.Need-shared-slice-copy-out-charges Inv-loop μ-loop
-shared-slice-copy-out-charges c = omega arith
-
-mul-charges-2 : tie.Need-mul-charges-2 Inv-loop μ-loop
-mul-charges-2 c = omega arith
-
-array-set-from-charges : tie.Need-array-set-from-charges Inv-loop μ-loop
-array-set-from-charges c = omega arith
-
-add-k : tie.Need-add-k Inv-loop μ-loop
-add-k c = omega arith
-
-loop-less : tie.Need-loop-less Inv-loop μ-loop
-loop-less c = omega arith
 
 loop-again : tie.Need-loop-again Inv-loop μ-loop
 loop-again c = let l = c .before .before in
@@ -55,11 +37,6 @@ load-charges-spec =
     Inv-loop
     μ-loop
     loop-holds
-    mul-charges
-    shared-slice-copy-out-charges
-    mul-charges-2
-    array-set-from-charges
-    add-k
-    loop-less
+    (λ c. omega arith) (λ c. omega arith) (λ c. omega arith) (λ c. omega arith) (λ c. omega arith) (λ c. omega arith)
     loop-again
     returns)

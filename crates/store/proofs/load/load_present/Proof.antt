@@ -21,24 +21,6 @@ abbrev μ-loop : tie.MeasureT-loop
 loop-holds : tie.Need-loop-holds Inv-loop μ-loop
 loop-holds c = (omega arith, filled-none sectorPlaces false _)
 
-mul-word-truth : tie.Need-mul-word-truth Inv-loop μ-loop
-mul-word-truth c = omega arith
-
-shared-slice-read-word-truth : tie.Need-shared-slice-read-word-truth Inv-loop μ-loop
-shared-slice-read-word-truth c = omega arith
-
-word-truth-requires : tie.Need-word-truth-requires Inv-loop μ-loop
-word-truth-requires c κs = search needs
-
-array-write-present : tie.Need-array-write-present Inv-loop μ-loop
-array-write-present c = omega arith
-
-add-k : tie.Need-add-k Inv-loop μ-loop
-add-k c = omega arith
-
-loop-less : tie.Need-loop-less Inv-loop μ-loop
-loop-less c = omega arith
-
 loop-again : tie.Need-loop-again Inv-loop μ-loop
 loop-again c = let l = c .before .before .before in
     (omega arith, filled-next sectorPlaces false (l .loop .k) _ (l .loop .present) _ (omega arith) (l .loop .inv .1) (c .word-truth .ensures))
@@ -55,11 +37,6 @@ load-present-spec =
     Inv-loop
     μ-loop
     loop-holds
-    mul-word-truth
-    shared-slice-read-word-truth
-    word-truth-requires
-    array-write-present
-    add-k
-    loop-less
+    (λ c. omega arith) (λ c. omega arith) (λ c κs. search needs) (λ c. omega arith) (λ c. omega arith) (λ c. omega arith)
     loop-again
     returns)

@@ -3,7 +3,6 @@ use mathlib.Core.Path.{_≡_, sym, _∙_, ap}
 use mathlib.Core.List.{List, map}
 use Prim.Native.Nat.{ℕ, _*_, _≤_}
 use native.Mathlib.Omega.{arith}
-use lib.IntN.{ℤ}
 use lib.ListN.{length, take, length-map}
 use lib.Seq.{length-take-le}
 use Rattle.ledger.specs.declared.book.Ledger.{Ledger}
@@ -13,9 +12,6 @@ use Rattle.store.proofs.StoreLaws.{saved-few, present-first, charges-fi
 use borrow.Author.Needs.{needs}
 use Rattle.store.proofs.load.reload.Statement.{statement}
 use Rattle.store.proofs.load.reload.Tie as tie
-
-save-requires : tie.Need-save-requires
-save-requires c κs = search needs
 
 -- a list is as long as its image
 mapped : (A B : Type 0) (f : A → B) (l : List A) (n : ℕ) → length (map f l) ≡ n → length l ≡ n
@@ -51,9 +47,6 @@ module _ (c : tie.After-save) where
 mul-places : tie.Need-mul-places
 mul-places c = omega (arith, few (c .before .before .before .before))
 
-truth-word-requires : tie.Need-truth-word-requires
-truth-word-requires c κs = search needs
-
 slice-reshare-prefix-load : tie.Need-slice-reshare-prefix-load
 slice-reshare-prefix-load c = presences (c .before .before .before .before .before) .long
 
@@ -82,15 +75,6 @@ load-requires c κs =
       ),
     )
 
-same-length : tie.Need-same-length
-same-length c = search needs
-
-same-length-2 : tie.Need-same-length-2
-same-length-2 c = search needs
-
-same-length-3 : tie.Need-same-length-3
-same-length-3 c = search needs
-
 returns : tie.Need-returns
 returns c =
     let d = c .before .before .before .before .before .before .before .before .before in
@@ -103,9 +87,9 @@ pub reload-spec : {M : Type 1} → statement M
 reload-spec =
     tie.close
     (tie.spec
-    save-requires
+    (λ c κs. search needs)
     mul-places
-    truth-word-requires
+    (λ c κs. search needs)
     slice-reshare-prefix-load
     slice-aggregate-load
     slice-reshare-prefix-load-2
@@ -113,7 +97,5 @@ reload-spec =
     slice-reshare-prefix-load-3
     slice-aggregate-load-3
     load-requires
-    same-length
-    same-length-2
-    same-length-3
+    (λ c. search needs) (λ c. search needs) (λ c. search needs)
     returns)

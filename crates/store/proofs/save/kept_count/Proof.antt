@@ -1,5 +1,5 @@
 -- Each way out is the definition at the tests that led there.
-use mathlib.Core.Path.{_≡_, sym, _∙_}
+use mathlib.Core.Path.{sym, _∙_}
 use native.Mathlib.Omega.{arith}
 use borrow.Author.Tests.{lt-leb, le-leb, not-true, not-false}
 use Rattle.store.specs.Store.{keptCount}
@@ -11,17 +11,11 @@ returns : tie.Need-returns
 unfolding keptCount
 returns c = rw (lt-leb (c .before .args .ledger .n) 40 (c .if1 .taken))
 
-places-kept-requires : tie.Need-places-kept-requires
-places-kept-requires c κs = search needs
-
 returns-2 : tie.Need-returns-2
 unfolding keptCount
 returns-2 c =
     let e = c .before .before .before in
     rw (le-leb (e .before .args .ledger .n) 40 (omega (arith, e .if1 .left)), sym (c .before .places-kept .ensures) ∙ not-true _ (c .if2 .taken))
-
-balances-kept-requires : tie.Need-balances-kept-requires
-balances-kept-requires c κs = search needs
 
 returns-3 : tie.Need-returns-3
 unfolding keptCount
@@ -48,4 +42,10 @@ returns-4 c =
 pub kept-count-spec : {M : Type 1} → statement M
 kept-count-spec =
     tie.close
-    (tie.spec returns places-kept-requires returns-2 balances-kept-requires returns-3 returns-4)
+    (tie.spec
+    returns
+    (λ c κs. search needs)
+    returns-2
+    (λ c κs. search needs)
+    returns-3
+    returns-4)

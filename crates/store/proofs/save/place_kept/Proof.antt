@@ -1,14 +1,10 @@
 -- Each way out is the definition at the tests that led there.
-use mathlib.Core.Path.{_≡_, sym, _∙_}
 use borrow.Author.Tests.{lt-ltb, le-ltb}
 use Rattle.ledger.proofs.SoundLaws.{zero-bits}
 use Rattle.store.specs.Store.{withinOrEmpty}
 use borrow.Author.Needs.{needs}
 use Rattle.store.proofs.save.place_kept.Statement.{statement}
 use Rattle.store.proofs.save.place_kept.Tie as tie
-
-mul-if1 : tie.Need-mul-if1
-mul-if1 c = search needs
 
 returns : tie.Need-returns
 unfolding withinOrEmpty
@@ -24,4 +20,8 @@ unfolding withinOrEmpty
 returns-3 c = rw (le-ltb _ _ (c .before .if1 .left), c .if2 .left)
 
 pub place-kept-spec : {M : Type 1} → statement M
-place-kept-spec = tie.close (tie.spec mul-if1 returns returns-2 returns-3)
+place-kept-spec = tie.close (tie.spec
+    (λ c. search needs)
+    returns
+    returns-2
+    returns-3)

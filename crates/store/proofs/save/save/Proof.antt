@@ -1,5 +1,5 @@
 -- Each list is lent in part; the part past it stays as it was.
-use mathlib.Core.Path.{_≡_, sym, _∙_, ap}
+use mathlib.Core.Path.{sym, _∙_, ap}
 use mathlib.Core.List.{_++_}
 use Prim.Native.Nat.{_*_, _≤_}
 use native.Mathlib.Omega.{arith}
@@ -10,9 +10,6 @@ use Rattle.store.proofs.StoreLaws.{kept-most}
 use borrow.Author.Needs.{needs}
 use Rattle.store.proofs.save.save.Statement.{statement}
 use Rattle.store.proofs.save.save.Tie as tie
-
-kept-count-requires : tie.Need-kept-count-requires
-kept-count-requires c κs = search needs
 
 -- at most forty distributors' words are kept
 few : (c : tie.After-kept-count) → c .kept-count .result ≤ 40
@@ -54,15 +51,6 @@ save-balances-requires c κs =
     rw (length-take-le (c .before .before .before .before .before .before .before .before .before .before .kept-count .result) (c .before .before .before .before .before .before .before .before .before .before .before .before .args .balances .now) (omega (arith, few (c .before .before .before .before .before .before .before .before .before .before))))
     (omega (arith, few (c .before .before .before .before .before .before .before .before .before .before)))
 
-same-length : tie.Need-same-length
-same-length c = search needs
-
-same-length-2 : tie.Need-same-length-2
-same-length-2 c = search needs
-
-same-length-3 : tie.Need-same-length-3
-same-length-3 c = search needs
-
 returns : tie.Need-returns
 returns c =
     let k = c .before .before .before .before .before .before .before .before .before .before .before .before in
@@ -89,7 +77,7 @@ pub save-spec : {M : Type 1} → statement M
 save-spec =
     tie.close
     (tie.spec
-    kept-count-requires
+    (λ c κs. search needs)
     mul-places
     slice-relend-prefix-save-present
     slice-aggregate-save-present
@@ -100,7 +88,5 @@ save-spec =
     slice-relend-prefix-save-balances
     slice-aggregate-save-balances
     save-balances-requires
-    same-length
-    same-length-2
-    same-length-3
+    (λ c. search needs) (λ c. search needs) (λ c. search needs)
     returns)

@@ -1,5 +1,5 @@
 -- The mean's answer tells whether a month is missing.
-use mathlib.Core.Path.{_≡_, sym, _∙_}
+use mathlib.Core.Path.{sym}
 use Rattle.series.proofs.SeriesLaws.{answered-present, answered-missing}
 use Rattle.supply.specs.Months.{lacksMonth}
 use Rattle.supply.proofs.RangeLaws.{term-taken}
@@ -29,9 +29,6 @@ term-mean-requires c κs =
 enum-told : tie.Need-enum-told
 enum-told c = search needs
 
-enum-told-2 : tie.Need-enum-told-2
-enum-told-2 c = search needs
-
 returns : tie.Need-returns
 unfolding lacksMonth
 returns c =
@@ -57,6 +54,6 @@ lacks-month-spec =
     term-word-requires-3
     term-mean-requires
     enum-told
-    enum-told-2
+    (λ c. search needs)
     returns
     returns-2)

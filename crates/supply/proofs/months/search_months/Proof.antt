@@ -1,7 +1,7 @@
 -- The invariants: nothing is missing in the lines passed, nor in the terms passed of the line at hand.
 use mathlib.Core.Path.{_≡_, refl, sym, _∙_}
-use mathlib.Core.Option.{none, some}
-use Prim.Native.Nat.{_≤_, _-_, _+_}
+use mathlib.Core.Option.{none}
+use Prim.Native.Nat.{_≤_, _-_}
 use Rattle.numbers.specs.Bounded.{firstBelow}
 use Rattle.numbers.proofs.FirstLaws.{first-step, first-is}
 use Rattle.supply.specs.Line.{termCountOf}
@@ -41,12 +41,6 @@ lacks-month-requires c κs =
     let s = o .before .before in
     (s .pre .0, (s .pre .1 .0, (s .pre .1 .1, (omega arith, omega (arith, c .before .before .line-word .ensures)))))
 
-add-k : tie.Need-add-k Inv-loop μ-loop Inv-lines μ-lines
-add-k c = omega arith
-
-loop-less : tie.Need-loop-less Inv-loop μ-loop Inv-lines μ-lines
-loop-less c = omega arith
-
 loop-again : tie.Need-loop-again Inv-loop μ-loop Inv-lines μ-lines
 loop-again c =
     let l = c .before .before .before in
@@ -57,12 +51,6 @@ loop-again c =
       first-step (missingTerm (s .args .table) (s .args .first) (s .args .month) (s .args .lines .now) (o .lines .j)) (l .loop .k) (l .loop .inv .2)
           ∙ term-published (s .args .table) (s .args .first) (s .args .month) (s .args .lines .now) (o .lines .j) (l .loop .k) (sym (c .before .lacks-month .ensures) ∙ c .if1 .left),
     )
-
-add-j : tie.Need-add-j Inv-loop μ-loop Inv-lines μ-lines
-add-j c = omega arith
-
-lines-less : tie.Need-lines-less Inv-loop μ-loop Inv-lines μ-lines
-lines-less c = omega arith
 
 lines-again : tie.Need-lines-again Inv-loop μ-loop Inv-lines μ-lines
 unfolding missingInLine
@@ -108,11 +96,9 @@ search-months-spec =
     line-word-requires
     loop-holds
     lacks-month-requires
-    add-k
-    loop-less
+    (λ c. omega arith) (λ c. omega arith)
     loop-again
-    add-j
-    lines-less
+    (λ c. omega arith) (λ c. omega arith)
     lines-again
     returns
     returns-2)

@@ -1,6 +1,6 @@
 -- The invariant: the sum of the weighted ratios passed; each is below 10^18.
 use mathlib.Core.Path.{_≡_, refl, sym, _∙_, ap, ap₂}
-use Prim.Native.Nat.{ℕ, _*_, _+_, _-_, _≤_, _<_}
+use Prim.Native.Nat.{ℕ, _*_, _-_, _≤_, _<_}
 use borrow.Author.Tests.{eq-eqb, ne-eqb}
 use Rattle.numbers.specs.Bounded.{sumBelow}
 use Rattle.numbers.specs.Rounding.{halfUp}
@@ -80,12 +80,6 @@ mul-sum c = omega (arith, product c, product-most c)
 add-sum : tie.Need-add-sum Inv-loop μ-loop
 add-sum c = omega (arith, product c, product-most c, sum-most (c .before .before .before), few (c .before .before .before))
 
-add-k : tie.Need-add-k Inv-loop μ-loop
-add-k c = omega arith
-
-loop-less : tie.Need-loop-less Inv-loop μ-loop
-loop-less c = omega arith
-
 loop-again : tie.Need-loop-again Inv-loop μ-loop
 loop-again c = (omega arith, rw sum-step (omega (arith, product c)))
 
@@ -114,8 +108,7 @@ factor-spec =
     term-ratio-requires
     mul-sum
     add-sum
-    add-k
-    loop-less
+    (λ c. omega arith) (λ c. omega arith)
     loop-again
     half-up-requires
     returns-2)

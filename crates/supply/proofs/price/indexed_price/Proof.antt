@@ -1,10 +1,9 @@
 -- The factor is tested before the product, and the price it gives is the definition's.
-use mathlib.Core.Path.{_≡_, sym, _∙_, ap₂}
+use mathlib.Core.Path.{_≡_, _∙_, ap₂}
 use Prim.Native.Nat.{_*_, _≤_}
 use native.Mathlib.Nat.{mul-le-mul}
 use borrow.Author.Tests.{lt-leb, le-leb}
 use Rattle.numbers.specs.Rounding.{halfUp}
-use Rattle.supply.specs.Line.{basePriceOf}
 use Rattle.supply.specs.Price.{indexedOf, lineIndexed, indexedAnswer}
 use borrow.Author.Needs.{needs}
 use Rattle.supply.proofs.price.indexed_price.Statement.{statement}
@@ -25,9 +24,6 @@ module _ (c : tie.After-half-up) where
   unfolding lineIndexed indexedOf
   indexed = c .half-up .ensures ∙ ap₂ (λ base factor. halfUp (base * factor) 1000000) (c .before .line-word .ensures) (c .before .before .before .factor .ensures)
 
-factor-requires : tie.Need-factor-requires
-factor-requires c κs = search needs
-
 returns : tie.Need-returns
 unfolding indexedAnswer
 returns c = rw (← c .before .factor .ensures, lt-leb _ _ (c .if1 .taken))
@@ -40,9 +36,6 @@ mul-half-up c = omega (arith, product c)
 
 half-up-requires : tie.Need-half-up-requires
 half-up-requires c κs = omega (arith, product c)
-
-is-between-requires : tie.Need-is-between-requires
-is-between-requires c κs = search needs
 
 returns-2 : tie.Need-returns-2
 unfolding indexedAnswer
@@ -60,11 +53,11 @@ pub indexed-price-spec : {M : Type 1} → statement M
 indexed-price-spec =
     tie.close
     (tie.spec
-    factor-requires
+    (λ c κs. search needs)
     returns
     line-word-requires
     mul-half-up
     half-up-requires
-    is-between-requires
+    (λ c κs. search needs)
     returns-2
     returns-3)

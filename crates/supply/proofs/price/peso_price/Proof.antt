@@ -1,5 +1,5 @@
 -- The product is below 2 * 10^11.
-use mathlib.Core.Path.{_≡_, ap}
+use mathlib.Core.Path.{ap}
 use native.Mathlib.Nat.{mul-le-mul}
 use Rattle.numbers.specs.declared.units.PesoPrice.{PesoPrice}
 use Rattle.supply.specs.Price.{pesoOf}

@@ -1,6 +1,6 @@
 -- The indexed price's answer picks the way, as in the definition.
-use mathlib.Core.Path.{_≡_, sym, _∙_, ap}
-use Rattle.supply.specs.Price.{fromIndexed, priceAnswer}
+use mathlib.Core.Path.{sym, _∙_}
+use Rattle.supply.specs.Price.{priceAnswer}
 use Rattle.supply.proofs.PriceLaws.{indexed-bounds}
 use borrow.Author.Needs.{needs}
 use Rattle.supply.proofs.price.price_line.Statement.{statement}
@@ -8,9 +8,6 @@ use Rattle.supply.proofs.price.price_line.Tie as tie
 
 indexed-price-requires : tie.Need-indexed-price-requires
 indexed-price-requires c κs = let s = c .before in (s .pre .0, (s .pre .1 .0, (s .pre .1 .1 .0 .start, (s .pre .1 .1 .1 .0, s .pre .1 .1 .1 .1))))
-
-enum-known-indexed : tie.Need-enum-known-indexed
-enum-known-indexed c = search needs
 
 reference-price-requires : tie.Need-reference-price-requires
 reference-price-requires c κs =
@@ -44,7 +41,7 @@ price-line-spec =
     tie.close
     (tie.spec
     indexed-price-requires
-    enum-known-indexed
+    (λ c. search needs)
     reference-price-requires
     enum-told
     returns

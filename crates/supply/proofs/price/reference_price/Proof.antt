@@ -53,20 +53,11 @@ module _ (c : tie.After-peso-price) where
       (peso ∙ ap (λ x. pesoOf x (s .args .dollar)) (bought (c .before .before .before)))
       (c .before .before .before .before .before .line-word .ensures)
 
-line-word-requires : tie.Need-line-word-requires
-line-word-requires c κs = search needs
-
-line-word-requires-2 : tie.Need-line-word-requires-2
-line-word-requires-2 c κs = search needs
-
 mul-half-up : tie.Need-mul-half-up
 mul-half-up c = omega (arith, bought-most c)
 
 half-up-requires : tie.Need-half-up-requires
 half-up-requires c κs = omega (arith, bought-most c, c .line-word2 .ensures, facts (c .before .before .before) .offer, facts (c .before .before .before) .offerMost)
-
-is-between-requires : tie.Need-is-between-requires
-is-between-requires c κs = search needs
 
 returns : tie.Need-returns
 unfolding referenceAnswer
@@ -85,9 +76,6 @@ half-up-requires-2 c κs =
     let s = c .before .before .before .before .before .before .before .before in
     omega (arith, turned-most (c .before), c .before .before .before .before .before .before .line-word .ensures, facts s .purchase, facts s .purchaseMost)
 
-checked-requires : tie.Need-checked-requires
-checked-requires c κs = search needs
-
 returns-2 : tie.Need-returns-2
 unfolding referenceAnswer
 returns-2 c =
@@ -101,14 +89,13 @@ pub reference-price-spec : {M : Type 1} → statement M
 reference-price-spec =
     tie.close
     (tie.spec
-    line-word-requires
-    line-word-requires-2
+    (λ c κs. search needs) (λ c κs. search needs)
     mul-half-up
     half-up-requires
-    is-between-requires
+    (λ c κs. search needs)
     returns
     peso-price-requires
     mul-half-up-2
     half-up-requires-2
-    checked-requires
+    (λ c κs. search needs)
     returns-2)

@@ -4,13 +4,13 @@ use Rattle.supply.specs.declared.price.References.{References}
 use Rattle.supply.specs.declared.price.BoundsSearch.the-variants.{AllWithin, BeyondAt}
 use Rattle.supply.proofs.PriceLaws.{line-within, line-beyond, line-price}
 use mathlib.Core.Path.{_≡_, refl, sym, _∙_, ap, ap₂}
-use mathlib.Core.Option.{Option, none, some}
-use Prim.Native.Nat.{ℕ, _+_, _-_, _≤_}
-use lib.ListN.{length, set}
+use mathlib.Core.Option.{none, some}
+use Prim.Native.Nat.{_-_, _≤_}
+use lib.ListN.{set}
 use Rattle.numbers.specs.Bounded.{firstBelow, filledBelow}
 use Rattle.numbers.specs.Units.{noPrice}
 use Rattle.numbers.proofs.FirstLaws.{first-step, first-is}
-use Rattle.numbers.proofs.ListLaws.{filled-none, filled-more, filled-length}
+use Rattle.numbers.proofs.ListLaws.{filled-none, filled-more}
 use Rattle.supply.specs.Price.{beyondIn, boundsSearch, referencePrice, referencePrices}
 use Rattle.supply.proofs.MonthLaws.{search-published}
 use Rattle.supply.proofs.price.reference_prices.Statement.{statement}
@@ -48,12 +48,6 @@ price-line-requires c κs =
       ),
     )
 
-enum-known-price : tie.Need-enum-known-price Inv-loop μ-loop
-enum-known-price c = search needs
-
-mul-prices : tie.Need-mul-prices Inv-loop μ-loop
-mul-prices c = omega arith
-
 array-set-from-prices : tie.Need-array-set-from-prices Inv-loop μ-loop
 array-set-from-prices c = omega (arith, c .before .before .before .before .before .before .before .before .pre .0 .lent .few)
 
@@ -73,9 +67,6 @@ returns c =
 
 add-j : tie.Need-add-j Inv-loop μ-loop
 add-j c = omega (arith, c .before .before .before .before .before .before .before .before .pre .0 .lent .few)
-
-loop-less : tie.Need-loop-less Inv-loop μ-loop
-loop-less c = omega arith
 
 loop-again : tie.Need-loop-again Inv-loop μ-loop
 loop-again c =
@@ -107,12 +98,11 @@ reference-prices-spec =
     no-references-requires
     loop-holds
     price-line-requires
-    enum-known-price
-    mul-prices
+    (λ c. search needs) (λ c. omega arith)
     array-set-from-prices
     enum-told
     returns
     add-j
-    loop-less
+    (λ c. omega arith)
     loop-again
     returns-2)

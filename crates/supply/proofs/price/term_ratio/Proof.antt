@@ -1,10 +1,10 @@
 -- The mean is of a term in range of which no month is missing.
-use mathlib.Core.Path.{_≡_, sym, _∙_, ap, ap₂}
-use Prim.Native.Nat.{ℕ, _*_, _≤_, _<_}
+use mathlib.Core.Path.{_≡_, _∙_, ap, ap₂}
+use Prim.Native.Nat.{ℕ, _*_, _≤_}
 use Rattle.numbers.specs.Rounding.{halfUp}
 use Rattle.series.specs.Series.{mostValue, termMean}
 use Rattle.series.proofs.SeriesLaws.{mean-most}
-use Rattle.supply.specs.Line.{seriesOf, lagOf, windowOf, baseValueOf}
+use Rattle.supply.specs.Line.{seriesOf, lagOf, windowOf}
 use Rattle.supply.specs.Range.{TermFacts}
 use Rattle.supply.specs.Months.{lacksMonth}
 use Rattle.supply.specs.Price.{termRatio, ratioOf}

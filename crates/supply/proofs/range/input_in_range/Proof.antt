@@ -4,12 +4,6 @@ use borrow.Author.Needs.{needs}
 use Rattle.supply.proofs.range.input_in_range.Statement.{statement}
 use Rattle.supply.proofs.range.input_in_range.Tie as tie
 
-market-in-range-requires : tie.Need-market-in-range-requires
-market-in-range-requires c κs = search needs
-
-lines-in-range-requires : tie.Need-lines-in-range-requires
-lines-in-range-requires c κs = search needs
-
 returns : tie.Need-returns
 unfolding inputInRange
 returns c = rw (← c .before .before .market-in-range .ensures, c .before .if1 .taken) (c .lines-in-range .ensures)
@@ -20,4 +14,7 @@ returns-2 c = rw (← c .before .market-in-range .ensures, c .if1 .left)
 
 pub input-in-range-spec : {M : Type 1} → statement M
 input-in-range-spec =
-    tie.close (tie.spec market-in-range-requires lines-in-range-requires returns returns-2)
+    tie.close (tie.spec
+    (λ c κs. search needs) (λ c κs. search needs)
+    returns
+    returns-2)

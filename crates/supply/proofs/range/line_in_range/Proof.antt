@@ -18,22 +18,13 @@ head c = sym (c .before .head-in-range .ensures) ∙ not-false _ (c .if1 .left)
 terms : (c : tie.Else2) → allBelow mostTerms (termAllowed (c .before .before .before .before .before .args .lines .now) (c .before .before .before .before .before .args .j)) ≡ true
 terms c = sym (c .before .terms-allowed .ensures) ∙ not-false _ (c .if2 .left)
 
-head-in-range-requires : tie.Need-head-in-range-requires
-head-in-range-requires c κs = search needs
-
 returns : tie.Need-returns
 unfolding lineInRange
 returns c = rw (← c .before .head-in-range .ensures, not-true (c .before .head-in-range .result) (c .if1 .taken))
 
-terms-allowed-requires : tie.Need-terms-allowed-requires
-terms-allowed-requires c κs = search needs
-
 returns-2 : tie.Need-returns-2
 unfolding lineInRange
 returns-2 c = rw (head (c .before .before), ← c .before .terms-allowed .ensures, not-true (c .before .terms-allowed .result) (c .if2 .taken))
-
-line-word-requires : tie.Need-line-word-requires
-line-word-requires c κs = search needs
 
 weight-total-requires : tie.Need-weight-total-requires
 weight-total-requires c κs =
@@ -59,11 +50,11 @@ pub line-in-range-spec : {M : Type 1} → statement M
 line-in-range-spec =
     tie.close
     (tie.spec
-    head-in-range-requires
+    (λ c κs. search needs)
     returns
-    terms-allowed-requires
+    (λ c κs. search needs)
     returns-2
-    line-word-requires
+    (λ c κs. search needs)
     weight-total-requires
     returns-3
     returns-4)

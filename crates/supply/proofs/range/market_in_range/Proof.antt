@@ -4,12 +4,6 @@ use borrow.Author.Needs.{needs}
 use Rattle.supply.proofs.range.market_in_range.Statement.{statement}
 use Rattle.supply.proofs.range.market_in_range.Tie as tie
 
-is-between-requires : tie.Need-is-between-requires
-is-between-requires c κs = search needs
-
-is-between-requires-2 : tie.Need-is-between-requires-2
-is-between-requires-2 c κs = search needs
-
 returns : tie.Need-returns
 unfolding marketInRange
 returns c =
@@ -40,4 +34,8 @@ returns-3 c =
 
 pub market-in-range-spec : {M : Type 1} → statement M
 market-in-range-spec =
-    tie.close (tie.spec is-between-requires is-between-requires-2 returns returns-2 returns-3)
+    tie.close (tie.spec
+    (λ c κs. search needs) (λ c κs. search needs)
+    returns
+    returns-2
+    returns-3)

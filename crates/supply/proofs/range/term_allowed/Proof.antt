@@ -5,15 +5,6 @@ use borrow.Author.Needs.{needs}
 use Rattle.supply.proofs.range.term_allowed.Statement.{statement}
 use Rattle.supply.proofs.range.term_allowed.Tie as tie
 
-line-word-requires : tie.Need-line-word-requires
-line-word-requires c κs = search needs
-
-term-in-range-requires : tie.Need-term-in-range-requires
-term-in-range-requires c κs = search needs
-
-term-unused-requires : tie.Need-term-unused-requires
-term-unused-requires c κs = search needs
-
 returns : tie.Need-returns
 unfolding termAllowed
 returns c = rw (← c .before .before .line-word .ensures, lt-ltb _ _ (c .before .if1 .taken)) (c .term-in-range .ensures)
@@ -25,4 +16,7 @@ returns-2 c = rw (← c .before .before .line-word .ensures, le-ltb _ _ (c .befo
 pub term-allowed-spec : {M : Type 1} → statement M
 term-allowed-spec =
     tie.close
-    (tie.spec line-word-requires term-in-range-requires term-unused-requires returns returns-2)
+    (tie.spec
+    (λ c κs. search needs) (λ c κs. search needs) (λ c κs. search needs)
+    returns
+    returns-2)

@@ -1,7 +1,7 @@
 -- The invariant: the sum of the weights passed. Each is at most 10,000, as its term is in range.
 use Rattle.supply.proofs.RangeLaws.{allowed-term}
-use mathlib.Core.Path.{_≡_, refl, sym, _∙_, ap}
-use Prim.Native.Nat.{ℕ, _≤_, _-_, _+_, _*_}
+use mathlib.Core.Path.{_≡_, refl}
+use Prim.Native.Nat.{ℕ, _≤_, _-_, _*_}
 use Rattle.numbers.specs.Bounded.{sumBelow}
 use Rattle.numbers.proofs.SumLaws.{sum-step, sum-le}
 use Rattle.supply.specs.Line.{termCountOf, weightOf}
@@ -17,15 +17,9 @@ Inv-loop lines count j terms total₀ k₀ total k = (k ≤ terms) × (total ≡
 abbrev μ-loop : tie.MeasureT-loop
 μ-loop lines count j terms total₀ k₀ total k = terms - k
 
-line-word-requires : tie.Need-line-word-requires Inv-loop μ-loop
-line-word-requires c κs = search needs
-
 loop-holds : tie.Need-loop-holds Inv-loop μ-loop
 unfolding sumBelow
 loop-holds c = (omega arith, refl)
-
-term-word-requires : tie.Need-term-word-requires Inv-loop μ-loop
-term-word-requires c κs = search needs
 
 -- the weights passed, and the one at hand
 module _ (c : tie.After-term-word Inv-loop μ-loop) where
@@ -49,12 +43,6 @@ module _ (c : tie.After-term-word Inv-loop μ-loop) where
 add-total : tie.Need-add-total Inv-loop μ-loop
 add-total c = omega (arith, c .term-word .ensures, weight c, weights c)
 
-add-k : tie.Need-add-k Inv-loop μ-loop
-add-k c = omega arith
-
-loop-less : tie.Need-loop-less Inv-loop μ-loop
-loop-less c = omega arith
-
 loop-again : tie.Need-loop-again Inv-loop μ-loop
 loop-again c = (omega arith, rw sum-step (omega (arith, c .term-word .ensures)))
 
@@ -72,11 +60,10 @@ weight-total-spec =
     (tie.spec
     Inv-loop
     μ-loop
-    line-word-requires
+    (λ c κs. search needs)
     loop-holds
-    term-word-requires
+    (λ c κs. search needs)
     add-total
-    add-k
-    loop-less
+    (λ c. omega arith) (λ c. omega arith)
     loop-again
     returns)

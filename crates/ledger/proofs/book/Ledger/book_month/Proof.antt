@@ -5,12 +5,11 @@ use borrow.Author.Needs.{needs}
 use Rattle.ledger.proofs.book.Ledger.book_month.Statement.{statement}
 use Rattle.ledger.proofs.book.Ledger.book_month.Tie as tie
 
-add-self : tie.Need-add-self
-add-self c = search needs
-
 returns : tie.Need-returns
 unfolding settledLedger
 returns c = refl
 
 pub book-month-spec : {M : Type 1} → statement M
-book-month-spec = tie.close (tie.spec add-self returns)
+book-month-spec = tie.close (tie.spec
+    (λ c. search needs)
+    returns)

@@ -4,9 +4,6 @@ use borrow.Author.Needs.{needs}
 use Rattle.numbers.proofs.units.PesoPrice.checked.Statement.{statement}
 use Rattle.numbers.proofs.units.PesoPrice.checked.Tie as tie
 
-is-between-requires : tie.Need-is-between-requires
-is-between-requires c κs = search needs
-
 returns : tie.Need-returns
 unfolding checkedPrice
 returns c = rw (← c .before .is-between .ensures, c .if1 .taken)
@@ -16,4 +13,7 @@ unfolding checkedPrice
 returns-2 c = rw (← c .before .is-between .ensures, c .if1 .left)
 
 pub checked-spec : {M : Type 1} → statement M
-checked-spec = tie.close (tie.spec is-between-requires returns returns-2)
+checked-spec = tie.close (tie.spec
+    (λ c κs. search needs)
+    returns
+    returns-2)
