@@ -89,7 +89,7 @@ array-share-prefix-buffer : tie.Need-array-share-prefix-buffer Inv-loop μ-loop
 array-share-prefix-buffer c = c .before .before .before .before .before .run-command .ensures .within
 
 slice-aggregate-write-all : tie.Need-slice-aggregate-write-all Inv-loop μ-loop
-slice-aggregate-write-all c = sym (length-take-le _ _ (c .before .before .before .before .before .before .run-command .ensures .within))
+slice-aggregate-write-all c = sym (length-take-le _ _ (array-share-prefix-buffer (c .before)))
 
 write-all-requires : tie.Need-write-all-requires Inv-loop μ-loop
 write-all-requires c κs = search needs
