@@ -1,6 +1,5 @@
 -- By the next token, unless something is broken before it.
-use mathlib.Core.Path.{_∙_, ap}
-use Rattle.journal.specs.Cursor.{numberFrom}
+use mathlib.Core.Path.{_∙_}
 use Rattle.journal.proofs.TokenLaws.{start-within, token-within}
 use Rattle.journal.proofs.CursorLaws.{number-after-broken, number-after-token}
 use borrow.Author.Needs.{needs}
@@ -27,7 +26,8 @@ returns-2 c =
     let r = c .before in
     let t = r .before in
     let s = t .before in
-    c .number-from .ensures ∙ ap (λ m. numberFrom m (s .before .before .before .args .most) (s .token-start .result) (t .token-end .result)) (r .read-number .ensures) ∙ number-after-token _ _ (s .before .if1 .left) _ _ (s .token-start .ensures) (t .token-end .ensures) _
+    c .number-from .ensures
+    ∙ rw (r .read-number .ensures) (number-after-token _ _ (s .before .if1 .left) _ _ (s .token-start .ensures) (t .token-end .ensures) _)
 
 pub next-number-spec : {M : Type 1} → statement M
 next-number-spec =

@@ -1,6 +1,5 @@
 -- By the next token, unless something is broken before it.
-use mathlib.Core.Path.{_∙_, ap}
-use Rattle.journal.specs.Cursor.{signedFrom}
+use mathlib.Core.Path.{_∙_}
 use Rattle.journal.proofs.TokenLaws.{start-within, token-within}
 use Rattle.journal.proofs.CursorLaws.{signed-after-broken, signed-after-token}
 use borrow.Author.Needs.{needs}
@@ -27,7 +26,8 @@ returns-2 c =
     let r = c .before in
     let t = r .before in
     let s = t .before in
-    c .signed-from .ensures ∙ ap (λ m. signedFrom m (s .token-start .result) (t .token-end .result)) (r .read-signed .ensures) ∙ signed-after-token _ _ (s .before .if1 .left) _ _ (s .token-start .ensures) (t .token-end .ensures)
+    c .signed-from .ensures
+    ∙ rw (r .read-signed .ensures) (signed-after-token _ _ (s .before .if1 .left) _ _ (s .token-start .ensures) (t .token-end .ensures))
 
 pub next-signed-spec : {M : Type 1} → statement M
 next-signed-spec =

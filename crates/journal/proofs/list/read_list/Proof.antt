@@ -1,8 +1,8 @@
 -- The name, the count, and as many numbers into the first places.
-use mathlib.Core.Path.{_≡_, sym, ap}
+use mathlib.Core.Path.{sym, ap}
 use mathlib.Core.List.{_++_}
 use native.Mathlib.Omega.{arith}
-use lib.ListN.{length, take, drop}
+use lib.ListN.{drop}
 use lib.Seq.{length-take-le}
 use Rattle.journal.proofs.CursorLaws.{word-within, number-within, number-most}
 use Rattle.journal.proofs.ListLaws.{count-read, list-read, words-read}
@@ -20,14 +20,12 @@ slice-relend-prefix-fill-numbers : tie.Need-slice-relend-prefix-fill-numbers
 slice-relend-prefix-fill-numbers c = rw (c .next-number .ensures) (number-most _ _ _)
 
 slice-aggregate-fill-numbers : tie.Need-slice-aggregate-fill-numbers
-slice-aggregate-fill-numbers c = sym (length-take-le _ _ (rw (c .before .next-number .ensures) (number-most _ _ _)))
+slice-aggregate-fill-numbers c = sym (length-take-le _ _ (slice-relend-prefix-fill-numbers (c .before)))
 
 fill-numbers-requires : tie.Need-fill-numbers-requires
 fill-numbers-requires c κs =
     let n = c .before in
-    let w = n .before in
-    let named = word-within _ _ (w .before .before .before .before .pre) _ _ (w .next-word .ensures) in
-    omega (arith, number-within _ _ named _ _ (n .next-number .ensures))
+    omega (arith, number-within _ _ (next-number-requires (n .before) (n .next-number .lifetimes)) _ _ (n .next-number .ensures))
 
 same-length : tie.Need-same-length
 same-length c = search needs
@@ -39,8 +37,7 @@ returns c =
     let w = n .before in
     let s = w .before .before .before .before in
     let counted = count-read _ _ _ _ _ _ (w .next-word .ensures) (n .next-number .ensures) in
-    let same : length (take (n .next-number .result .value) (s .args .into .now)) ≡ n .next-number .result .value =
-    length-take-le _ _ (rw (n .next-number .ensures) (number-most _ _ _)) in (
+    let same = length-take-le _ _ (slice-relend-prefix-fill-numbers n) in (
       list-read _ _ _ _ _ counted _ same _ _ (f .fill-numbers .ensures .0),
       ap (λ words. words ++ drop (n .next-number .result .value) (s .args .into .now)) (words-read _ _ _ _ _ counted _ same _ _ (f .fill-numbers .ensures .1)),
     )

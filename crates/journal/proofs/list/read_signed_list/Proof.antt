@@ -1,7 +1,7 @@
 -- The name, the count, and as many numbers into the first places.
-use mathlib.Core.Path.{_≡_, sym, ap}
+use mathlib.Core.Path.{sym, ap}
 use mathlib.Core.List.{_++_}
-use lib.ListN.{length, take, drop}
+use lib.ListN.{drop}
 use lib.Seq.{length-take-le}
 use Rattle.journal.proofs.CursorLaws.{word-within, number-within, number-most}
 use Rattle.journal.proofs.ListLaws.{count-read, signed-list-read, signed-words-read}
@@ -19,13 +19,12 @@ slice-relend-prefix-fill-signed : tie.Need-slice-relend-prefix-fill-signed
 slice-relend-prefix-fill-signed c = rw (c .next-number .ensures) (number-most _ _ _)
 
 slice-aggregate-fill-signed : tie.Need-slice-aggregate-fill-signed
-slice-aggregate-fill-signed c = sym (length-take-le _ _ (rw (c .before .next-number .ensures) (number-most _ _ _)))
+slice-aggregate-fill-signed c = sym (length-take-le _ _ (slice-relend-prefix-fill-signed (c .before)))
 
 fill-signed-requires : tie.Need-fill-signed-requires
 fill-signed-requires c κs =
     let n = c .before in
-    let w = n .before in
-    number-within _ _ (word-within _ _ (w .before .before .before .pre) _ _ (w .next-word .ensures)) _ _ (n .next-number .ensures)
+    number-within _ _ (next-number-requires (n .before) (n .next-number .lifetimes)) _ _ (n .next-number .ensures)
 
 same-length : tie.Need-same-length
 same-length c = search needs
@@ -37,8 +36,7 @@ returns c =
     let w = n .before in
     let s = w .before .before .before in
     let counted = count-read _ _ _ _ _ _ (w .next-word .ensures) (n .next-number .ensures) in
-    let same : length (take (n .next-number .result .value) (s .args .into .now)) ≡ n .next-number .result .value =
-    length-take-le _ _ (rw (n .next-number .ensures) (number-most _ _ _)) in (
+    let same = length-take-le _ _ (slice-relend-prefix-fill-signed n) in (
       signed-list-read _ _ _ _ _ counted _ same _ (f .fill-signed .ensures .0),
       ap (λ words. words ++ drop (n .next-number .result .value) (s .args .into .now)) (signed-words-read _ _ _ _ _ counted _ same _ (f .fill-signed .ensures .1)),
     )
