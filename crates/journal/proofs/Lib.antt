@@ -5,3 +5,6 @@ pub mod CursorLaws
 pub mod ListLaws
 pub mod CommandLaws
 pub mod ReadLaws
+pub mod TextLaws
+pub mod DecimalLaws
+pub mod StandsLaws
