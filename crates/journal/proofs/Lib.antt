@@ -8,3 +8,4 @@ pub mod ReadLaws
 pub mod TextLaws
 pub mod DecimalLaws
 pub mod StandsLaws
+pub mod LoadLaws

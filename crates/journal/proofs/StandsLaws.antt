@@ -131,7 +131,13 @@ list-own l d =
     ext-getD d _ l (list-length (λ i. getD l i d) (length l))
     (λ i p. list-at (λ j. getD l j d) (length l) d i (omega (arith, list-length (λ j. getD l j d) (length l))))
 
--- a list after a line end: its name, its count and its words
+-- a list after a line end: its name, its count and its words, and what stands after it
+abbrev pub listLine : List ℕ → List ℕ → List ℕ → List ℕ
+listLine name list tail = lineEnd ∷ (name ++ (word (length list) ++ (textBelow (length list) (λ i. word (getD list i 0)) ++ tail)))
+
+abbrev pub signedListLine : List ℕ → List ℤ → List ℕ → List ℕ
+signedListLine name list tail = lineEnd ∷ (name ++ (word (length list) ++ (textBelow (length list) (λ i. signedWord (getD list i (pos 0))) ++ tail)))
+
 pub record ListStands (text : List ℕ) (cursor : Cursor) (name : List ℕ) (longest most : ℕ) (list tail : List ℕ) : Type 0 where
   pub words : listWords text cursor name longest most ≡ list
   pub next : Stands text (listAfter text cursor name longest most .next) tail
@@ -147,7 +153,7 @@ module _ (text : List ℕ) (cursor : Cursor) (name : List ℕ) (plain : Plain na
       number-stands text (wordAfter text cursor name) k longest rest p short b
       (word-stands text cursor lineEnd name (word k ++ rest) line-gap plain (word-ends k rest) s)
 
-  pub list-stands : (list : List ℕ) (most : ℕ) → length list ≤ longest → ((i : ℕ) → i < length list → getD list i 0 ≤ most) → most < 2 ^ 64 → Stands text cursor (lineEnd ∷ (name ++ (word (length list) ++ (textBelow (length list) (λ i. word (getD list i 0)) ++ tail)))) → ListStands text cursor name longest most list tail
+  pub list-stands : (list : List ℕ) (most : ℕ) → length list ≤ longest → ((i : ℕ) → i < length list → getD list i 0 ≤ most) → most < 2 ^ 64 → Stands text cursor (listLine name list tail) → ListStands text cursor name longest most list tail
   unfolding listAfter listWords
   list-stands list most p q small s =
       let g : ℕ → ℕ = λ i. getD list i 0 in
@@ -158,7 +164,7 @@ module _ (text : List ℕ) (cursor : Cursor) (name : List ℕ) (plain : Plain na
         next = rw (count .value) (numbers .next);
       }
 
-  pub signed-list-stands : (list : List ℤ) → length list ≤ longest → ((i : ℕ) → i < length list → SFits w64 (getD list i (pos 0))) → Stands text cursor (lineEnd ∷ (name ++ (word (length list) ++ (textBelow (length list) (λ i. signedWord (getD list i (pos 0))) ++ tail)))) → SignedListStands text cursor name longest list tail
+  pub signed-list-stands : (list : List ℤ) → length list ≤ longest → ((i : ℕ) → i < length list → SFits w64 (getD list i (pos 0))) → Stands text cursor (signedListLine name list tail) → SignedListStands text cursor name longest list tail
   unfolding signedListAfter signedListWords
   signed-list-stands list p q s =
       let g : ℕ → ℤ = λ i. getD list i (pos 0) in

@@ -94,9 +94,13 @@ module _ (text : List ℕ) (k : ℕ) (token tail : List ℕ) (p : Plain token) (
       ∙ p .plain 0 (p .some)
 
   -- a token that stands at the place itself
-  pub token-here : drop k text ≡ token ++ tail → TokenStands text k token tail
+  pub start-same : drop k text ≡ token ++ tail → tokenStart text k ≡ k
   unfolding tokenStart
-  token-here h = token-at k (start-here text k false (length text - k) (first-plain k h)) h
+  start-same h = start-here text k false (length text - k) (first-plain k h)
+
+  pub end-same : drop k text ≡ token ++ tail → tokenEnd text k ≡ k + length token
+  unfolding tokenEnd
+  end-same h = end-walked text token tail k h (p .plain) e
 
   -- a token after a blank or a line end
   pub token-next : (gap : ℕ) → Gap gap → drop k text ≡ gap ∷ (token ++ tail) → TokenStands text k token tail
@@ -111,9 +115,15 @@ module _ (text : List ℕ) (k : ℕ) (token tail : List ℕ) (p : Plain token) (
       after
 
 -- only a blank or a line end is left: no token follows
-pub token-none : (text : List ℕ) (k gap : ℕ) → Gap gap → drop k text ≡ gap ∷ [] → tokenStart text k ≡ length text
+pub end-none : (text : List ℕ) → tokenEnd text (length text) ≡ length text
+unfolding tokenEnd endFrom
+end-none text =
+    let left : length text - length text ≡ 0 = omega arith in
+    rw left
+
+pub start-none : (text : List ℕ) (k gap : ℕ) → Gap gap → drop k text ≡ gap ∷ [] → tokenStart text k ≡ length text
 unfolding tokenStart startFrom
-token-none text k gap g h =
+start-none text k gap g h =
     let left : length text - (k + 1) ≡ 0 = omega (arith, tail-length text k (gap ∷ []) h) in
     let last : k + 1 ≡ length text = omega (arith, tail-length text k (gap ∷ []) h) in
     start-on text k false (place-within text k gap [] h) (ap endsToken (byte-first text k (gap ∷ []) h) ∙ g .ends)
