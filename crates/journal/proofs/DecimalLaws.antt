@@ -1,15 +1,15 @@
 -- A number that stands in a text as its decimal digits is read as that number. Assumes nothing.
 use mathlib.Core.Path.{_≡_, refl, sym, _∙_, ap, ap₂}
-use mathlib.Core.Bool.{true, false, _&&_, and-false}
+use mathlib.Core.Bool.{true, false, and-false}
 use mathlib.Core.List.{List, [], _∷_, _++_}
 use Prim.Native.Nat.{ℕ, zero, suc, _+_, _*_, _-_, _/_, _%_, _^_, _<_, _≤_}
 use native.Mathlib.Nat.{zero-add, add-zero, pow-suc}
 use native.Mathlib.Omega.{arith}
 use native.Mathlib.Decide.{decLt}
-use lib.Dec.{leb, ltb, eqb}
-use lib.ListN.{length, getD, drop, length-append, List·getD-append}
+use lib.Dec.{ltb}
+use lib.ListN.{length, drop, length-append, List·getD-append}
 use lib.Seq.{getD-append-seam}
-use lib.IntN.{ℤ, pos, negsuc, natAbs, subℕ}
+use lib.IntN.{ℤ, pos, negsuc}
 use mir.Syntax.{w64}
 use mir.Val.{SFits}
 use borrow.Author.Tests.{le-leb, lt-ltb, le-ltb, eq-eqb, ne-eqb}
@@ -21,11 +21,11 @@ use Rattle.numbers.proofs.TestLaws.{all-of}
 use Rattle.numbers.proofs.SignedLaws.{pos-sub-zero, sub-lt}
 use Rattle.text.specs.Text.{digit, minus, decimalWithin, decimal, signedDecimal}
 use Rattle.journal.specs.Token.{byteAt, isBlank, endsToken}
-use Rattle.journal.specs.Number.{isDigit, digitsValue, readable, numberIn, isMinus, signedIn}
+use Rattle.journal.specs.Number.{isDigit, digitsValue, numberIn, isMinus, signedIn}
 use Rattle.journal.specs.declared.number.Reading.the-variants.{Number}
 use Rattle.journal.specs.declared.number.SignedReading.the-variants.{Signed}
-use Rattle.journal.proofs.NumberLaws.{digit-least, digit-most, digitAt, all-readable}
-use Rattle.journal.proofs.SignedLaws.{above-small, signed-minus, signed-plain}
+use Rattle.journal.proofs.NumberLaws.{digit-least, digitAt, all-readable}
+use Rattle.journal.proofs.SignedLaws.{above-small, signed-plain}
 use Rattle.journal.proofs.TextLaws.{byte-first, byte-of, one-after, Plain}
 
 -- a token of digits, and the number that they write
@@ -35,7 +35,7 @@ pub record Digits (token : List ℕ) (x : ℕ) : Type 0 where
   pub value : digitsValue (length token) token 0 ≡ x
 
 -- digits have their value wherever they stand
-pub value-same : (text : List ℕ) (start : ℕ) (token tail : List ℕ) → drop start text ≡ token ++ tail → (k : ℕ) → k ≤ length token → digitsValue k text start ≡ digitsValue k token 0
+value-same : (text : List ℕ) (start : ℕ) (token tail : List ℕ) → drop start text ≡ token ++ tail → (k : ℕ) → k ≤ length token → digitsValue k text start ≡ digitsValue k token 0
 unfolding digitsValue
 value-same text start token tail h zero p = refl
 value-same text start token tail h (suc k) p =
@@ -118,7 +118,7 @@ module _ (text : List ℕ) (start end : ℕ) (token tail : List ℕ) (h : drop s
       let least : 48 ≤ byteAt token 0 = digit-least (byteAt token 0) (t .each 0 (t .some)) in
       rw (ne-eqb (byteAt text start) 45 (λ q. omega (arith, first)), and-false (ltb start end))
 
-  pub above-in : x < 2 ^ 63 → signedIn text start end ≡ Signed (pos x)
+  above-in : x < 2 ^ 63 → signedIn text start end ≡ Signed (pos x)
   above-in p = sym (signed-plain text start end not-minus) ∙ sym (above-small _ x (number-in (omega arith)) (pos x) p (sym (pos-sub-zero x)))
 
 -- and with a minus in front as the number below zero
@@ -127,7 +127,7 @@ module _ (text : List ℕ) (start end : ℕ) (token tail : List ℕ) (h : drop s
   unfolding isMinus
   is-minus = rw (lt-ltb start end (omega arith), eq-eqb (byteAt text start) 45 (byte-first text start (minus ∷ (token ++ tail)) h))
 
-  pub below-in : n < 2 ^ 63 → signedIn text start end ≡ Signed (negsuc n)
+  below-in : n < 2 ^ 63 → signedIn text start end ≡ Signed (negsuc n)
   unfolding signedIn
   below-in p =
       let size : numberIn text (start + 1) end ≡ Number (suc n) =

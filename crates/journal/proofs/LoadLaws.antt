@@ -1,8 +1,7 @@
 -- A `load` that stands in a text is read as its numbers and lists. Assumes nothing.
 use mathlib.Core.Path.{_≡_, refl, sym}
-use mathlib.Core.Bool.{false}
 use mathlib.Core.List.{List, [], _∷_, _++_}
-use Prim.Native.Nat.{ℕ, _+_, _-_, _^_, _<_, _≤_}
+use Prim.Native.Nat.{ℕ, _^_, _<_, _≤_}
 use native.Mathlib.Omega.{arith}
 use lib.ListN.{length, getD, drop}
 use lib.IntN.{ℤ, pos}
@@ -11,11 +10,11 @@ use mir.Val.{SFits}
 use borrow.Author.Tests.{ne-eqb}
 use Rattle.numbers.specs.Bounded.{allBelow}
 use Rattle.numbers.specs.Sizes.{mostDistributors, sectorPlaces}
-use Rattle.text.specs.Text.{word}
-use Rattle.journal.specs.Token.{isBlank, endsToken, tokenStart, tokenEnd}
+use Rattle.text.specs.Text.{lineEnd, word}
+use Rattle.journal.specs.Token.{isBlank, endsToken}
 use Rattle.journal.specs.Word.{sameByte, isWord}
-use Rattle.journal.specs.Cursor.{readTo, mostWord, numberAfter}
-use Rattle.journal.specs.List.{cursorAfter, numberAt, listAfter, listWords, signedListAfter, signedListWords}
+use Rattle.journal.specs.Cursor.{readTo, mostWord}
+use Rattle.journal.specs.List.{cursorAfter, numberAt, listWords, signedListWords}
 use Rattle.journal.specs.Command.{loadName, presentName, chargesName, balancesName, commandIn, commandAfter, loadFixedFrom, loadMonthFrom, loadPresentFrom, loadChargesFrom, loadBalancesFrom, loadAfter}
 use Rattle.journal.specs.declared.cursor.Cursor.{Cursor}
 use Rattle.journal.specs.declared.command.Command.{Command}
@@ -23,7 +22,7 @@ use Rattle.journal.specs.declared.command.Command.the-variants.{Load, En
 use Rattle.journal.specs.declared.command.CommandRead.{CommandRead}
 use Rattle.journal.proofs.CommandLaws.{command-end, command-read}
 use Rattle.journal.proofs.TextLaws.{Gap, line-gap, Ends, gap-ends, Plain, start-same, end-same, start-none, end-none}
-use Rattle.journal.proofs.StandsLaws.{Stands, plain-name, word-ends, number-stands, listLine, signedListLine, list-stands, signed-list-stands}
+use Rattle.journal.proofs.StandsLaws.{Ahead, plain-name, word-ends, number-stands, listLine, signedListLine, list-stands, signed-list-stands}
 
 -- the names in it end no token
 load-plain : Plain loadName
@@ -46,13 +45,13 @@ abbrev pub commandRead : Command → Cursor → CommandRead
 commandRead command next = record { command = command; next = next }
 
 -- the word `load` at the start of a text
-load-in : (tail : List ℕ) → Load ≡ commandIn (loadName ++ tail) 0 4
+load-in : (tail : List ℕ) → Load ≡ commandIn (loadName ++ tail) 0 (length loadName)
 unfolding commandIn isWord sameByte allBelow
 load-in tail = rw (ne-eqb 0 (length (loadName ++ tail)) (λ e. omega arith))
 
-pub load-command : (tail : List ℕ) → Ends tail → commandRead Load (readTo 4) ≡ commandAfter (loadName ++ tail) 0
+pub load-command : (tail : List ℕ) → Ends tail → commandRead Load (readTo (length loadName)) ≡ commandAfter (loadName ++ tail) 0
 load-command tail e =
-    command-read (loadName ++ tail) 0 0 4 (sym (start-same (loadName ++ tail) 0 loadName tail load-plain e refl)) (sym (end-same (loadName ++ tail) 0 loadName tail load-plain e refl)) Load (load-in tail) refl (readTo 4) refl
+    command-read (loadName ++ tail) 0 0 (length loadName) (sym (start-same (loadName ++ tail) 0 loadName tail load-plain e refl)) (sym (end-same (loadName ++ tail) 0 loadName tail load-plain e refl)) Load (load-in tail) refl (readTo (length loadName)) refl
 
 -- only a line end is left: no command follows
 pub end-command : (text : List ℕ) (at gap : ℕ) → Gap gap → drop at text ≡ gap ∷ [] → commandRead End (readTo (length text)) ≡ commandAfter text at
@@ -71,13 +70,13 @@ pub record LoadWords : Type 0 where
   pub balances : List ℤ
 
 module _ (w : LoadWords) where
-  abbrev pub balancesText : List ℕ
-  balancesText = signedListLine balancesName (w .balances) (10 ∷ [])
+  abbrev balancesText : List ℕ
+  balancesText = signedListLine balancesName (w .balances) (lineEnd ∷ [])
 
-  abbrev pub chargesText : List ℕ
+  abbrev chargesText : List ℕ
   chargesText = signedListLine chargesName (w .charges) balancesText
 
-  abbrev pub presentText : List ℕ
+  abbrev presentText : List ℕ
   presentText = listLine presentName (w .present) chargesText
 
   abbrev pub loadText : List ℕ
@@ -107,13 +106,13 @@ pub record LoadStands (text : List ℕ) (cursor : Cursor) (w : LoadWords) : Type
   pub present : listWords text (loadPresentFrom text cursor) presentName sectorPlaces 1 ≡ w .present
   pub charges : signedListWords text (loadChargesFrom text cursor) chargesName sectorPlaces ≡ w .charges
   pub balances : signedListWords text (loadBalancesFrom text cursor) balancesName mostDistributors ≡ w .balances
-  pub next : Stands text (loadAfter text cursor .next) (10 ∷ [])
+  pub next : Ahead text (loadAfter text cursor .next) (lineEnd ∷ [])
 
 module _ (text : List ℕ) (cursor : Cursor) (w : LoadWords) (fits : LoadFits w) where
-  line-ends : (tail : List ℕ) → Ends (10 ∷ tail)
-  line-ends tail = gap-ends 10 tail line-gap
+  line-ends : (tail : List ℕ) → Ends (lineEnd ∷ tail)
+  line-ends tail = gap-ends lineEnd tail line-gap
 
-  pub load-stands : Stands text cursor (loadText w) → LoadStands text cursor w
+  pub load-stands : Ahead text cursor (loadText w) → LoadStands text cursor w
   unfolding loadAfter loadBalancesFrom loadChargesFrom loadPresentFrom loadMonthFrom loadFixedFrom cursorAfter numberAt
   load-stands s =
       let n = number-stands text cursor (w .n) mostWord _ (omega (arith, fits .n)) (omega arith) (word-ends (w .months) _) s in
@@ -123,7 +122,7 @@ module _ (text : List ℕ) (cursor : Cursor) (w : LoadWords) (fits : LoadFits w)
       let month = number-stands text _ (w .month) mostWord (presentText w) (omega (arith, fits .month)) (omega arith) (line-ends _) (fixed .next) in
       let present = list-stands text _ presentName present-plain sectorPlaces (omega arith) (chargesText w) (line-ends _) (w .present) 1 (fits .presents) (fits .present) (omega arith) (month .next) in
       let charges = signed-list-stands text _ chargesName charges-plain sectorPlaces (omega arith) (balancesText w) (line-ends _) (w .charges) (fits .charged) (fits .charges) (present .next) in
-      let balances = signed-list-stands text _ balancesName balances-plain mostDistributors (omega arith) (10 ∷ []) (line-ends []) (w .balances) (fits .balanced) (fits .balances) (charges .next) in
+      let balances = signed-list-stands text _ balancesName balances-plain mostDistributors (omega arith) (lineEnd ∷ []) (line-ends []) (w .balances) (fits .balanced) (fits .balances) (charges .next) in
       record {
         n = n .value;
         months = months .value;

@@ -1,8 +1,8 @@
 -- Words, numbers and lists that stand in a text after a cursor are read as what they write. Assumes nothing.
-use mathlib.Core.Path.{_≡_, refl, sym, _∙_, ap}
-use mathlib.Core.Bool.{Bool, true, false, cond, not}
-use mathlib.Core.List.{List, [], _∷_, _++_, append-assoc}
-use Prim.Native.Nat.{ℕ, zero, suc, _+_, _-_, _^_, _<_, _≤_}
+use mathlib.Core.Path.{_≡_, refl, _∙_}
+use mathlib.Core.Bool.{true, false, not}
+use mathlib.Core.List.{List, _∷_, _++_, append-assoc}
+use Prim.Native.Nat.{ℕ, zero, suc, _^_, _<_, _≤_}
 use native.Mathlib.Omega.{arith}
 use lib.ListN.{length, getD, drop}
 use lib.Seq.{ext-getD}
@@ -27,18 +27,18 @@ use Rattle.journal.proofs.TextLaws.{Gap, blank-gap, line-gap, Ends, gap
 use Rattle.journal.proofs.DecimalLaws.{Digits, decimal-digits, digits-plain, number-in, signed-token, signed-in}
 
 -- the text is read unbroken to the cursor, and this stands after it
-pub record Stands (text : List ℕ) (cursor : Cursor) (tail : List ℕ) : Type 0 where
+pub record Ahead (text : List ℕ) (cursor : Cursor) (tail : List ℕ) : Type 0 where
   pub whole : cursor .broken ≡ false
   pub after : drop (cursor .at) text ≡ tail
 
 -- what was read, and what stands after it
 pub record NumberStands (text : List ℕ) (read : NumberRead) (x : ℕ) (tail : List ℕ) : Type 0 where
   pub value : read .value ≡ x
-  pub next : Stands text (read .next) tail
+  pub next : Ahead text (read .next) tail
 
 pub record SignedStands (text : List ℕ) (read : SignedRead) (z : ℤ) (tail : List ℕ) : Type 0 where
   pub value : read .value ≡ z
-  pub next : Stands text (read .next) tail
+  pub next : Ahead text (read .next) tail
 
 -- the bytes of a name, which end no token
 pub plain-name : (name : List ℕ) → 0 < length name → allBelow (length name) (λ i. not (endsToken (byteAt name i))) ≡ true → Plain name
@@ -52,14 +52,14 @@ module _ (text : List ℕ) (cursor : Cursor) where
   end = tokenEnd text start
 
   -- a name after a blank or a line end
-  pub word-stands : (gap : ℕ) (name tail : List ℕ) → Gap gap → Plain name → Ends tail → Stands text cursor (gap ∷ (name ++ tail)) → Stands text (wordAfter text cursor name) tail
+  pub word-stands : (gap : ℕ) (name tail : List ℕ) → Gap gap → Plain name → Ends tail → Ahead text cursor (gap ∷ (name ++ tail)) → Ahead text (wordAfter text cursor name) tail
   word-stands gap name tail g p e s =
       let t : TokenStands text (cursor .at) name tail = token-next text (cursor .at) name tail p e gap g (s .after) in
       rw (← word-after-same text cursor (s .whole) start end refl refl name (token-word t))
       (record { whole = refl; after = token-after t })
 
   -- a number after a blank
-  pub number-stands : (x most : ℕ) (tail : List ℕ) → x ≤ most → most < 2 ^ 64 → Ends tail → Stands text cursor (word x ++ tail) → NumberStands text (numberAfter text cursor most) x tail
+  pub number-stands : (x most : ℕ) (tail : List ℕ) → x ≤ most → most < 2 ^ 64 → Ends tail → Ahead text cursor (word x ++ tail) → NumberStands text (numberAfter text cursor most) x tail
   unfolding word
   number-stands x most tail p q e s =
       let d : Digits (decimal x) x = decimal-digits x (omega arith) in
@@ -68,7 +68,7 @@ module _ (text : List ℕ) (cursor : Cursor) where
       rw (← number-after-token text cursor (s .whole) start end refl refl most, ← number-small (numberIn text start end) most start end (readTo end) x reading p refl)
       (record { value = refl; next = record { whole = refl; after = token-after t } })
 
-  pub signed-stands : (z : ℤ) (tail : List ℕ) → SFits w64 z → Ends tail → Stands text cursor (signedWord z ++ tail) → SignedStands text (signedAfter text cursor) z tail
+  pub signed-stands : (z : ℤ) (tail : List ℕ) → SFits w64 z → Ends tail → Ahead text cursor (signedWord z ++ tail) → SignedStands text (signedAfter text cursor) z tail
   unfolding signedWord
   signed-stands z tail f e s =
       let t : TokenStands text (cursor .at) (signedDecimal z) tail = token-next text (cursor .at) (signedDecimal z) tail (signed-token z f) e blank blank-gap (s .after) in
@@ -81,18 +81,18 @@ pub word-ends : (x : ℕ) (tail : List ℕ) → Ends (word x ++ tail)
 unfolding word
 word-ends x tail = gap-ends blank (decimal x ++ tail) blank-gap
 
-pub signed-word-ends : (z : ℤ) (tail : List ℕ) → Ends (signedWord z ++ tail)
+signed-word-ends : (z : ℤ) (tail : List ℕ) → Ends (signedWord z ++ tail)
 unfolding signedWord
 signed-word-ends z tail = gap-ends blank (signedDecimal z ++ tail) blank-gap
 
 -- texts one after another, each read from where the one before it ends, with what each reading says
 module _ (f : ℕ → List ℕ) (begins : (i : ℕ) (tail : List ℕ) → Ends (f i ++ tail)) where
-  pub texts-ends : (k : ℕ) (tail : List ℕ) → Ends tail → Ends (textBelow k f ++ tail)
+  texts-ends : (k : ℕ) (tail : List ℕ) → Ends tail → Ends (textBelow k f ++ tail)
   unfolding textBelow
   texts-ends zero tail e = e
   texts-ends (suc k) tail e = rw append-assoc (texts-ends k (f k ++ tail) (begins k tail))
 
-  texts-stand : (text : List ℕ) (cursors : ℕ → Cursor) (Says : ℕ → Type 0) (k : ℕ) (tail : List ℕ) → ((i : ℕ) → i < k → (rest : List ℕ) → Ends rest → Stands text (cursors i) (f i ++ rest) → Says i × Stands text (cursors (suc i)) rest) → Ends tail → Stands text (cursors 0) (textBelow k f ++ tail) → ((i : ℕ) → i < k → Says i) × Stands text (cursors k) tail
+  texts-stand : (text : List ℕ) (cursors : ℕ → Cursor) (Says : ℕ → Type 0) (k : ℕ) (tail : List ℕ) → ((i : ℕ) → i < k → (rest : List ℕ) → Ends rest → Ahead text (cursors i) (f i ++ rest) → Says i × Ahead text (cursors (suc i)) rest) → Ends tail → Ahead text (cursors 0) (textBelow k f ++ tail) → ((i : ℕ) → i < k → Says i) × Ahead text (cursors k) tail
   unfolding textBelow
   texts-stand text cursors Says zero tail read e s = ((λ i p. absurd (omega arith)), s)
   texts-stand text cursors Says (suc k) tail read e s =
@@ -104,21 +104,21 @@ module _ (f : ℕ → List ℕ) (begins : (i : ℕ) (tail : List ℕ) → Ends (
 -- so many numbers
 pub record NumbersStand (text : List ℕ) (cursor : Cursor) (k : ℕ) (g : ℕ → ℕ) (most : ℕ) (tail : List ℕ) : Type 0 where
   pub each : (i : ℕ) → i < k → numberAt text cursor most i ≡ g i
-  pub next : Stands text (cursorAfter k text cursor most) tail
+  pub next : Ahead text (cursorAfter k text cursor most) tail
 
 pub record SignedNumbersStand (text : List ℕ) (cursor : Cursor) (k : ℕ) (g : ℕ → ℤ) (tail : List ℕ) : Type 0 where
   pub each : (i : ℕ) → i < k → signedAt text cursor i ≡ g i
-  pub next : Stands text (signedCursorAfter k text cursor) tail
+  pub next : Ahead text (signedCursorAfter k text cursor) tail
 
 module _ (text : List ℕ) (cursor : Cursor) (k : ℕ) (tail : List ℕ) (e : Ends tail) where
-  pub numbers-stand : (g : ℕ → ℕ) (most : ℕ) → ((i : ℕ) → i < k → g i ≤ most) → most < 2 ^ 64 → Stands text cursor (textBelow k (λ i. word (g i)) ++ tail) → NumbersStand text cursor k g most tail
+  pub numbers-stand : (g : ℕ → ℕ) (most : ℕ) → ((i : ℕ) → i < k → g i ≤ most) → most < 2 ^ 64 → Ahead text cursor (textBelow k (λ i. word (g i)) ++ tail) → NumbersStand text cursor k g most tail
   unfolding cursorAfter numberAt
   numbers-stand g most p q s =
       let read = texts-stand (λ i. word (g i)) (λ i rest. word-ends (g i) rest) text (λ i. cursorAfter i text cursor most) (λ i. numberAt text cursor most i ≡ g i) k tail
       (λ i r rest b t. let here = number-stands text (cursorAfter i text cursor most) (g i) most rest (p i r) q b t in (here .value, here .next)) e s in
       record { each = read .0; next = read .1 }
 
-  pub signed-numbers-stand : (g : ℕ → ℤ) → ((i : ℕ) → i < k → SFits w64 (g i)) → Stands text cursor (textBelow k (λ i. signedWord (g i)) ++ tail) → SignedNumbersStand text cursor k g tail
+  pub signed-numbers-stand : (g : ℕ → ℤ) → ((i : ℕ) → i < k → SFits w64 (g i)) → Ahead text cursor (textBelow k (λ i. signedWord (g i)) ++ tail) → SignedNumbersStand text cursor k g tail
   unfolding signedCursorAfter signedAt
   signed-numbers-stand g p s =
       let read = texts-stand (λ i. signedWord (g i)) (λ i rest. signed-word-ends (g i) rest) text (λ i. signedCursorAfter i text cursor) (λ i. signedAt text cursor i ≡ g i) k tail
@@ -126,7 +126,7 @@ module _ (text : List ℕ) (cursor : Cursor) (k : ℕ) (tail : List ℕ) (e : En
       record { each = read .0; next = read .1 }
 
 -- a list's own values below its length
-pub list-own : {A : Type 0} (l : List A) (d : A) → listBelow (length l) (λ i. getD l i d) ≡ l
+list-own : {A : Type 0} (l : List A) (d : A) → listBelow (length l) (λ i. getD l i d) ≡ l
 list-own l d =
     ext-getD d _ l (list-length (λ i. getD l i d) (length l))
     (λ i p. list-at (λ j. getD l j d) (length l) d i (omega (arith, list-length (λ j. getD l j d) (length l))))
@@ -140,20 +140,20 @@ signedListLine name list tail = lineEnd ∷ (name ++ (word (length list) ++ (tex
 
 pub record ListStands (text : List ℕ) (cursor : Cursor) (name : List ℕ) (longest most : ℕ) (list tail : List ℕ) : Type 0 where
   pub words : listWords text cursor name longest most ≡ list
-  pub next : Stands text (listAfter text cursor name longest most .next) tail
+  pub next : Ahead text (listAfter text cursor name longest most .next) tail
 
 pub record SignedListStands (text : List ℕ) (cursor : Cursor) (name : List ℕ) (longest : ℕ) (list : List ℤ) (tail : List ℕ) : Type 0 where
   pub words : signedListWords text cursor name longest ≡ list
-  pub next : Stands text (signedListAfter text cursor name longest .next) tail
+  pub next : Ahead text (signedListAfter text cursor name longest .next) tail
 
 module _ (text : List ℕ) (cursor : Cursor) (name : List ℕ) (plain : Plain name) (longest : ℕ) (short : longest < 2 ^ 64) (tail : List ℕ) (e : Ends tail) where
-  count-stands : (k : ℕ) (rest : List ℕ) → k ≤ longest → Ends rest → Stands text cursor (lineEnd ∷ (name ++ (word k ++ rest))) → NumberStands text (countAfter text cursor name longest) k rest
+  count-stands : (k : ℕ) (rest : List ℕ) → k ≤ longest → Ends rest → Ahead text cursor (lineEnd ∷ (name ++ (word k ++ rest))) → NumberStands text (countAfter text cursor name longest) k rest
   unfolding countAfter
   count-stands k rest p b s =
       number-stands text (wordAfter text cursor name) k longest rest p short b
       (word-stands text cursor lineEnd name (word k ++ rest) line-gap plain (word-ends k rest) s)
 
-  pub list-stands : (list : List ℕ) (most : ℕ) → length list ≤ longest → ((i : ℕ) → i < length list → getD list i 0 ≤ most) → most < 2 ^ 64 → Stands text cursor (listLine name list tail) → ListStands text cursor name longest most list tail
+  pub list-stands : (list : List ℕ) (most : ℕ) → length list ≤ longest → ((i : ℕ) → i < length list → getD list i 0 ≤ most) → most < 2 ^ 64 → Ahead text cursor (listLine name list tail) → ListStands text cursor name longest most list tail
   unfolding listAfter listWords
   list-stands list most p q small s =
       let g : ℕ → ℕ = λ i. getD list i 0 in
@@ -164,7 +164,7 @@ module _ (text : List ℕ) (cursor : Cursor) (name : List ℕ) (plain : Plain na
         next = rw (count .value) (numbers .next);
       }
 
-  pub signed-list-stands : (list : List ℤ) → length list ≤ longest → ((i : ℕ) → i < length list → SFits w64 (getD list i (pos 0))) → Stands text cursor (signedListLine name list tail) → SignedListStands text cursor name longest list tail
+  pub signed-list-stands : (list : List ℤ) → length list ≤ longest → ((i : ℕ) → i < length list → SFits w64 (getD list i (pos 0))) → Ahead text cursor (signedListLine name list tail) → SignedListStands text cursor name longest list tail
   unfolding signedListAfter signedListWords
   signed-list-stands list p q s =
       let g : ℕ → ℤ = λ i. getD list i (pos 0) in

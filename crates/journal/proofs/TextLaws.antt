@@ -1,30 +1,29 @@
 -- What stands in a text from a place on: its bytes, and the token that starts there. Assumes nothing.
 use mathlib.Core.Path.{_≡_, refl, sym, _∙_, ap}
-use mathlib.Core.Bool.{Bool, true, false, cond}
+use mathlib.Core.Bool.{Bool, true, false}
 use mathlib.Core.List.{List, [], _∷_, _++_}
-use Prim.Native.Nat.{ℕ, zero, suc, _+_, _-_, _<_, _≤_}
+use Prim.Native.Nat.{ℕ, suc, _+_, _-_, _<_}
 use native.Mathlib.Nat.{add-zero}
 use native.Mathlib.Omega.{arith}
-use lib.Dec.{eqb}
 use lib.ListN.{length, getD, drop, length-drop, List·getD-append}
 use lib.Seq.{drop-drop, drop-append-seam, getD-drop}
 use borrow.Author.Tests.{eq-eqb}
-use Rattle.numbers.specs.Bounded.{allBelow}
 use Rattle.numbers.proofs.TestLaws.{all-of}
+use Rattle.text.specs.Text.{blank, lineEnd}
 use Rattle.journal.specs.Token.{byteAt, isBlank, endsToken, commentAfter, startFrom, tokenStart, endFrom, tokenEnd}
 use Rattle.journal.specs.Word.{sameByte, isWord}
 use Rattle.journal.proofs.TokenLaws.{end-here, end-on, start-here, start-on}
 
 module _ (text : List ℕ) (k : ℕ) (tail : List ℕ) (h : drop k text ≡ tail) where
   -- the bytes from a place on
-  pub byte-on : (i : ℕ) → byteAt text (k + i) ≡ byteAt tail i
+  byte-on : (i : ℕ) → byteAt text (k + i) ≡ byteAt tail i
   byte-on i = sym (getD-drop k text i 0) ∙ ap (λ (l : List ℕ). getD l i 0) h
 
   pub byte-first : byteAt text k ≡ byteAt tail 0
   byte-first = ap (λ (i : ℕ). byteAt text i) (sym (add-zero k)) ∙ byte-on 0
 
   -- how many there are
-  pub tail-length : length tail ≡ length text - k
+  tail-length : length tail ≡ length text - k
   tail-length = ap length (sym h) ∙ length-drop k text
 
 module _ (text : List ℕ) (k : ℕ) (token tail : List ℕ) (h : drop k text ≡ token ++ tail) where
@@ -32,7 +31,7 @@ module _ (text : List ℕ) (k : ℕ) (token tail : List ℕ) (h : drop k text �
   pub byte-of : (i : ℕ) → i < length token → byteAt text (k + i) ≡ byteAt token i
   byte-of i p = byte-on text k (token ++ tail) h i ∙ List·getD-append token tail 0 i p
 
-  pub stands-after : drop (k + length token) text ≡ tail
+  stands-after : drop (k + length token) text ≡ tail
   stands-after = sym (drop-drop (length token) k text) ∙ ap (λ (l : List ℕ). drop (length token) l) h ∙ drop-append-seam token tail
 
 pub one-after : (text : List ℕ) (k b : ℕ) (tail : List ℕ) → drop k text ≡ b ∷ tail → drop (k + 1) text ≡ tail
@@ -46,11 +45,11 @@ pub record Gap (byte : ℕ) : Type 0 where
   pub ends : endsToken byte ≡ true
   pub outside : commentAfter false byte ≡ false
 
-pub blank-gap : Gap 32
+pub blank-gap : Gap blank
 unfolding endsToken isBlank commentAfter
 blank-gap = record { ends = refl; outside = refl }
 
-pub line-gap : Gap 10
+pub line-gap : Gap lineEnd
 unfolding endsToken isBlank commentAfter
 line-gap = record { ends = refl; outside = refl }
 
