@@ -5,3 +5,7 @@ pub mod CursorLaws
 pub mod ListLaws
 pub mod CommandLaws
 pub mod ReadLaws
+pub mod TextLaws
+pub mod DecimalLaws
+pub mod StandsLaws
+pub mod LoadLaws
