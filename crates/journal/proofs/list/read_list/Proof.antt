@@ -25,7 +25,8 @@ slice-aggregate-fill-numbers c = sym (length-take-le _ _ (slice-relend-prefix-fi
 fill-numbers-requires : tie.Need-fill-numbers-requires
 fill-numbers-requires c κs =
     let n = c .before in
-    omega (arith, number-within _ _ (next-number-requires (n .before) (n .next-number .lifetimes)) _ _ (n .next-number .ensures))
+    let named = next-number-requires (n .before) (n .next-number .lifetimes) in
+    omega (arith, named, number-within _ _ named _ _ (n .next-number .ensures))
 
 same-length : tie.Need-same-length
 same-length c = search needs
