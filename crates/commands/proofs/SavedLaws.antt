@@ -28,7 +28,7 @@ use Rattle.journal.proofs.LoadLaws.{commandRead, load-command, end-command, Loa
 use Rattle.answers.specs.Answer.{listText, signedListText, numbersText, savingText}
 use Rattle.answers.proofs.SizeLaws.{saving-size}
 use Rattle.commands.specs.Replay.{keptLedger, stepAfter, readWith, replayFrom, replayed}
-use Rattle.commands.proofs.ReplayLaws.{stepBy, step-made, step-end, step-read, replay-none, replay-on, short}
+use Rattle.commands.proofs.ReplayLaws.{stepBy, step-made, step-read, replay-none, replay-on, short}
 
 -- what every ledger of the machine meets: its numbers fit 64 bits, and its lists have their lengths
 pub record MachineLedger (book : Ledger) : Type 0 where
@@ -136,7 +136,7 @@ module _ (book : Ledger) where
       ended : readWith book (length text) ≡ stepAfter text (next .at) book
       ended =
           step-read text (next .at) book (commandRead End (readTo (length text))) (end-command text (next .at) lineEnd line-gap (stands .next .after)) End refl (readWith book (length text))
-          (step-end text (readTo (length text)) book)
+          (step-made End text (readTo (length text)) book (readTo (length text)) refl refl book refl)
 
       read-back : replayFrom (length text) text 0 (emptyLedger 0) ≡ readWith book (length text)
       read-back =

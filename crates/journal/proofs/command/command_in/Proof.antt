@@ -17,23 +17,11 @@ returns c = command-end _ _ _ (c .if1 .taken)
 past-end : (c : tie.Else1) → Past c 0
 past-end c = among-all _ _ _ (c .if1 .left)
 
-slice-aggregate-is-word : tie.Need-slice-aggregate-is-word
-slice-aggregate-is-word c = search needs
-
-is-word-requires : tie.Need-is-word-requires
-is-word-requires c κs = search needs
-
 returns-2 : tie.Need-returns-2
 returns-2 c = command-word (past-end (c .before .before .before)) (sym (c .before .is-word .ensures) ∙ c .if2 .taken)
 
 past-open : (c : tie.Else2) → Past (c .before .before .before) 1
 past-open c = among-rest (past-end (c .before .before .before)) (sym (c .before .is-word .ensures) ∙ c .if2 .left)
-
-slice-aggregate-is-word-2 : tie.Need-slice-aggregate-is-word-2
-slice-aggregate-is-word-2 c = search needs
-
-is-word-requires-2 : tie.Need-is-word-requires-2
-is-word-requires-2 c κs = search needs
 
 returns-3 : tie.Need-returns-3
 returns-3 c = command-word (past-open (c .before .before .before)) (sym (c .before .is-word2 .ensures) ∙ c .if3 .taken)
@@ -41,35 +29,17 @@ returns-3 c = command-word (past-open (c .before .before .before)) (sym (c .befo
 past-fix : (c : tie.Else3) → Past (c .before .before .before .before .before .before) 2
 past-fix c = among-rest (past-open (c .before .before .before)) (sym (c .before .is-word2 .ensures) ∙ c .if3 .left)
 
-slice-aggregate-is-word-3 : tie.Need-slice-aggregate-is-word-3
-slice-aggregate-is-word-3 c = search needs
-
-is-word-requires-3 : tie.Need-is-word-requires-3
-is-word-requires-3 c κs = search needs
-
 returns-4 : tie.Need-returns-4
 returns-4 c = command-word (past-fix (c .before .before .before)) (sym (c .before .is-word3 .ensures) ∙ c .if4 .taken)
 
 past-settle : (c : tie.Else4) → Past (c .before .before .before .before .before .before .before .before .before) 3
 past-settle c = among-rest (past-fix (c .before .before .before)) (sym (c .before .is-word3 .ensures) ∙ c .if4 .left)
 
-slice-aggregate-is-word-4 : tie.Need-slice-aggregate-is-word-4
-slice-aggregate-is-word-4 c = search needs
-
-is-word-requires-4 : tie.Need-is-word-requires-4
-is-word-requires-4 c κs = search needs
-
 returns-5 : tie.Need-returns-5
 returns-5 c = command-word (past-settle (c .before .before .before)) (sym (c .before .is-word4 .ensures) ∙ c .if5 .taken)
 
 past-save : (c : tie.Else5) → Past (c .before .before .before .before .before .before .before .before .before .before .before .before) 4
 past-save c = among-rest (past-settle (c .before .before .before)) (sym (c .before .is-word4 .ensures) ∙ c .if5 .left)
-
-slice-aggregate-is-word-5 : tie.Need-slice-aggregate-is-word-5
-slice-aggregate-is-word-5 c = search needs
-
-is-word-requires-5 : tie.Need-is-word-requires-5
-is-word-requires-5 c κs = search needs
 
 returns-6 : tie.Need-returns-6
 returns-6 c = command-word (past-save (c .before .before .before)) (sym (c .before .is-word5 .ensures) ∙ c .if6 .taken)
@@ -85,19 +55,14 @@ command-in-spec =
     tie.close
     (tie.spec
     returns
-    slice-aggregate-is-word
-    is-word-requires
+    (λ c. search needs) (λ c κs. search needs)
     returns-2
-    slice-aggregate-is-word-2
-    is-word-requires-2
+    (λ c. search needs) (λ c κs. search needs)
     returns-3
-    slice-aggregate-is-word-3
-    is-word-requires-3
+    (λ c. search needs) (λ c κs. search needs)
     returns-4
-    slice-aggregate-is-word-4
-    is-word-requires-4
+    (λ c. search needs) (λ c κs. search needs)
     returns-5
-    slice-aggregate-is-word-5
-    is-word-requires-5
+    (λ c. search needs) (λ c κs. search needs)
     returns-6
     returns-7)

@@ -6,20 +6,11 @@ use borrow.Author.Needs.{needs}
 use Rattle.journal.proofs.command.next_command.Statement.{statement}
 use Rattle.journal.proofs.command.next_command.Tie as tie
 
-token-start-requires : tie.Need-token-start-requires
-token-start-requires c κs = search needs
-
 token-end-requires : tie.Need-token-end-requires
 token-end-requires c κs = start-within _ _ _ (c .before .before .pre) (c .token-start .ensures)
 
 command-in-requires : tie.Need-command-in-requires
 command-in-requires c κs = token-within _ _ _ (c .before .before .before .pre) (c .before .token-start .ensures) _ (c .token-end .ensures)
-
-is-unknown-requires : tie.Need-is-unknown-requires
-is-unknown-requires c κs = search needs
-
-broken-at-requires : tie.Need-broken-at-requires
-broken-at-requires c κs = search needs
 
 returns : tie.Need-returns
 returns c =
@@ -27,9 +18,6 @@ returns c =
     let i = u .before in
     let t = i .before in
     command-broken _ _ _ _ (t .before .token-start .ensures) (t .token-end .ensures) _ (i .command-in .ensures) (sym (u .is-unknown .ensures) ∙ c .before .if1 .taken) _ (c .broken-at .ensures)
-
-read-to-requires : tie.Need-read-to-requires
-read-to-requires c κs = search needs
 
 returns-2 : tie.Need-returns-2
 returns-2 c =
@@ -42,11 +30,10 @@ pub next-command-spec : {M : Type 1} → statement M
 next-command-spec =
     tie.close
     (tie.spec
-    token-start-requires
+    (λ c κs. search needs)
     token-end-requires
     command-in-requires
-    is-unknown-requires
-    broken-at-requires
+    (λ c κs. search needs) (λ c κs. search needs)
     returns
-    read-to-requires
+    (λ c κs. search needs)
     returns-2)

@@ -18,32 +18,20 @@ next-number-requires-3 c κs = number-within _ _ (next-number-requires-2 (c .bef
 next-number-requires-4 : tie.Need-next-number-requires-4
 next-number-requires-4 c κs = number-within _ _ (next-number-requires-3 (c .before) κs) _ _ (c .next-number3 .ensures)
 
-slice-aggregate-read-list : tie.Need-slice-aggregate-read-list
-slice-aggregate-read-list c = search needs
-
 read-list-requires : tie.Need-read-list-requires
 read-list-requires c κs =
     let first = c .before .before in
     number-within _ _ (next-number-requires-4 (first .before) (first .next-number4 .lifetimes)) _ _ (first .next-number4 .ensures)
-
-slice-aggregate-read-list-2 : tie.Need-slice-aggregate-read-list-2
-slice-aggregate-read-list-2 c = search needs
 
 read-list-requires-2 : tie.Need-read-list-requires-2
 read-list-requires-2 c κs =
     let series = c .before .before .before .before in
     list-within _ _ (read-list-requires (series .before) κs) _ _ _ _ (series .read-list .ensures .0)
 
-slice-aggregate-read-list-3 : tie.Need-slice-aggregate-read-list-3
-slice-aggregate-read-list-3 c = search needs
-
 read-list-requires-3 : tie.Need-read-list-requires-3
 read-list-requires-3 c κs =
     let lines = c .before .before .before .before in
     list-within _ _ (read-list-requires-2 (lines .before) κs) _ _ _ _ (lines .read-list2 .ensures .0)
-
-slice-aggregate-next-word : tie.Need-slice-aggregate-next-word
-slice-aggregate-next-word c = search needs
 
 next-word-requires : tie.Need-next-word-requires
 next-word-requires c κs =
@@ -52,15 +40,6 @@ next-word-requires c κs =
 
 next-number-requires-5 : tie.Need-next-number-requires-5
 next-number-requires-5 c κs = word-within _ _ (next-word-requires (c .before) (c .next-word .lifetimes)) _ _ (c .next-word .ensures)
-
-same-length : tie.Need-same-length
-same-length c = search needs
-
-same-length-2 : tie.Need-same-length-2
-same-length-2 c = search needs
-
-same-length-3 : tie.Need-same-length-3
-same-length-3 c = search needs
 
 returns : tie.Need-returns
 returns c =
@@ -94,16 +73,14 @@ read-fix-spec =
     next-number-requires-2
     next-number-requires-3
     next-number-requires-4
-    slice-aggregate-read-list
+    (λ c. search needs)
     read-list-requires
-    slice-aggregate-read-list-2
+    (λ c. search needs)
     read-list-requires-2
-    slice-aggregate-read-list-3
+    (λ c. search needs)
     read-list-requires-3
-    slice-aggregate-next-word
+    (λ c. search needs)
     next-word-requires
     next-number-requires-5
-    same-length
-    same-length-2
-    same-length-3
+    (λ c. search needs) (λ c. search needs) (λ c. search needs)
     returns)

@@ -21,38 +21,20 @@ next-number-requires-4 c κs = number-within _ _ (next-number-requires-3 (c .bef
 next-number-requires-5 : tie.Need-next-number-requires-5
 next-number-requires-5 c κs = number-within _ _ (next-number-requires-4 (c .before) κs) _ _ (c .next-number4 .ensures)
 
-slice-aggregate-read-list : tie.Need-slice-aggregate-read-list
-slice-aggregate-read-list c = search needs
-
 read-list-requires : tie.Need-read-list-requires
 read-list-requires c κs =
     let month = c .before .before in
     number-within _ _ (next-number-requires-5 (month .before) (month .next-number5 .lifetimes)) _ _ (month .next-number5 .ensures)
-
-slice-aggregate-read-signed-list : tie.Need-slice-aggregate-read-signed-list
-slice-aggregate-read-signed-list c = search needs
 
 read-signed-list-requires : tie.Need-read-signed-list-requires
 read-signed-list-requires c κs =
     let present = c .before .before .before .before in
     list-within _ _ (read-list-requires (present .before) κs) _ _ _ _ (present .read-list .ensures .0)
 
-slice-aggregate-read-signed-list-2 : tie.Need-slice-aggregate-read-signed-list-2
-slice-aggregate-read-signed-list-2 c = search needs
-
 read-signed-list-requires-2 : tie.Need-read-signed-list-requires-2
 read-signed-list-requires-2 c κs =
     let charges = c .before .before .before in
     signed-list-within _ _ (read-signed-list-requires (charges .before) κs) _ _ _ (charges .read-signed-list .ensures .0)
-
-same-length : tie.Need-same-length
-same-length c = search needs
-
-same-length-2 : tie.Need-same-length-2
-same-length-2 c = search needs
-
-same-length-3 : tie.Need-same-length-3
-same-length-3 c = search needs
 
 returns : tie.Need-returns
 returns c =
@@ -87,13 +69,11 @@ read-load-spec =
     next-number-requires-3
     next-number-requires-4
     next-number-requires-5
-    slice-aggregate-read-list
+    (λ c. search needs)
     read-list-requires
-    slice-aggregate-read-signed-list
+    (λ c. search needs)
     read-signed-list-requires
-    slice-aggregate-read-signed-list-2
+    (λ c. search needs)
     read-signed-list-requires-2
-    same-length
-    same-length-2
-    same-length-3
+    (λ c. search needs) (λ c. search needs) (λ c. search needs)
     returns)

@@ -9,24 +9,15 @@ use Rattle.journal.proofs.command.read_settle.Tie as tie
 next-number-requires : tie.Need-next-number-requires
 next-number-requires c κs = search needs
 
-slice-aggregate-read-list : tie.Need-slice-aggregate-read-list
-slice-aggregate-read-list c = search needs
-
 read-list-requires : tie.Need-read-list-requires
 read-list-requires c κs =
     let month = c .before .before in
     number-within _ _ (next-number-requires (month .before) (month .next-number .lifetimes)) _ _ (month .next-number .ensures)
 
-slice-aggregate-read-list-2 : tie.Need-slice-aggregate-read-list-2
-slice-aggregate-read-list-2 c = search needs
-
 read-list-requires-2 : tie.Need-read-list-requires-2
 read-list-requires-2 c κs =
     let readings = c .before .before .before .before in
     list-within _ _ (read-list-requires (readings .before) κs) _ _ _ _ (readings .read-list .ensures .0)
-
-slice-aggregate-next-word : tie.Need-slice-aggregate-next-word
-slice-aggregate-next-word c = search needs
 
 next-word-requires : tie.Need-next-word-requires
 next-word-requires c κs =
@@ -35,12 +26,6 @@ next-word-requires c κs =
 
 next-number-requires-2 : tie.Need-next-number-requires-2
 next-number-requires-2 c κs = word-within _ _ (next-word-requires (c .before) (c .next-word .lifetimes)) _ _ (c .next-word .ensures)
-
-same-length : tie.Need-same-length
-same-length c = search needs
-
-same-length-2 : tie.Need-same-length-2
-same-length-2 c = search needs
 
 returns : tie.Need-returns
 returns c =
@@ -63,13 +48,12 @@ read-settle-spec =
     tie.close
     (tie.spec
     next-number-requires
-    slice-aggregate-read-list
+    (λ c. search needs)
     read-list-requires
-    slice-aggregate-read-list-2
+    (λ c. search needs)
     read-list-requires-2
-    slice-aggregate-next-word
+    (λ c. search needs)
     next-word-requires
     next-number-requires-2
-    same-length
-    same-length-2
+    (λ c. search needs) (λ c. search needs)
     returns)

@@ -9,17 +9,11 @@ use Rattle.journal.proofs.cursor.next_number.Tie as tie
 returns : tie.Need-returns
 returns c = number-after-broken _ _ (c .if1 .taken) _
 
-token-start-requires : tie.Need-token-start-requires
-token-start-requires c κs = search needs
-
 token-end-requires : tie.Need-token-end-requires
 token-end-requires c κs = start-within _ _ _ (c .before .before .before .pre) (c .token-start .ensures)
 
 read-number-requires : tie.Need-read-number-requires
 read-number-requires c κs = token-within _ _ _ (c .before .before .before .before .pre) (c .before .token-start .ensures) _ (c .token-end .ensures)
-
-number-from-requires : tie.Need-number-from-requires
-number-from-requires c κs = search needs
 
 returns-2 : tie.Need-returns-2
 returns-2 c =
@@ -34,8 +28,8 @@ next-number-spec =
     tie.close
     (tie.spec
     returns
-    token-start-requires
+    (λ c κs. search needs)
     token-end-requires
     read-number-requires
-    number-from-requires
+    (λ c κs. search needs)
     returns-2)

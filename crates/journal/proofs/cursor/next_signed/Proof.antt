@@ -9,17 +9,11 @@ use Rattle.journal.proofs.cursor.next_signed.Tie as tie
 returns : tie.Need-returns
 returns c = signed-after-broken _ _ (c .if1 .taken)
 
-token-start-requires : tie.Need-token-start-requires
-token-start-requires c κs = search needs
-
 token-end-requires : tie.Need-token-end-requires
 token-end-requires c κs = start-within _ _ _ (c .before .before .before .pre) (c .token-start .ensures)
 
 read-signed-requires : tie.Need-read-signed-requires
 read-signed-requires c κs = token-within _ _ _ (c .before .before .before .before .pre) (c .before .token-start .ensures) _ (c .token-end .ensures)
-
-signed-from-requires : tie.Need-signed-from-requires
-signed-from-requires c κs = search needs
 
 returns-2 : tie.Need-returns-2
 returns-2 c =
@@ -34,8 +28,8 @@ next-signed-spec =
     tie.close
     (tie.spec
     returns
-    token-start-requires
+    (λ c κs. search needs)
     token-end-requires
     read-signed-requires
-    signed-from-requires
+    (λ c κs. search needs)
     returns-2)

@@ -9,17 +9,11 @@ use Rattle.journal.proofs.cursor.next_word.Tie as tie
 returns : tie.Need-returns
 returns c = word-after-broken _ _ (c .if1 .taken) _
 
-token-start-requires : tie.Need-token-start-requires
-token-start-requires c κs = search needs
-
 token-end-requires : tie.Need-token-end-requires
 token-end-requires c κs = start-within _ _ _ (c .before .before .before .before .pre) (c .token-start .ensures)
 
 is-word-requires : tie.Need-is-word-requires
 is-word-requires c κs = token-within _ _ _ (c .before .before .before .before .before .pre) (c .before .token-start .ensures) _ (c .token-end .ensures)
-
-read-to-requires : tie.Need-read-to-requires
-read-to-requires c κs = search needs
 
 returns-2 : tie.Need-returns-2
 returns-2 c =
@@ -27,9 +21,6 @@ returns-2 c =
     let t = w .before in
     let s = t .before in
     c .read-to .ensures ∙ word-after-same _ _ (s .before .if1 .left) _ _ (s .token-start .ensures) (t .token-end .ensures) _ (sym (w .is-word .ensures) ∙ c .before .if2 .taken)
-
-broken-at-requires : tie.Need-broken-at-requires
-broken-at-requires c κs = search needs
 
 returns-3 : tie.Need-returns-3
 returns-3 c =
@@ -43,10 +34,10 @@ next-word-spec =
     tie.close
     (tie.spec
     returns
-    token-start-requires
+    (λ c κs. search needs)
     token-end-requires
     is-word-requires
-    read-to-requires
+    (λ c κs. search needs)
     returns-2
-    broken-at-requires
+    (λ c κs. search needs)
     returns-3)

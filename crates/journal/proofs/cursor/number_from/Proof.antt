@@ -5,23 +5,11 @@ use borrow.Author.Needs.{needs}
 use Rattle.journal.proofs.cursor.number_from.Statement.{statement}
 use Rattle.journal.proofs.cursor.number_from.Tie as tie
 
-enum-known-reading : tie.Need-enum-known-reading
-enum-known-reading c = search needs
-
-read-to-requires : tie.Need-read-to-requires
-read-to-requires c κs = search needs
-
 returns : tie.Need-returns
 returns c = number-small _ _ _ _ _ _ (c .before .before .before .reading .given .1) (c .before .if1 .taken) (c .read-to .ensures)
 
-broken-at-requires : tie.Need-broken-at-requires
-broken-at-requires c κs = search needs
-
 enum-told : tie.Need-enum-told
 enum-told c = search needs
-
-broken-at-requires-2 : tie.Need-broken-at-requires-2
-broken-at-requires-2 c κs = search needs
 
 returns-2 : tie.Need-returns-2
 returns-2 c = number-large _ _ _ _ _ _ (c .before .before .before .reading .given .1) (omega arith) (c .broken-at .ensures)
@@ -33,11 +21,10 @@ pub number-from-spec : {M : Type 1} → statement M
 number-from-spec =
     tie.close
     (tie.spec
-    enum-known-reading
-    read-to-requires
+    (λ c. search needs) (λ c κs. search needs)
     returns
-    broken-at-requires
+    (λ c κs. search needs)
     enum-told
-    broken-at-requires-2
+    (λ c κs. search needs)
     returns-2
     returns-3)

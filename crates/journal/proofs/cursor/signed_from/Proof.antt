@@ -6,17 +6,8 @@ use Rattle.journal.proofs.CursorLaws.{signedRead, signed-some, signed-n
 use Rattle.journal.proofs.cursor.signed_from.Statement.{statement}
 use Rattle.journal.proofs.cursor.signed_from.Tie as tie
 
-enum-known-reading : tie.Need-enum-known-reading
-enum-known-reading c = search needs
-
-read-to-requires : tie.Need-read-to-requires
-read-to-requires c κs = search needs
-
 enum-told : tie.Need-enum-told
 enum-told c = search needs
-
-broken-at-requires : tie.Need-broken-at-requires
-broken-at-requires c κs = search needs
 
 returns : tie.Need-returns
 returns c = ap (λ z. signedRead z (c .read-to .result)) (toZ-ofZ (sfits-of (c .before .known-told .given .0 .1))) ∙ signed-some _ _ _ _ _ (c .before .before .reading .given .1) (c .read-to .ensures)
@@ -27,4 +18,9 @@ returns-2 c = signed-none _ _ _ _ (c .before .enum-told .given .1) (c .broken-at
 pub signed-from-spec : {M : Type 1} → statement M
 signed-from-spec =
     tie.close
-    (tie.spec enum-known-reading read-to-requires enum-told broken-at-requires returns returns-2)
+    (tie.spec
+    (λ c. search needs) (λ c κs. search needs)
+    enum-told
+    (λ c κs. search needs)
+    returns
+    returns-2)

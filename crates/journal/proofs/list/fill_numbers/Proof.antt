@@ -30,15 +30,6 @@ loop-holds c =
 next-number-requires : tie.Need-next-number-requires Inv-loop μ-loop
 next-number-requires c κs = c .before .loop .inv .2
 
-mul-into : tie.Need-mul-into Inv-loop μ-loop
-mul-into c = omega arith
-
-slice-write-into : tie.Need-slice-write-into Inv-loop μ-loop
-slice-write-into c = omega arith
-
-add-k : tie.Need-add-k Inv-loop μ-loop
-add-k c = omega arith
-
 loop-less : tie.Need-loop-less Inv-loop μ-loop
 loop-less c = simp length-set (omega arith)
 
@@ -75,9 +66,7 @@ fill-numbers-spec =
     μ-loop
     loop-holds
     next-number-requires
-    mul-into
-    slice-write-into
-    add-k
+    (λ c. omega arith) (λ c. omega arith) (λ c. omega arith)
     loop-less
     loop-again
     same-length

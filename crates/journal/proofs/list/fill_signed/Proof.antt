@@ -32,15 +32,6 @@ loop-holds c =
 next-signed-requires : tie.Need-next-signed-requires Inv-loop μ-loop
 next-signed-requires c κs = c .before .loop .inv .2
 
-mul-value : tie.Need-mul-value Inv-loop μ-loop
-mul-value c = omega arith
-
-slice-set-from-value : tie.Need-slice-set-from-value Inv-loop μ-loop
-slice-set-from-value c = omega arith
-
-add-k : tie.Need-add-k Inv-loop μ-loop
-add-k c = omega arith
-
 loop-less : tie.Need-loop-less Inv-loop μ-loop
 loop-less c = simp length-set (omega arith)
 
@@ -77,9 +68,7 @@ fill-signed-spec =
     μ-loop
     loop-holds
     next-signed-requires
-    mul-value
-    slice-set-from-value
-    add-k
+    (λ c. omega arith) (λ c. omega arith) (λ c. omega arith)
     loop-less
     loop-again
     same-length

@@ -10,9 +10,6 @@ use borrow.Author.Needs.{needs}
 use Rattle.journal.proofs.list.read_list.Statement.{statement}
 use Rattle.journal.proofs.list.read_list.Tie as tie
 
-next-word-requires : tie.Need-next-word-requires
-next-word-requires c κs = search needs
-
 next-number-requires : tie.Need-next-number-requires
 next-number-requires c κs = word-within _ _ (c .before .before .before .before .pre) _ _ (c .next-word .ensures)
 
@@ -27,9 +24,6 @@ fill-numbers-requires c κs =
     let n = c .before in
     let named = next-number-requires (n .before) (n .next-number .lifetimes) in
     omega (arith, named, number-within _ _ named _ _ (n .next-number .ensures))
-
-same-length : tie.Need-same-length
-same-length c = search needs
 
 returns : tie.Need-returns
 returns c =
@@ -47,10 +41,10 @@ pub read-list-spec : {M : Type 1} → statement M
 read-list-spec =
     tie.close
     (tie.spec
-    next-word-requires
+    (λ c κs. search needs)
     next-number-requires
     slice-relend-prefix-fill-numbers
     slice-aggregate-fill-numbers
     fill-numbers-requires
-    same-length
+    (λ c. search needs)
     returns)

@@ -9,9 +9,6 @@ use borrow.Author.Needs.{needs}
 use Rattle.journal.proofs.list.read_signed_list.Statement.{statement}
 use Rattle.journal.proofs.list.read_signed_list.Tie as tie
 
-next-word-requires : tie.Need-next-word-requires
-next-word-requires c κs = search needs
-
 next-number-requires : tie.Need-next-number-requires
 next-number-requires c κs = word-within _ _ (c .before .before .before .pre) _ _ (c .next-word .ensures)
 
@@ -25,9 +22,6 @@ fill-signed-requires : tie.Need-fill-signed-requires
 fill-signed-requires c κs =
     let n = c .before in
     number-within _ _ (next-number-requires (n .before) (n .next-number .lifetimes)) _ _ (n .next-number .ensures)
-
-same-length : tie.Need-same-length
-same-length c = search needs
 
 returns : tie.Need-returns
 returns c =
@@ -45,10 +39,10 @@ pub read-signed-list-spec : {M : Type 1} → statement M
 read-signed-list-spec =
     tie.close
     (tie.spec
-    next-word-requires
+    (λ c κs. search needs)
     next-number-requires
     slice-relend-prefix-fill-signed
     slice-aggregate-fill-signed
     fill-signed-requires
-    same-length
+    (λ c. search needs)
     returns)

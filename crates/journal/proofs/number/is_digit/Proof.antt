@@ -4,12 +4,11 @@ use borrow.Author.Needs.{needs}
 use Rattle.journal.proofs.number.is_digit.Statement.{statement}
 use Rattle.journal.proofs.number.is_digit.Tie as tie
 
-is-between-requires : tie.Need-is-between-requires
-is-between-requires c κs = search needs
-
 returns : tie.Need-returns
 unfolding isDigit
 returns c = c .is-between .ensures
 
 pub is-digit-spec : {M : Type 1} → statement M
-is-digit-spec = tie.close (tie.spec is-between-requires returns)
+is-digit-spec = tie.close (tie.spec
+    (λ c κs. search needs)
+    returns)

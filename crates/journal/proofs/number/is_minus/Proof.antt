@@ -5,9 +5,6 @@ use borrow.Author.Needs.{needs}
 use Rattle.journal.proofs.number.is_minus.Statement.{statement}
 use Rattle.journal.proofs.number.is_minus.Tie as tie
 
-shared-slice-read-result : tie.Need-shared-slice-read-result
-shared-slice-read-result c = search needs
-
 returns : tie.Need-returns
 unfolding isMinus
 returns c = rw (lt-ltb _ _ (c .before .if1 .taken))
@@ -17,4 +14,7 @@ unfolding isMinus
 returns-2 c = rw (le-ltb _ _ (c .if1 .left))
 
 pub is-minus-spec : {M : Type 1} → statement M
-is-minus-spec = tie.close (tie.spec shared-slice-read-result returns returns-2)
+is-minus-spec = tie.close (tie.spec
+    (λ c. search needs)
+    returns
+    returns-2)

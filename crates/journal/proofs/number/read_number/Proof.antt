@@ -20,9 +20,6 @@ Inv-loop text start end count value₀ j₀ value j = (j ≤ count) × (allBelow
 abbrev μ-loop : tie.MeasureT-loop
 μ-loop text start end count value₀ j₀ value j = count - j
 
-sub-count : tie.Need-sub-count Inv-loop μ-loop
-sub-count c = omega arith
-
 returns : tie.Need-returns Inv-loop μ-loop
 unfolding numberIn
 returns c =
@@ -33,15 +30,6 @@ returns c =
 loop-holds : tie.Need-loop-holds Inv-loop μ-loop
 unfolding allBelow digitsValue
 loop-holds c = (omega arith, refl, refl, omega arith)
-
-add-byte : tie.Need-add-byte Inv-loop μ-loop
-add-byte c = omega arith
-
-shared-slice-read-byte : tie.Need-shared-slice-read-byte Inv-loop μ-loop
-shared-slice-read-byte c = omega arith
-
-is-digit-requires : tie.Need-is-digit-requires Inv-loop μ-loop
-is-digit-requires c κs = search needs
 
 returns-2 : tie.Need-returns-2 Inv-loop μ-loop
 unfolding numberIn
@@ -102,12 +90,6 @@ mul-value c = omega (arith, fits-here c)
 add-value : tie.Need-add-value Inv-loop μ-loop
 add-value c = omega (arith, fits-here c)
 
-add-j : tie.Need-add-j Inv-loop μ-loop
-add-j c = search needs
-
-loop-less : tie.Need-loop-less Inv-loop μ-loop
-loop-less c = omega arith
-
 loop-again : tie.Need-loop-again Inv-loop μ-loop
 loop-again c =
     let d = c .before in
@@ -133,12 +115,10 @@ read-number-spec =
     (tie.spec
     Inv-loop
     μ-loop
-    sub-count
+    (λ c. omega arith)
     returns
     loop-holds
-    add-byte
-    shared-slice-read-byte
-    is-digit-requires
+    (λ c. omega arith) (λ c. omega arith) (λ c κs. search needs)
     returns-2
     cast-digit
     sub-digit
@@ -146,7 +126,6 @@ read-number-spec =
     returns-3
     mul-value
     add-value
-    add-j
-    loop-less
+    (λ c. search needs) (λ c. omega arith)
     loop-again
     returns-4)

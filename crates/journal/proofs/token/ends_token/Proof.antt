@@ -4,9 +4,6 @@ use borrow.Author.Needs.{needs}
 use Rattle.journal.proofs.token.ends_token.Statement.{statement}
 use Rattle.journal.proofs.token.ends_token.Tie as tie
 
-is-blank-requires : tie.Need-is-blank-requires
-is-blank-requires c κs = search needs
-
 returns : tie.Need-returns
 unfolding endsToken
 returns c = rw (← c .before .is-blank .ensures, c .if1 .taken)
@@ -16,4 +13,7 @@ unfolding endsToken
 returns-2 c = rw (← c .before .is-blank .ensures, c .if1 .left)
 
 pub ends-token-spec : {M : Type 1} → statement M
-ends-token-spec = tie.close (tie.spec is-blank-requires returns returns-2)
+ends-token-spec = tie.close (tie.spec
+    (λ c κs. search needs)
+    returns
+    returns-2)

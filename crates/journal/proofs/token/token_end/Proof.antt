@@ -19,23 +19,11 @@ loop-holds : tie.Need-loop-holds Inv-loop μ-loop
 unfolding tokenEnd
 loop-holds c = (omega arith, refl)
 
-shared-slice-read-ends-token : tie.Need-shared-slice-read-ends-token Inv-loop μ-loop
-shared-slice-read-ends-token c = omega arith
-
-ends-token-requires : tie.Need-ends-token-requires Inv-loop μ-loop
-ends-token-requires c κs = search needs
-
 returns : tie.Need-returns Inv-loop μ-loop
 returns c =
     let l = c .before .before .before .before in
     let s = l .before .before in
     sym (end-here (s .args .text .now) (l .loop .k) (length (s .args .text .now) - l .loop .k) (sym (c .before .ends-token .ensures) ∙ c .if1 .taken)) ∙ l .loop .inv .1
-
-add-k : tie.Need-add-k Inv-loop μ-loop
-add-k c = search needs
-
-loop-less : tie.Need-loop-less Inv-loop μ-loop
-loop-less c = omega arith
 
 loop-again : tie.Need-loop-again Inv-loop μ-loop
 loop-again c =
@@ -60,10 +48,8 @@ token-end-spec =
     Inv-loop
     μ-loop
     loop-holds
-    shared-slice-read-ends-token
-    ends-token-requires
+    (λ c. omega arith) (λ c κs. search needs)
     returns
-    add-k
-    loop-less
+    (λ c. search needs) (λ c. omega arith)
     loop-again
     returns-2)

@@ -20,27 +20,12 @@ loop-holds : tie.Need-loop-holds Inv-loop μ-loop
 unfolding tokenStart
 loop-holds c = (omega arith, refl)
 
-shared-slice-read-byte : tie.Need-shared-slice-read-byte Inv-loop μ-loop
-shared-slice-read-byte c = omega arith
-
-is-skipped-requires : tie.Need-is-skipped-requires Inv-loop μ-loop
-is-skipped-requires c κs = search needs
-
 returns : tie.Need-returns Inv-loop μ-loop
 returns c =
     let l = c .before .before .before .before in
     let text = l .before .before .args .text .now in
     sym (start-here text (l .loop .k) (l .loop .comment) (length text - l .loop .k) (sym (c .before .is-skipped .ensures) ∙ not-true _ (c .if1 .taken)))
     ∙ l .loop .inv .1
-
-comment-after-requires : tie.Need-comment-after-requires Inv-loop μ-loop
-comment-after-requires c κs = search needs
-
-add-k : tie.Need-add-k Inv-loop μ-loop
-add-k c = search needs
-
-loop-less : tie.Need-loop-less Inv-loop μ-loop
-loop-less c = omega arith
 
 loop-again : tie.Need-loop-again Inv-loop μ-loop
 loop-again c =
@@ -67,11 +52,8 @@ token-start-spec =
     Inv-loop
     μ-loop
     loop-holds
-    shared-slice-read-byte
-    is-skipped-requires
+    (λ c. omega arith) (λ c κs. search needs)
     returns
-    comment-after-requires
-    add-k
-    loop-less
+    (λ c κs. search needs) (λ c. search needs) (λ c. omega arith)
     loop-again
     returns-2)

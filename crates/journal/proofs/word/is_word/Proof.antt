@@ -18,9 +18,6 @@ Inv-loop text start end word k₀ k = (k ≤ length word) × (allBelow k (sameBy
 abbrev μ-loop : tie.MeasureT-loop
 μ-loop text start end word k₀ k = length word - k
 
-sub-if1 : tie.Need-sub-if1 Inv-loop μ-loop
-sub-if1 c = omega arith
-
 returns : tie.Need-returns Inv-loop μ-loop
 unfolding isWord
 returns c = rw (ne-eqb _ _ (c .if1 .taken))
@@ -29,15 +26,6 @@ loop-holds : tie.Need-loop-holds Inv-loop μ-loop
 unfolding allBelow
 loop-holds c = (omega arith, refl)
 
-add-if2 : tie.Need-add-if2 Inv-loop μ-loop
-add-if2 c = omega arith
-
-shared-slice-read-if2 : tie.Need-shared-slice-read-if2 Inv-loop μ-loop
-shared-slice-read-if2 c = omega arith
-
-shared-slice-read-if2-2 : tie.Need-shared-slice-read-if2-2 Inv-loop μ-loop
-shared-slice-read-if2-2 c = omega arith
-
 returns-2 : tie.Need-returns-2 Inv-loop μ-loop
 unfolding isWord sameByte
 returns-2 c =
@@ -45,12 +33,6 @@ returns-2 c =
     let s = l .before .before .args in
     let word = s .word .now in
     rw (eq-eqb _ _ (l .before .if1 .left), all-fails (length word) (sameByte (s .text .now) (s .start) word) (l .loop .k) (omega arith) (ne-eqb _ _ (c .if2 .taken)))
-
-add-k : tie.Need-add-k Inv-loop μ-loop
-add-k c = search needs
-
-loop-less : tie.Need-loop-less Inv-loop μ-loop
-loop-less c = omega arith
 
 loop-again : tie.Need-loop-again Inv-loop μ-loop
 unfolding sameByte
@@ -74,14 +56,11 @@ is-word-spec =
     (tie.spec
     Inv-loop
     μ-loop
-    sub-if1
+    (λ c. omega arith)
     returns
     loop-holds
-    add-if2
-    shared-slice-read-if2
-    shared-slice-read-if2-2
+    (λ c. omega arith) (λ c. omega arith) (λ c. omega arith)
     returns-2
-    add-k
-    loop-less
+    (λ c. search needs) (λ c. omega arith)
     loop-again
     returns-3)
