@@ -24,7 +24,8 @@ use Rattle.journal.specs.declared.cursor.Cursor.{Cursor}
 use Rattle.journal.specs.declared.command.Command.the-variants.{Load, End}
 use Rattle.journal.proofs.TextLaws.{line-gap, place-within}
 use Rattle.journal.proofs.StandsLaws.{word-ends, listLine, signedListLine}
-use Rattle.journal.proofs.LoadLaws.{commandRead, load-command, end-command, LoadWords, loadText, LoadFits, LoadStands, load-stands}
+use Rattle.journal.proofs.CommandLaws.{commandRead}
+use Rattle.journal.proofs.LoadLaws.{load-command, end-command, LoadWords, loadText, LoadFits, LoadStands, load-stands}
 use Rattle.answers.specs.Answer.{listText, signedListText, numbersText, savingText}
 use Rattle.answers.proofs.SizeLaws.{saving-size}
 use Rattle.commands.specs.Replay.{keptLedger, stepAfter, readWith, replayFrom, replayed}

@@ -55,7 +55,7 @@ pub command-unknown : {text : List ℕ} {start end : ℕ} → Among text start e
 unfolding commandAmong
 command-unknown a = sym (a .by)
 
-abbrev commandRead : Command → Cursor → CommandRead
+abbrev pub commandRead : Command → Cursor → CommandRead
 commandRead command next = record { command = command; next = next }
 
 -- the next command is that of the next token

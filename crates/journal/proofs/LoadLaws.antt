@@ -17,10 +17,8 @@ use Rattle.journal.specs.Cursor.{readTo, mostWord}
 use Rattle.journal.specs.List.{cursorAfter, numberAt, listWords, signedListWords}
 use Rattle.journal.specs.Command.{loadName, presentName, chargesName, balancesName, commandIn, commandAfter, loadFixedFrom, loadMonthFrom, loadPresentFrom, loadChargesFrom, loadBalancesFrom, loadAfter}
 use Rattle.journal.specs.declared.cursor.Cursor.{Cursor}
-use Rattle.journal.specs.declared.command.Command.{Command}
 use Rattle.journal.specs.declared.command.Command.the-variants.{Load, End}
-use Rattle.journal.specs.declared.command.CommandRead.{CommandRead}
-use Rattle.journal.proofs.CommandLaws.{command-end, command-read}
+use Rattle.journal.proofs.CommandLaws.{command-end, command-read, commandRead}
 use Rattle.journal.proofs.TextLaws.{Gap, line-gap, Ends, gap-ends, Plain, start-same, end-same, start-none, end-none}
 use Rattle.journal.proofs.StandsLaws.{Ahead, plain-name, word-ends, number-stands, listLine, signedListLine, list-stands, signed-list-stands}
 
@@ -40,9 +38,6 @@ charges-plain = plain-name chargesName (omega arith) refl
 balances-plain : Plain balancesName
 unfolding allBelow endsToken isBlank
 balances-plain = plain-name balancesName (omega arith) refl
-
-abbrev pub commandRead : Command → Cursor → CommandRead
-commandRead command next = record { command = command; next = next }
 
 -- the word `load` at the start of a text
 load-in : (tail : List ℕ) → Load ≡ commandIn (loadName ++ tail) 0 (length loadName)
