@@ -1,28 +1,31 @@
 -- A ledger that is saved and loaded again is the same ledger, sound or not. Assumes nothing.
-use mathlib.Core.Path.{_≡_, refl, sym, _∙_, ap, ap₂}
+use mathlib.Core.Path.{_≡_, refl, sym, _∙_, ap}
 use mathlib.Core.Bool.{Bool, true, false, cond, not, _&&_}
-use mathlib.Core.List.{List}
+use mathlib.Core.List.{List, map}
 use Prim.Native.Nat.{ℕ, _*_, _<_, _≤_}
 use native.Mathlib.Omega.{arith}
 use native.Mathlib.Decide.{decLt}
 use lib.Dec.{leb, ltb}
-use lib.ListN.{length, getD, take}
+use lib.ListN.{length, getD, take, length-map}
 use lib.Seq.{ext-getD}
 use lib.IntN.{ℤ, pos}
 use borrow.Author.Tests.{le-ltb, leb-true}
-use Rattle.numbers.specs.Bounded.{allBelow, listBelow, filledBelow}
+use Rattle.numbers.specs.Bounded.{allBelow, filledBelow}
 use Rattle.numbers.specs.Units.{noMoney}
 use Rattle.numbers.specs.declared.units.Pesos.{Pesos}
 use Rattle.numbers.proofs.BoolLaws.{and-left, and-right}
 use Rattle.numbers.proofs.TestLaws.{all-at}
 use Rattle.numbers.proofs.ListLaws.{list-length, list-at, filled-length, filled-at, filled-past, Front, front}
 use Rattle.numbers.specs.Sizes.{mostDistributors, sectorCount, sectorPlaces}
-use Rattle.fixing.specs.declared.sector.SectorCharges.{SectorCharges}
 use Rattle.settlement.specs.Month.{moneyAt, moneyBelow}
 use Rattle.ledger.specs.Sound.{presentIn, chargeIn, isZero}
 use Rattle.ledger.specs.declared.book.Ledger.{Ledger}
 use Rattle.ledger.proofs.SoundFacts.{or-else, zero-is}
 use Rattle.store.specs.Store.{truthWord, wordTruth, withinOrEmpty, placeKept, withinOrZero, balanceKept, keptCount, presentWords, chargeWords, balanceWords, Saved, loadedForce, loadedBalances, loadedLedger}
+
+-- a list is as long as its image
+pub mapped : (A B : Type 0) (f : A → B) (l : List A) (n : ℕ) → length (map f l) ≡ n → length l ≡ n
+mapped A B f l n e = sym (length-map l f) ∙ e
 
 -- a list that is filled with another's first k values is the other, where that is empty from there on
 pub filled-back : {A : Type 0} (size : ℕ) (empty : A) (k : ℕ) (f : ℕ → A) (l : List A) → length l ≡ size → ((j : ℕ) → j < k → j < size → f j ≡ getD l j empty) → ((j : ℕ) → k ≤ j → j < size → getD l j empty ≡ empty) → filledBelow size empty k f ≡ l

@@ -1,21 +1,16 @@
 -- What is saved is loaded as the same ledger.
 use mathlib.Core.Path.{_≡_, sym, _∙_, ap}
-use mathlib.Core.List.{List, map}
-use Prim.Native.Nat.{ℕ, _*_, _≤_}
+use Prim.Native.Nat.{_*_, _≤_}
 use native.Mathlib.Omega.{arith}
-use lib.ListN.{length, take, length-map}
+use lib.ListN.{length, take}
 use lib.Seq.{length-take-le}
 use Rattle.ledger.specs.declared.book.Ledger.{Ledger}
 use Rattle.store.specs.Store.{presentWords, chargeWords, balanceWords, loadedLedger}
 use Rattle.numbers.proofs.ListLaws.{Front}
-use Rattle.store.proofs.StoreLaws.{saved-few, present-first, charges-first, balances-first, saved-back}
+use Rattle.store.proofs.StoreLaws.{mapped, saved-few, present-first, charges-first, balances-first, saved-back}
 use borrow.Author.Needs.{needs}
 use Rattle.store.proofs.load.reload.Statement.{statement}
 use Rattle.store.proofs.load.reload.Tie as tie
-
--- a list is as long as its image
-mapped : (A B : Type 0) (f : A → B) (l : List A) (n : ℕ) → length (map f l) ≡ n → length l ≡ n
-mapped A B f l n e = sym (length-map l f) ∙ e
 
 -- a ledger's lists have their lengths
 module _ (c : tie.Start) where
