@@ -19,7 +19,7 @@ use Rattle.fixing.specs.Fixing.{acceptedFixing}
 use Rattle.fixing.specs.declared.prices.FixedPrices.{FixedPrices}
 use Rattle.fixing.specs.declared.sector.SectorCharges.{SectorCharges}
 use Rattle.fixing.specs.declared.fix.Fixing.{Fixing}
-use Rattle.fixing.specs.declared.verdict.Verdict.the-variants.{Passed}
+use Rattle.numbers.specs.declared.refusal.Verdict.the-variants.{Passed}
 use Rattle.fixing.proofs.LimitLaws.{final-most, charge-size}
 use Rattle.fixing.proofs.SectorLaws.{allowed-factor, sectors-same}
 

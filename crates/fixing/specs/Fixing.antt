@@ -1,10 +1,14 @@
 -- What a fixing of input of right lengths comes to: its verdict, and, where it is accepted, averages, prices, charges and
 -- sector charges; empty where it is refused. Assumes nothing.
-use mathlib.Core.List.{List, [], _∷_}
+use mathlib.Core.Path.{_≡_}
+use mathlib.Core.List.{List}
 use Prim.Native.Nat.{ℕ}
 use lib.IntN.{pos}
 use Rattle.numbers.specs.Bounded.{filledBelow}
-use Rattle.numbers.specs.Checks.{firstOf}
+use Rattle.numbers.specs.Checks.{verdictOf, Judged}
+use Rattle.numbers.specs.declared.refusal.Refusal.{Refusal}
+use Rattle.numbers.specs.declared.refusal.Verdict.{Verdict}
+use Rattle.numbers.specs.declared.refusal.Verdict.the-variants.{Passed, Refused}
 use Rattle.numbers.specs.Units.{noPrice, noMoney}
 use Rattle.numbers.specs.Sizes.{mostDistributors}
 use Rattle.numbers.specs.declared.units.PesoPrice.{PesoPrice}
@@ -12,11 +16,9 @@ use Rattle.numbers.specs.declared.units.Energy.{Energy}
 use Rattle.fixing.specs.Limit.{charge}
 use Rattle.fixing.specs.Prices.{distributors, fixedPrices, chargeList}
 use Rattle.fixing.specs.Sector.{sectorCharges, noCharges}
-use Rattle.fixing.specs.Input.{FixingInput, monthCheck, boundsCheck, inputVerdict, inputAverages, inputEnergies}
+use Rattle.fixing.specs.Input.{FixingInput, tableChecks, inputChecks, inputVerdict, inputAverages, inputEnergies}
 use Rattle.fixing.specs.declared.prices.FixedPrices.{FixedPrices}
 use Rattle.fixing.specs.declared.fix.Fixing.{Fixing}
-use Rattle.fixing.specs.declared.verdict.Verdict.{Verdict}
-use Rattle.fixing.specs.declared.verdict.Verdict.the-variants.{Passed, OutOfRange, ValueTooLarge, WrongSector, NoLine, MonthMissing, OutOfBounds}
 
 unfoldable pub noPrices : FixedPrices
 noPrices =
@@ -28,10 +30,10 @@ noPrices =
       finals = filledBelow mostDistributors noPrice 0 (λ i. noPrice);
     }
 
-unfoldable pub refusedFixing : Verdict → Fixing
-refusedFixing verdict =
+unfoldable pub refusedFixing : Refusal → Fixing
+refusedFixing refusal =
     record {
-      verdict = verdict;
+      verdict = Refused refusal;
       averages = filledBelow mostDistributors noPrice 0 (λ i. noPrice);
       prices = noPrices;
       charges = filledBelow mostDistributors (pos 0) 0 (λ i. pos 0);
@@ -50,19 +52,21 @@ acceptedFixing n averages energies sectors =
     }
 
 abbrev pub fixingBy : Verdict → Fixing → Fixing
-fixingBy Passed accepted = accepted
-fixingBy OutOfRange accepted = refusedFixing OutOfRange
-fixingBy ValueTooLarge accepted = refusedFixing ValueTooLarge
-fixingBy WrongSector accepted = refusedFixing WrongSector
-fixingBy NoLine accepted = refusedFixing NoLine
-fixingBy (MonthMissing line term) accepted = refusedFixing (MonthMissing line term)
-fixingBy (OutOfBounds line) accepted = refusedFixing (OutOfBounds line)
+fixingBy Passed worked = worked
+fixingBy (Refused refusal) worked = refusedFixing refusal
+
+-- what the input of a fixing comes to where it passes
+unfoldable pub workedFixing : ℕ → FixingInput → Fixing
+workedFixing n input = acceptedFixing n (inputAverages n input) (inputEnergies n input) (input .sectors)
 
 -- the fixing of input that passed causes 6 to 9
 unfoldable pub pricedFixing : ℕ → FixingInput → Fixing
-pricedFixing n input =
-    fixingBy (firstOf (monthCheck input ∷ boundsCheck input ∷ []) Passed)
-    (acceptedFixing n (inputAverages n input) (inputEnergies n input) (input .sectors))
+pricedFixing n input = fixingBy (verdictOf (tableChecks input)) (workedFixing n input)
 
 unfoldable pub fixingOf : ℕ → FixingInput → Fixing
-fixingOf n input = fixingBy (inputVerdict n input) (acceptedFixing n (inputAverages n input) (inputEnergies n input) (input .sectors))
+fixingOf n input = fixingBy (inputVerdict n input) (workedFixing n input)
+
+-- what the fixing of input promises: it is the definition's, and its verdict has the number and values of the checks
+pub record WorkedFixing (n : ℕ) (input : FixingInput) (fixing : Fixing) : Type 0 where
+  pub worked : fixing ≡ fixingOf n input
+  pub judged : Judged (fixing .verdict) (inputChecks n input)

@@ -1,28 +1,24 @@
 -- What a fixing is given beside the ledger, and the checks that it makes of it, causes 6 to 11 of document 01, each over
 -- the whole input. Their order is the list `inputChecks`. Assumes nothing.
 use mathlib.Core.Path.{_≡_}
-use mathlib.Core.Bool.{true}
+use mathlib.Core.Bool.{Bool, true}
 use mathlib.Core.List.{List, [], _∷_}
-use mathlib.Core.Option.{Option, none, some}
+use mathlib.Core.Option.{Option}
 use Prim.Native.Nat.{ℕ, _*_, _/_, _≤_}
 use lib.ListN.{length}
-use Rattle.numbers.specs.Checks.{refusedUnless, firstOf}
+use Rattle.numbers.specs.Checks.{Check, check, verdictOf}
 use Rattle.numbers.specs.Sizes.{mostDistributors, sectorCount}
+use Rattle.numbers.specs.declared.refusal.Refusal.the-variants.{OutOfRange, ValueTooLarge, WrongSector, NoLine}
+use Rattle.numbers.specs.declared.refusal.Verdict.{Verdict}
 use Rattle.numbers.specs.declared.units.PesoPrice.{PesoPrice}
 use Rattle.numbers.specs.declared.units.Energy.{Energy}
 use Rattle.series.specs.Series.{wordCount, seriesTable, valuesInRange}
 use Rattle.supply.specs.Line.{lineWords, WholeLines}
 use Rattle.supply.specs.Range.{inputInRange}
-use Rattle.supply.specs.Months.{monthSearch}
-use Rattle.supply.specs.Price.{boundsSearch, referencePrices}
-use Rattle.supply.specs.declared.months.MonthSearch.{MonthSearch}
-use Rattle.supply.specs.declared.months.MonthSearch.the-variants.{AllPublished, MissingAt}
-use Rattle.supply.specs.declared.price.BoundsSearch.{BoundsSearch}
-use Rattle.supply.specs.declared.price.BoundsSearch.the-variants.{AllWithin, BeyondAt}
+use Rattle.supply.specs.Months.{Place, firstMissing, monthCheck}
+use Rattle.supply.specs.Price.{firstBeyond, boundsCheck, referencePrices}
 use Rattle.fixing.specs.Average.{everyoneSupplied, energyList, averageList}
 use Rattle.fixing.specs.Sector.{sectorsAllowed}
-use Rattle.fixing.specs.declared.verdict.Verdict.{Verdict}
-use Rattle.fixing.specs.declared.verdict.Verdict.the-variants.{Passed, OutOfRange, ValueTooLarge, WrongSector, NoLine, MonthMissing, OutOfBounds}
 
 -- the fixing's month, D, F, the table's first month, the 240 words of the series, the lines, the sector factors
 pub record FixingInput : Type 0 where
@@ -54,67 +50,40 @@ pub record RightLengths (n : ℕ) (input : FixingInput) : Type 0 where
   pub line : 1 ≤ lineCount input
   pub factors : length (input .sectors) ≡ n * sectorCount
 
--- 6: D, F, first month or a line's word
-unfoldable pub rangeCheck : ℕ → FixingInput → Option Verdict
-rangeCheck n input =
-    refusedUnless (inputInRange n (input .dollar) (input .factor) (input .first) (lineCount input) (input .lines)) OutOfRange
+-- the tests of causes 6 and 9
+abbrev pub ranged : ℕ → FixingInput → Bool
+ranged n input = inputInRange n (input .dollar) (input .factor) (input .first) (lineCount input) (input .lines)
 
--- 7: series value too large
-unfoldable pub valueCheck : FixingInput → Option Verdict
-valueCheck input = refusedUnless (valuesInRange (input .series)) ValueTooLarge
+abbrev pub supplied : ℕ → FixingInput → Bool
+supplied n input = everyoneSupplied n (lineCount input) (input .lines)
 
--- 8: sector factor, or no sector
-unfoldable pub sectorCheck : ℕ → FixingInput → Option Verdict
-sectorCheck n input = refusedUnless (sectorsAllowed n (input .sectors)) WrongSector
+-- the first term with a missing month, and the first line out of bounds
+abbrev pub missingPlace : FixingInput → Option Place
+missingPlace input = firstMissing (indexTable input) (input .first) (input .month) (lineCount input) (input .lines)
 
--- 9: distributor without line
-unfoldable pub lineCheck : ℕ → FixingInput → Option Verdict
-lineCheck n input = refusedUnless (everyoneSupplied n (lineCount input) (input .lines)) NoLine
+abbrev pub beyondLine : FixingInput → Option ℕ
+beyondLine input =
+    firstBeyond (indexTable input) (input .first) (input .month) (input .dollar) (input .factor) (lineCount input) (input .lines)
 
--- 10: month missing, with line and term
-abbrev pub fromMonths : MonthSearch → Option Verdict
-fromMonths AllPublished = none
-fromMonths (MissingAt line term) = some (MonthMissing line term)
+-- the checks that need the table
+unfoldable pub tableChecks : FixingInput → List Check
+tableChecks input =
+    monthCheck (indexTable input) (input .first) (input .month) (lineCount input) (input .lines)
+    ∷ boundsCheck (indexTable input) (input .first) (input .month) (input .dollar) (input .factor) (lineCount input) (input .lines)
+    ∷ []
 
-unfoldable pub monthCheck : FixingInput → Option Verdict
-monthCheck input = fromMonths (monthSearch (indexTable input) (input .first) (input .month) (lineCount input) (input .lines))
-
--- 11: factor or price out of bounds, with the first such line
-abbrev pub fromBounds : BoundsSearch → Option Verdict
-fromBounds AllWithin = none
-fromBounds (BeyondAt line) = some (OutOfBounds line)
-
-unfoldable pub boundsCheck : FixingInput → Option Verdict
-boundsCheck input =
-    fromBounds
-    (boundsSearch (indexTable input) (input .first) (input .month) (input .dollar) (input .factor) (lineCount input) (input .lines))
-
--- "Checks go by ascending number, each over the whole input"
-unfoldable pub inputChecks : ℕ → FixingInput → List (Option Verdict)
+-- "Checks go by ascending number, each over the whole input": D, F, first month or a line's word; series value too large;
+-- sector factor, or no sector; distributor without line; month missing; factor or price out of bounds
+unfoldable pub inputChecks : ℕ → FixingInput → List Check
 inputChecks n input =
-    rangeCheck n input ∷ valueCheck input ∷ sectorCheck n input ∷ lineCheck n input ∷ monthCheck input ∷ boundsCheck input ∷ []
+    check 6 (ranged n input) OutOfRange
+    ∷ check 7 (valuesInRange (input .series)) ValueTooLarge
+    ∷ check 8 (sectorsAllowed n (input .sectors)) WrongSector
+    ∷ check 9 (supplied n input) NoLine
+    ∷ tableChecks input
 
 unfoldable pub inputVerdict : ℕ → FixingInput → Verdict
-inputVerdict n input = firstOf (inputChecks n input) Passed
-
--- 01's number for each verdict (0: accepted), and the values returned with it
-abbrev pub verdictNumber : Verdict → ℕ
-verdictNumber Passed = 0
-verdictNumber OutOfRange = 6
-verdictNumber ValueTooLarge = 7
-verdictNumber WrongSector = 8
-verdictNumber NoLine = 9
-verdictNumber (MonthMissing line term) = 10
-verdictNumber (OutOfBounds line) = 11
-
-abbrev pub verdictValues : Verdict → List ℕ
-verdictValues Passed = []
-verdictValues OutOfRange = []
-verdictValues ValueTooLarge = []
-verdictValues WrongSector = []
-verdictValues NoLine = []
-verdictValues (MonthMissing line term) = line ∷ term ∷ []
-verdictValues (OutOfBounds line) = line ∷ []
+inputVerdict n input = verdictOf (inputChecks n input)
 
 -- the references of an input's lines
 unfoldable pub inputReferences : FixingInput → List PesoPrice
@@ -131,7 +100,7 @@ inputEnergies n input = energyList n (lineCount input) (input .lines)
 -- input that passed causes 6 to 9
 pub record CheckedInput (n : ℕ) (input : FixingInput) : Type 0 where
   pub lengths : RightLengths n input
-  pub ranges : inputInRange n (input .dollar) (input .factor) (input .first) (lineCount input) (input .lines) ≡ true
+  pub ranges : ranged n input ≡ true
   pub small : valuesInRange (input .series) ≡ true
   pub sectored : sectorsAllowed n (input .sectors) ≡ true
-  pub supplied : everyoneSupplied n (lineCount input) (input .lines) ≡ true
+  pub everyone : supplied n input ≡ true

@@ -7,7 +7,7 @@ ghost use Rattle.numbers.specs.Sizes.{sectorCount};
 ghost use Rattle.fixing.specs.Average.{AcceptedLines, averageList, energyList};
 ghost use Rattle.fixing.specs.Sector.{sectorsAllowed};
 ghost use Rattle.fixing.specs.Input.{RightLengths, CheckedInput, inputOf, inputEnergies};
-ghost use Rattle.fixing.specs.Fixing.{refusedFixing, acceptedFixing, pricedFixing, fixingOf};
+ghost use Rattle.fixing.specs.Fixing.{refusedFixing, acceptedFixing, pricedFixing, WorkedFixing};
 use crate::average::averages;
 use crate::average::energies;
 use crate::average::everyone_supplied;
@@ -20,16 +20,15 @@ use crate::sector::SectorCharges;
 use crate::sector::no_charges;
 use crate::sector::sector_charges;
 use crate::sector::sectors_allowed;
-use crate::verdict::Verdict;
+use numbers::refusal::Refusal;
+use numbers::refusal::Verdict;
 use numbers::units::Energy;
 use numbers::units::PesoPrice;
 use numbers::units::Pesos;
 use series::table::fill;
 use series::table::values_in_range;
 use supply::line;
-use supply::months::MonthSearch;
 use supply::months::search_months;
-use supply::price::BoundsSearch;
 use supply::price::reference_prices;
 use supply::range::input_in_range;
 
@@ -44,8 +43,8 @@ pub struct Fixing {
 }
 
 // A refused fixing.
-fn refused(verdict: Verdict) -> Fixing
-    ensures { λ r. ⌜ r ≡ refusedFixing verdict ⌝ }
+fn refused(refusal: Refusal) -> Fixing
+    ensures { λ r. ⌜ r ≡ refusedFixing refusal ⌝ }
 {
     let none = no_prices();
     let prices = FixedPrices {
@@ -58,7 +57,7 @@ fn refused(verdict: Verdict) -> Fixing
     let charges = no_charge_list();
     let sectors = no_charges();
     Fixing {
-        verdict,
+        verdict: Verdict::Refused(refusal),
         averages: none,
         prices,
         charges,
@@ -110,14 +109,14 @@ fn price_lines(
     let count = lines.len() / line::LINE_WORDS;
     let table = fill(series);
     match search_months(table, first, month, lines, count) {
-        MonthSearch::MissingAt { line, term } => refused(Verdict::MonthMissing { line, term }),
-        MonthSearch::AllPublished => {
+        Verdict::Refused(refusal) => refused(refusal),
+        Verdict::Passed => {
             let references = reference_prices(table, first, month, dollar, factor, lines, count);
             let prices = references.prices;
-            let search = references.search;
-            match search {
-                BoundsSearch::BeyondAt { line } => refused(Verdict::OutOfBounds { line }),
-                BoundsSearch::AllWithin => accepted(n, prices, lines, count, energies, sectors),
+            let verdict = references.verdict;
+            match verdict {
+                Verdict::Refused(refusal) => refused(refusal),
+                Verdict::Passed => accepted(n, prices, lines, count, energies, sectors),
             }
         }
     }
@@ -135,21 +134,21 @@ pub fn fix_input(
     sectors: &[u64],
 ) -> Fixing
     requires { ⌜ RightLengths n (inputOf month dollar factor first (now series) (now lines) (now sectors)) ⌝ }
-    ensures { λ r. ⌜ r ≡ fixingOf n (inputOf month dollar factor first (now (series .entry)) (now (lines .entry)) (now (sectors .entry))) ⌝ }
+    ensures { λ r. ⌜ WorkedFixing n (inputOf month dollar factor first (now (series .entry)) (now (lines .entry)) (now (sectors .entry))) r ⌝ }
 {
     let count = lines.len() / line::LINE_WORDS;
     if !input_in_range(n as u64, dollar, factor, first, count, lines) {
-        return refused(Verdict::OutOfRange);
+        return refused(Refusal::OutOfRange);
     }
     if !values_in_range(series) {
-        return refused(Verdict::ValueTooLarge);
+        return refused(Refusal::ValueTooLarge);
     }
     if !sectors_allowed(n, sectors) {
-        return refused(Verdict::WrongSector);
+        return refused(Refusal::WrongSector);
     }
     let energies = energies(n, lines, count);
     if !everyone_supplied(n, lines, count, energies) {
-        return refused(Verdict::NoLine);
+        return refused(Refusal::NoLine);
     }
     price_lines(
         n,

@@ -4,4 +4,3 @@ pub mod average;
 pub mod fix;
 pub mod prices;
 pub mod sector;
-pub mod verdict;

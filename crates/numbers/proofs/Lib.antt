@@ -2,6 +2,7 @@ pub mod BoolLaws
 pub mod SumLaws
 pub mod TestLaws
 pub mod FirstLaws
+pub mod CheckLaws
 pub mod ListLaws
 pub mod RoundingLaws
 pub mod SignedLaws

@@ -1,4 +1,5 @@
 pub mod Bounded
+pub mod Refusal
 pub mod Checks
 pub mod Rounding
 pub mod Signed

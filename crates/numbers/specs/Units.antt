@@ -1,15 +1,16 @@
 -- The units of document 01: "Peso price, energy and money are kept apart as units", and the bounds that "belong to
 -- the peso price itself". Assumes nothing.
 use mathlib.Core.Bool.{Bool, cond, _&&_}
-use mathlib.Core.List.{List, [], _∷_}
+use mathlib.Core.List.{[], _∷_}
 use Prim.Native.Nat.{ℕ}
 use lib.Dec.{leb}
 use lib.IntN.{pos}
+use Rattle.numbers.specs.Refusal.{Answered, accepted, withoutValues}
 use Rattle.numbers.specs.declared.units.PesoPrice.{PesoPrice}
 use Rattle.numbers.specs.declared.units.Energy.{Energy}
 use Rattle.numbers.specs.declared.units.Pesos.{Pesos}
 use Rattle.numbers.specs.declared.units.CheckedPrice.{CheckedPrice}
-use Rattle.numbers.specs.declared.units.CheckedPrice.the-variants.{Within, OutOfBounds}
+use Rattle.numbers.specs.declared.units.CheckedPrice.the-variants.{Within, OutsideBounds}
 
 -- an empty place of a list of prices, and of energies
 abbrev pub noPrice : PesoPrice
@@ -35,13 +36,9 @@ between low high x = leb low x && leb x high
 
 -- the price of a word, where it keeps the bounds
 unfoldable pub checkedPrice : ℕ → CheckedPrice
-checkedPrice word = cond (between leastPrice mostPrice word) (Within (record { 0 = word })) OutOfBounds
+checkedPrice word = cond (between leastPrice mostPrice word) (Within (record { 0 = word })) OutsideBounds
 
 -- 01's number for each answer (0: accepted), and the values returned with it
-abbrev pub priceNumber : CheckedPrice → ℕ
-priceNumber (Within p) = 0
-priceNumber OutOfBounds = 11
-
-abbrev pub priceValues : CheckedPrice → List ℕ
-priceValues (Within p) = p .0 ∷ []
-priceValues OutOfBounds = []
+abbrev pub priceAnswered : CheckedPrice → Answered
+priceAnswered (Within p) = accepted (p .0 ∷ [])
+priceAnswered OutsideBounds = withoutValues 11

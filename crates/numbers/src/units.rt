@@ -1,7 +1,9 @@
 // The units of document 01 as types of their own, so that a price, an energy and an amount of money cannot be
 // taken for one another: one peso-price unit times one MWh is $1.
 ghost use mathlib.Core.Path.{_≡_};
-ghost use Rattle.numbers.specs.Units.{between, checkedPrice, priceNumber};
+ghost use mathlib.Core.List.{[], _∷_};
+ghost use Rattle.numbers.specs.Checks.{Promised, acceptedWhere};
+ghost use Rattle.numbers.specs.Units.{leastPrice, mostPrice, between, checkedPrice, priceAnswered};
 
 // A peso price, in 0.001 $/kWh.
 pub struct PesoPrice(pub u64);
@@ -15,7 +17,7 @@ pub struct Pesos(pub i64);
 // What the checked constructor of a peso price answers.
 pub enum CheckedPrice {
     Within(PesoPrice),
-    OutOfBounds,
+    OutsideBounds,
 }
 
 impl PesoPrice {
@@ -26,23 +28,13 @@ impl PesoPrice {
 
     // The price of a word, where it keeps the bounds.
     pub fn checked(word: u64) -> CheckedPrice
-        ensures { λ r. ⌜ r ≡ checkedPrice word ⌝ }
+        ensures { λ r. ⌜ Promised priceAnswered r (checkedPrice word) (acceptedWhere (between leastPrice mostPrice word) (word ∷ []) 11) ⌝ }
     {
         if is_between(Self::LEAST, Self::MOST, word) {
             CheckedPrice::Within(PesoPrice(word))
         } else {
-            CheckedPrice::OutOfBounds
+            CheckedPrice::OutsideBounds
         }
-    }
-}
-
-// 01's number of a checked price: 0 within its bounds, 11 out of them.
-pub fn number(answer: CheckedPrice) -> u64
-    ensures { λ r. ⌜ r ≡ priceNumber answer ⌝ }
-{
-    match answer {
-        CheckedPrice::Within(_) => 0,
-        CheckedPrice::OutOfBounds => 11,
     }
 }
 

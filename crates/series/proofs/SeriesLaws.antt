@@ -2,7 +2,7 @@
 -- lies between the least and the greatest value that may be published. Callers cite these and not the definitions.
 -- Assumes nothing.
 use mathlib.Core.Path.{_≡_, refl, ap, sym, _∙_}
-use mathlib.Core.Bool.{Bool, true, false, cond, _&&_}
+use mathlib.Core.Bool.{Bool, true, false, cond, not, _&&_}
 use mathlib.Core.List.{List, [], _∷_}
 use mathlib.Core.Option.{Option, none, some}
 use Prim.Native.Nat.{ℕ, _+_, _-_, _*_, _≤_, _<_}
@@ -12,11 +12,13 @@ use lib.ListN.{getD, length, List·getD-eq-default}
 use lib.Dec.{leb, ltb, eqb}
 use borrow.Author.Tests.{leb-true, eqb-false, le-leb, lt-leb, lt-ltb, le-ltb}
 use Rattle.numbers.specs.Bounded.{sumBelow}
+use Rattle.numbers.specs.Checks.{Promised, acceptedWhere}
 use Rattle.numbers.proofs.SumLaws.{sum-le, sum-ge}
 use Rattle.numbers.proofs.TestLaws.{all-at, any-none}
 use Rattle.numbers.proofs.ListLaws.{list-at, list-length}
+use Rattle.numbers.proofs.CheckLaws.{promised}
 use Rattle.numbers.proofs.RoundingLaws.{half-up-ge, half-up-le}
-use Rattle.series.specs.Series.{mostValue, monthCount, seriesCount, seriesRow, seriesTable, valuesInRange, TableInRange, valueIn, termMonth, valueOf, termValue, termMissing, meanOf, termMean, meanAnswer}
+use Rattle.series.specs.Series.{mostValue, monthCount, seriesCount, seriesRow, seriesTable, valuesInRange, TableInRange, valueIn, termMonth, valueOf, termValue, termMissing, meanOf, termMean, meanAnswer, meanAnswered}
 use Rattle.series.specs.declared.term.Mean.{Mean}
 use Rattle.series.specs.declared.term.Mean.the-variants.{Published, Missing}
 
@@ -99,6 +101,18 @@ module _ (table : List (List ℕ)) (first t s lag window : ℕ) where
   pub mean-missing : termMissing table first t s lag window ≡ true → meanAnswer table first t s lag window ≡ Missing
   unfolding meanAnswer
   mean-missing h = rw h
+
+  -- its number and values
+  mean-told : meanAnswered (meanAnswer table first t s lag window) ≡ acceptedWhere (not (termMissing table first t s lag window)) (termMean table first t s lag window ∷ []) 10
+  unfolding meanAnswer
+  mean-told = go (termMissing table first t s lag window)
+    where
+      go : (b : Bool) → meanAnswered (cond b Missing (Published (termMean table first t s lag window))) ≡ acceptedWhere (not b) (termMean table first t s lag window ∷ []) 10
+      go true = refl
+      go false = refl
+
+  pub mean-promised : (x : Mean) → x ≡ meanAnswer table first t s lag window → Promised meanAnswered x (meanAnswer table first t s lag window) (acceptedWhere (not (termMissing table first t s lag window)) (termMean table first t s lag window ∷ []) 10)
+  mean-promised x e = promised meanAnswered x _ _ e mean-told
 
   -- what an answer at hand says
   pub answered-mean : (x : Mean) (m : ℕ) → x ≡ meanAnswer table first t s lag window → termMissing table first t s lag window ≡ false → x ≡ Published m → m ≡ termMean table first t s lag window

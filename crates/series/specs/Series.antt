@@ -9,6 +9,7 @@ use lib.ListN.{getD}
 use lib.Dec.{leb, ltb, eqb}
 use Rattle.numbers.specs.Bounded.{sumBelow, allBelow, anyBelow, listBelow}
 use Rattle.numbers.specs.Rounding.{halfUp}
+use Rattle.numbers.specs.Refusal.{Answered, accepted, withoutValues}
 use Rattle.series.specs.declared.term.Mean.{Mean}
 use Rattle.series.specs.declared.term.Mean.the-variants.{Published, Missing}
 
@@ -88,10 +89,6 @@ meanAnswer table first t s lag window =
     cond (termMissing table first t s lag window) Missing (Published (termMean table first t s lag window))
 
 -- 01's number for each answer (0: accepted), and the values returned with it
-abbrev pub meanNumber : Mean → ℕ
-meanNumber (Published m) = 0
-meanNumber Missing = 10
-
-abbrev pub meanValues : Mean → List ℕ
-meanValues (Published m) = m ∷ []
-meanValues Missing = []
+abbrev pub meanAnswered : Mean → Answered
+meanAnswered (Published mean) = accepted (mean ∷ [])
+meanAnswered Missing = withoutValues 10

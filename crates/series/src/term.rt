@@ -1,8 +1,10 @@
 // The mean that a term takes from the table: months t - lag back to t - lag - window + 1.
 ghost use mathlib.Core.Path.{_≡_};
-ghost use mathlib.Core.Bool.{false};
+ghost use mathlib.Core.Bool.{false, not};
+ghost use mathlib.Core.List.{[], _∷_};
 ghost use Prim.Native.Nat.{_<_, _≤_};
-ghost use Rattle.series.specs.Series.{TableInRange, TermInRange, termValue, termMissing, termMean, meanAnswer, meanNumber};
+ghost use Rattle.numbers.specs.Checks.{Promised, acceptedWhere};
+ghost use Rattle.series.specs.Series.{TableInRange, TermInRange, termValue, termMissing, termMean, meanAnswer, meanAnswered};
 use crate::table::MONTHS;
 
 // The mean of a term, or that a month of it is missing.
@@ -38,7 +40,7 @@ pub fn term_mean(
     window: u64,
 ) -> Mean
     requires { ⌜ TableInRange table ⌝ ∗ ⌜ TermInRange first series lag window ⌝ }
-    ensures { λ r. ⌜ r ≡ meanAnswer table first month series lag window ⌝ }
+    ensures { λ r. ⌜ Promised meanAnswered r (meanAnswer table first month series lag window) (acceptedWhere (not (termMissing table first month series lag window)) (termMean table first month series lag window ∷ []) 10) ⌝ }
 {
     let row = table[series as usize];
     let mut sum: u64 = 0;
@@ -69,15 +71,5 @@ pub fn present_mean(
     match term_mean(table, first, month, series, lag, window) {
         Mean::Published(mean) => mean,
         Mean::Missing => 0,
-    }
-}
-
-// 01's number of a mean: 0 where it is published, 10 where a month is missing.
-pub fn number(answer: Mean) -> u64
-    ensures { λ r. ⌜ r ≡ meanNumber answer ⌝ }
-{
-    match answer {
-        Mean::Published(_) => 0,
-        Mean::Missing => 10,
     }
 }

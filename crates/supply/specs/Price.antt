@@ -1,22 +1,23 @@
 -- "Steps for a line" of document 01, each half up, and the bounds of cause 11. The steps are cut at the indexed price:
 -- all later ones take an indexed price as their argument. Assumes nothing.
-use mathlib.Core.Bool.{cond, _&&_}
+use mathlib.Core.Bool.{Bool, cond, _&&_}
 use mathlib.Core.List.{List, [], _∷_}
 use mathlib.Core.Option.{Option, none, some}
 use Prim.Native.Nat.{ℕ, _*_}
 use lib.Dec.{leb, eqb}
 use Rattle.numbers.specs.Bounded.{sumBelow, firstBelow, filledBelow}
 use Rattle.numbers.specs.Rounding.{halfUp}
+use Rattle.numbers.specs.Refusal.{Answered, accepted, withoutValues}
+use Rattle.numbers.specs.Checks.{Met, Check}
+use Rattle.numbers.specs.declared.refusal.Refusal.the-variants.{OutOfBounds}
 use Rattle.numbers.specs.Units.{between, checkedPrice, noPrice}
 use Rattle.numbers.specs.declared.units.CheckedPrice.{CheckedPrice}
-use Rattle.numbers.specs.declared.units.CheckedPrice.the-variants.{Within, OutOfBounds}
+use Rattle.numbers.specs.declared.units.CheckedPrice.the-variants.{Within, OutsideBounds}
 use Rattle.numbers.specs.declared.units.PesoPrice.{PesoPrice}
 use Rattle.series.specs.Series.{termMean}
 use Rattle.supply.specs.Line.{mostLines, basePriceOf, offerFactorOf, purchaseFactorOf, termCountOf, seriesOf, weightOf, lagOf, windowOf, baseValueOf}
 use Rattle.supply.specs.declared.price.IndexedPrice.{IndexedPrice}
 use Rattle.supply.specs.declared.price.IndexedPrice.the-variants.{Indexed, Beyond}
-use Rattle.supply.specs.declared.price.BoundsSearch.{BoundsSearch}
-use Rattle.supply.specs.declared.price.BoundsSearch.the-variants.{AllWithin, BeyondAt}
 
 -- "ratio = mean * 1,000,000 / base value"
 unfoldable pub ratioOf : ℕ → ℕ → ℕ
@@ -63,23 +64,24 @@ lineReference dollar factor lines j indexed =
     referenceOf (pesoOf (linePurchase lines j indexed) dollar) factor (purchaseFactorOf lines j)
 
 -- "Factor .. at most 100,000,000"; "Indexed .. must lie in 1 to 1,000,000"
+unfoldable pub indexedAllowed : List (List ℕ) → ℕ → ℕ → List ℕ → ℕ → Bool
+indexedAllowed table first t lines j =
+    leb (factorOf table first t lines j) 100000000 && between 1 1000000 (lineIndexed table first t lines j)
+
 unfoldable pub indexedAnswer : List (List ℕ) → ℕ → ℕ → List ℕ → ℕ → IndexedPrice
 indexedAnswer table first t lines j =
-    cond
-    (leb (factorOf table first t lines j) 100000000 && between 1 1000000 (lineIndexed table first t lines j))
-    (Indexed (lineIndexed table first t lines j))
-    Beyond
+    cond (indexedAllowed table first t lines j) (Indexed (lineIndexed table first t lines j)) Beyond
 
 -- "purchase must lie in 1 to 1,000,000, reference in 1,000 to 2,000,000"
 unfoldable pub referenceAnswer : ℕ → ℕ → List ℕ → ℕ → ℕ → CheckedPrice
 referenceAnswer dollar factor lines j indexed =
     cond (between 1 1000000 (linePurchase lines j indexed))
     (checkedPrice (lineReference dollar factor lines j indexed))
-    OutOfBounds
+    OutsideBounds
 
 abbrev pub fromIndexed : ℕ → ℕ → List ℕ → ℕ → IndexedPrice → CheckedPrice
 fromIndexed dollar factor lines j (Indexed indexed) = referenceAnswer dollar factor lines j indexed
-fromIndexed dollar factor lines j Beyond = OutOfBounds
+fromIndexed dollar factor lines j Beyond = OutsideBounds
 
 -- the line's reference, or that its factor or a price of it is out of bounds
 unfoldable pub priceAnswer : List (List ℕ) → ℕ → ℕ → ℕ → ℕ → List ℕ → ℕ → CheckedPrice
@@ -87,47 +89,38 @@ priceAnswer table first t dollar factor lines j =
     fromIndexed dollar factor lines j (indexedAnswer table first t lines j)
 
 -- the "first such line" of cause 11
-abbrev pub beyondAt : ℕ → CheckedPrice → Option BoundsSearch
+abbrev pub beyondAt : ℕ → CheckedPrice → Option ℕ
 beyondAt j (Within p) = none
-beyondAt j OutOfBounds = some (BeyondAt j)
+beyondAt j OutsideBounds = some j
 
-unfoldable pub beyondIn : List (List ℕ) → ℕ → ℕ → ℕ → ℕ → List ℕ → ℕ → Option BoundsSearch
+unfoldable pub beyondIn : List (List ℕ) → ℕ → ℕ → ℕ → ℕ → List ℕ → ℕ → Option ℕ
 beyondIn table first t dollar factor lines j = beyondAt j (priceAnswer table first t dollar factor lines j)
 
-abbrev pub orWithin : Option BoundsSearch → BoundsSearch
-orWithin none = AllWithin
-orWithin (some found) = found
+unfoldable pub firstBeyond : List (List ℕ) → ℕ → ℕ → ℕ → ℕ → ℕ → List ℕ → Option ℕ
+firstBeyond table first t dollar factor count lines = firstBelow count (beyondIn table first t dollar factor lines)
 
-unfoldable pub boundsSearch : List (List ℕ) → ℕ → ℕ → ℕ → ℕ → ℕ → List ℕ → BoundsSearch
-boundsSearch table first t dollar factor count lines =
-    orWithin (firstBelow count (beyondIn table first t dollar factor lines))
+-- 11: "factor or price out of bounds", with the "first such line"
+abbrev pub outOfBoundsAt : Option ℕ → Option Met
+outOfBoundsAt none = none
+outOfBoundsAt (some line) = some (record { refusal = OutOfBounds line; values = line ∷ [] })
 
--- 01's number for each answer (0: accepted), and the values returned with it: the line
-abbrev pub boundsNumber : BoundsSearch → ℕ
-boundsNumber AllWithin = 0
-boundsNumber (BeyondAt line) = 11
+unfoldable pub boundsCheck : List (List ℕ) → ℕ → ℕ → ℕ → ℕ → ℕ → List ℕ → Check
+boundsCheck table first t dollar factor count lines =
+    record { number = 11; met = outOfBoundsAt (firstBeyond table first t dollar factor count lines) }
 
-abbrev pub boundsValues : BoundsSearch → List ℕ
-boundsValues AllWithin = []
-boundsValues (BeyondAt line) = line ∷ []
-
--- 01's number for an indexed price, and the values returned with it
-abbrev pub indexedNumber : IndexedPrice → ℕ
-indexedNumber (Indexed price) = 0
-indexedNumber Beyond = 11
-
-abbrev pub indexedValues : IndexedPrice → List ℕ
-indexedValues (Indexed price) = price ∷ []
-indexedValues Beyond = []
+-- 01's number for an indexed price (0: accepted), and the values returned with it
+abbrev pub indexedAnswered : IndexedPrice → Answered
+indexedAnswered (Indexed price) = accepted (price ∷ [])
+indexedAnswered Beyond = withoutValues 11
 
 -- the references of the lines before the first that is out of bounds: of all lines where there is none
-abbrev pub pricedLines : ℕ → BoundsSearch → ℕ
-pricedLines count AllWithin = count
-pricedLines count (BeyondAt line) = line
+abbrev pub pricedLines : ℕ → Option ℕ → ℕ
+pricedLines count none = count
+pricedLines count (some line) = line
 
 abbrev pub priceOr : CheckedPrice → PesoPrice
 priceOr (Within p) = p
-priceOr OutOfBounds = noPrice
+priceOr OutsideBounds = noPrice
 
 -- the reference of line j
 unfoldable pub referencePrice : List (List ℕ) → ℕ → ℕ → ℕ → ℕ → List ℕ → ℕ → PesoPrice
@@ -136,5 +129,5 @@ referencePrice table first t dollar factor lines j = priceOr (priceAnswer table 
 unfoldable pub referencePrices : List (List ℕ) → ℕ → ℕ → ℕ → ℕ → ℕ → List ℕ → List PesoPrice
 referencePrices table first t dollar factor count lines =
     filledBelow mostLines noPrice
-    (pricedLines count (boundsSearch table first t dollar factor count lines))
+    (pricedLines count (firstBeyond table first t dollar factor count lines))
     (referencePrice table first t dollar factor lines)

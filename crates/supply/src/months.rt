@@ -1,21 +1,19 @@
 // The search for a missing month (cause 10): line by line, in each its terms, left at the first.
 ghost use mathlib.Core.Path.{_≡_};
+ghost use mathlib.Core.List.{[], _∷_};
 ghost use Prim.Native.Nat.{_≤_, _<_};
+ghost use Rattle.numbers.specs.Checks.{Judged};
 ghost use Rattle.series.specs.Series.{TableInRange, lastMonth};
 ghost use Rattle.supply.specs.Line.{termCountOf};
 ghost use Rattle.supply.specs.Range.{CheckedLines};
-ghost use Rattle.supply.specs.Months.{lacksMonth, monthSearch, searchNumber};
+ghost use Rattle.supply.specs.Months.{lacksMonth, monthCheck};
 use crate::line::line_word;
 use crate::line::term_word;
 use crate::line::{self};
+use numbers::refusal::Refusal;
+use numbers::refusal::Verdict;
 use series::term::Mean;
 use series::term::term_mean;
-
-// What the search answers: the place is the first line, and in it the first term, with a missing month.
-pub enum MonthSearch {
-    AllPublished,
-    MissingAt { line: usize, term: usize },
-}
 
 // Whether a month of term k of line j is missing.
 fn lacks_month(
@@ -39,25 +37,25 @@ fn lacks_month(
     }
 }
 
-// The walk over lines and terms, left at the first missing month.
+// The walk over lines and terms, left at the first missing month with its place.
 pub fn search_months(
     table: [[u64; 48]; 5],
     first: u64,
     month: u64,
     lines: &[u64],
     count: usize,
-) -> MonthSearch
+) -> Verdict
     requires { ⌜ CheckedLines (now lines) count ⌝ ∗ ⌜ TableInRange table ⌝ ∗ ⌜ first ≤ lastMonth ⌝ }
-    ensures { λ r. ⌜ r ≡ monthSearch table first month count (now (lines .entry)) ⌝ }
+    ensures { λ r. ⌜ Judged r (monthCheck table first month count (now (lines .entry)) ∷ []) ⌝ }
 {
-    let mut found = MonthSearch::AllPublished;
+    let mut found = Verdict::Passed;
     let mut j: usize = 0;
     'lines: while j < count {
         let terms = line_word(lines, count, j, line::TERM_COUNT);
         let mut k: usize = 0;
         while (k as u64) < terms {
             if lacks_month(table, first, month, lines, count, j, k) {
-                found = MonthSearch::MissingAt { line: j, term: k };
+                found = Verdict::Refused(Refusal::MonthMissing { line: j, term: k });
                 break 'lines;
             }
             k += 1;
@@ -65,14 +63,4 @@ pub fn search_months(
         j += 1;
     }
     found
-}
-
-// 01's number of a search: 0 where all months are published, 10 where one is missing.
-pub fn number(answer: MonthSearch) -> u64
-    ensures { λ r. ⌜ r ≡ searchNumber answer ⌝ }
-{
-    match answer {
-        MonthSearch::AllPublished => 0,
-        MonthSearch::MissingAt { line: _, term: _ } => 10,
-    }
 }

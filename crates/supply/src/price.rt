@@ -1,19 +1,22 @@
 // The steps from a line's base price to its reference, and the first line out of bounds (cause 11).
 ghost use mathlib.Core.Path.{_≡_};
 ghost use mathlib.Core.Bool.{false};
+ghost use mathlib.Core.List.{[], _∷_};
 ghost use mathlib.Core.Option.{none};
 ghost use Prim.Native.Nat.{_≤_, _<_};
 ghost use lib.ListN.{replicate};
+ghost use Rattle.numbers.specs.Checks.{Promised, Judged, acceptedWhere};
 ghost use Rattle.numbers.specs.Units.{noPrice};
 ghost use Rattle.series.specs.Series.{TableInRange, lastMonth};
 ghost use Rattle.supply.specs.Line.{mostLines, termCountOf};
 ghost use Rattle.supply.specs.Range.{CheckedLines, MarketFacts};
-ghost use Rattle.supply.specs.Months.{lacksMonth, missingInLine, monthSearch};
-ghost use Rattle.supply.specs.declared.months.MonthSearch.the-variants.{AllPublished};
-ghost use Rattle.supply.specs.Price.{pesoOf, termRatio, factorOf, indexedAnswer, referenceAnswer, priceAnswer, boundsSearch, referencePrices, indexedNumber, boundsNumber};
+ghost use Rattle.supply.specs.Months.{lacksMonth, missingInLine, firstMissing};
+ghost use Rattle.supply.specs.Price.{pesoOf, termRatio, factorOf, indexedAnswer, referenceAnswer, priceAnswer, boundsCheck, referencePrices, lineIndexed, indexedAllowed, indexedAnswered};
 use crate::line::line_word;
 use crate::line::term_word;
 use crate::line::{self};
+use numbers::refusal::Refusal;
+use numbers::refusal::Verdict;
 use numbers::rounding::half_up;
 use numbers::units::CheckedPrice;
 use numbers::units::PesoPrice;
@@ -24,12 +27,6 @@ use series::term::present_mean;
 pub enum IndexedPrice {
     Indexed(u64),
     Beyond,
-}
-
-// The first line of which the factor or a price is out of bounds.
-pub enum BoundsSearch {
-    AllWithin,
-    BeyondAt { line: usize },
 }
 
 // The peso step: a purchase price in 0.001 US$/MWh at the dollar, in hundredths of $. It has no bounds of its own.
@@ -99,7 +96,7 @@ pub fn indexed_price(
     j: usize,
 ) -> IndexedPrice
     requires { ⌜ CheckedLines (now lines) count ⌝ ∗ ⌜ TableInRange table ⌝ ∗ ⌜ first ≤ lastMonth ⌝ ∗ ⌜ j < count ⌝ ∗ ⌜ missingInLine table first month (now lines) j ≡ none ⌝ }
-    ensures { λ r. ⌜ r ≡ indexedAnswer table first month (now (lines .entry)) j ⌝ }
+    ensures { λ r. ⌜ Promised indexedAnswered r (indexedAnswer table first month (now (lines .entry)) j) (acceptedWhere (indexedAllowed table first month (now (lines .entry)) j) (lineIndexed table first month (now (lines .entry)) j ∷ []) 11) ⌝ }
 {
     let factor = factor(table, first, month, lines, count, j);
     if factor > 100000000 {
@@ -133,7 +130,7 @@ pub fn reference_price(
     let offer_factor = line_word(lines, count, j, line::OFFER_FACTOR);
     let purchase = half_up(indexed * purchase_factor, offer_factor);
     if !is_between(1, 1000000, purchase) {
-        return CheckedPrice::OutOfBounds;
+        return CheckedPrice::OutsideBounds;
     }
     let peso = peso_price(purchase, dollar);
     let reference = half_up(peso.0 * factor, purchase_factor);
@@ -156,14 +153,14 @@ fn price_line(
 {
     match indexed_price(table, first, month, lines, count, j) {
         IndexedPrice::Indexed(indexed) => reference_price(dollar, factor, lines, count, j, indexed),
-        IndexedPrice::Beyond => CheckedPrice::OutOfBounds,
+        IndexedPrice::Beyond => CheckedPrice::OutsideBounds,
     }
 }
 
-// The references of the lines, and the first line that has none.
+// The references of the lines, and the refusal of the first line that has none.
 pub struct References {
     pub prices: [PesoPrice; 256],
-    pub search: BoundsSearch,
+    pub verdict: Verdict,
 }
 
 // No reference yet.
@@ -184,8 +181,8 @@ pub fn reference_prices(
     lines: &[u64],
     count: usize,
 ) -> References
-    requires { ⌜ CheckedLines (now lines) count ⌝ ∗ ⌜ TableInRange table ⌝ ∗ ⌜ MarketFacts dollar factor first ⌝ ∗ ⌜ monthSearch table first month count (now lines) ≡ AllPublished ⌝ }
-    ensures { λ r. ⌜ r ≡ record { prices = referencePrices table first month dollar factor count (now (lines .entry)); search = boundsSearch table first month dollar factor count (now (lines .entry)) } ⌝ }
+    requires { ⌜ CheckedLines (now lines) count ⌝ ∗ ⌜ TableInRange table ⌝ ∗ ⌜ MarketFacts dollar factor first ⌝ ∗ ⌜ firstMissing table first month count (now lines) ≡ none ⌝ }
+    ensures { λ r. ⌜ r .prices ≡ referencePrices table first month dollar factor count (now (lines .entry)) ⌝ ∗ ⌜ Judged (r .verdict) (boundsCheck table first month dollar factor count (now (lines .entry)) ∷ []) ⌝ }
 {
     let mut prices = no_references();
     let mut j: usize = 0;
@@ -194,10 +191,10 @@ pub fn reference_prices(
             CheckedPrice::Within(price) => {
                 prices[j] = price;
             }
-            CheckedPrice::OutOfBounds => {
+            CheckedPrice::OutsideBounds => {
                 return References {
                     prices,
-                    search: BoundsSearch::BeyondAt { line: j },
+                    verdict: Verdict::Refused(Refusal::OutOfBounds { line: j }),
                 };
             }
         }
@@ -205,26 +202,6 @@ pub fn reference_prices(
     }
     References {
         prices,
-        search: BoundsSearch::AllWithin,
-    }
-}
-
-// 01's number of an indexed price: 0 within its bounds, 11 beyond them.
-pub fn indexed_number(answer: IndexedPrice) -> u64
-    ensures { λ r. ⌜ r ≡ indexedNumber answer ⌝ }
-{
-    match answer {
-        IndexedPrice::Indexed(_) => 0,
-        IndexedPrice::Beyond => 11,
-    }
-}
-
-// 01's number of a search: 0 where all lines are within bounds, 11 where one is not.
-pub fn bounds_number(answer: BoundsSearch) -> u64
-    ensures { λ r. ⌜ r ≡ boundsNumber answer ⌝ }
-{
-    match answer {
-        BoundsSearch::AllWithin => 0,
-        BoundsSearch::BeyondAt { line: _ } => 11,
+        verdict: Verdict::Passed,
     }
 }

@@ -1,12 +1,14 @@
 -- Each test is the check of its cause, made where those before it are passed; what passes all four is priced.
-use mathlib.Core.Path.{_≡_, sym, _∙_}
+use mathlib.Core.Path.{_≡_, refl}
 use mathlib.Core.Bool.{true}
-use borrow.Author.Tests.{not-true, not-false}
+use Rattle.numbers.specs.declared.refusal.Refusal.the-variants.{OutOfRange, ValueTooLarge, WrongSector, NoLine}
+use Rattle.numbers.proofs.BoolLaws.{told-true, told-false}
+use Rattle.numbers.proofs.CheckLaws.{FirstPass, passes, refused-unless}
 use Rattle.series.specs.Series.{valuesInRange}
 use Rattle.fixing.specs.Average.{OwnLines}
 use Rattle.fixing.specs.Sector.{sectorsAllowed}
-use Rattle.fixing.specs.Input.{FixingInput, CheckedInput, inputOf, lineCount, inputEnergies}
-use Rattle.fixing.proofs.VerdictLaws.{ranged, ranged-own, fixing-six, fixing-seven, fixing-eight, fixing-nine, fixing-priced}
+use Rattle.fixing.specs.Input.{FixingInput, CheckedInput, inputOf, lineCount, ranged, inputChecks, inputEnergies}
+use Rattle.fixing.proofs.VerdictLaws.{ranged-own, worked-refused, worked-priced}
 use borrow.Author.Needs.{needs}
 use Rattle.fixing.proofs.fix.fix_input.Statement.{statement}
 use Rattle.fixing.proofs.fix.fix_input.Tie as tie
@@ -19,13 +21,13 @@ start c = c .before .before .before .before
 
 -- what is known where a check is passed
 passed-six : (c : tie.Else1) → ranged (start (c .before) .args .n) (input (start (c .before))) ≡ true
-passed-six c = sym (c .before .input-in-range .ensures) ∙ not-false _ (c .if1 .left)
+passed-six c = told-true (c .before .input-in-range .ensures) (c .if1 .left)
 
 abbrev six : tie.Else2 → tie.Else1
 six c = c .before .before
 
 passed-seven : (c : tie.Else2) → valuesInRange (start (six c .before) .args .series .now) ≡ true
-passed-seven c = sym (c .before .values-in-range .ensures) ∙ not-false _ (c .if2 .left)
+passed-seven c = told-true (c .before .values-in-range .ensures) (c .if2 .left)
 
 module _ (c : tie.Else3) where
   abbrev seven : tie.Else2
@@ -35,7 +37,7 @@ module _ (c : tie.Else3) where
   begun = start (six seven .before)
 
   passed-eight : sectorsAllowed (begun .args .n) (begun .args .sectors .now) ≡ true
-  passed-eight = sym (c .before .sectors-allowed .ensures) ∙ not-false _ (c .if3 .left)
+  passed-eight = told-true (c .before .sectors-allowed .ensures) (c .if3 .left)
 
   own : OwnLines (begun .args .n) (begun .args .lines .now) (lineCount (input begun))
   own = ranged-own _ (input begun) (begun .pre) (passed-six (six seven))
@@ -48,25 +50,36 @@ passed-nine c =
       ranges = passed-six (six (seven e));
       small = passed-seven (seven e);
       sectored = passed-eight e;
-      supplied = sym (c .before .everyone-supplied .ensures) ∙ not-false _ (c .if4 .left);
+      everyone = told-true (c .before .everyone-supplied .ensures) (c .if4 .left);
     }
 
 returns : tie.Need-returns
+unfolding inputChecks FirstPass
 returns c =
     let t = c .before in
-    c .refused .ensures ∙ fixing-six _ (input (start (t .before))) (sym (t .before .input-in-range .ensures) ∙ not-true _ (t .if1 .taken))
+    let s = start (t .before) in
+    worked-refused (s .args .n) (input s) _ OutOfRange (c .refused .ensures)
+    (refused-unless 0 (inputChecks (s .args .n) (input s)) 6 _ OutOfRange _ tt refl (told-false (t .before .input-in-range .ensures) (t .if1 .taken)))
 
 returns-2 : tie.Need-returns-2
+unfolding inputChecks FirstPass
 returns-2 c =
     let t = c .before in
     let e = t .before .before in
-    c .refused2 .ensures ∙ fixing-seven _ (input (start (e .before))) (passed-six e) (sym (t .before .values-in-range .ensures) ∙ not-true _ (t .if2 .taken))
+    let s = start (e .before) in
+    worked-refused (s .args .n) (input s) _ ValueTooLarge (c .refused2 .ensures)
+    (refused-unless 1 (inputChecks (s .args .n) (input s)) 7 _ ValueTooLarge _ (passes OutOfRange (passed-six e), tt) refl
+    (told-false (t .before .values-in-range .ensures) (t .if2 .taken)))
 
 returns-3 : tie.Need-returns-3
+unfolding inputChecks FirstPass
 returns-3 c =
     let t = c .before in
     let e = t .before .before in
-    c .refused3 .ensures ∙ fixing-eight _ (input (start (six e .before))) (passed-six (six e)) (passed-seven e) (sym (t .before .sectors-allowed .ensures) ∙ not-true _ (t .if3 .taken))
+    let s = start (six e .before) in
+    worked-refused (s .args .n) (input s) _ WrongSector (c .refused3 .ensures)
+    (refused-unless 2 (inputChecks (s .args .n) (input s)) 8 _ WrongSector _ (passes OutOfRange (passed-six (six e)), (passes ValueTooLarge (passed-seven e), tt)) refl
+    (told-false (t .before .sectors-allowed .ensures) (t .if3 .taken)))
 
 energies-requires : tie.Need-energies-requires
 energies-requires c κs = own c
@@ -75,17 +88,22 @@ everyone-supplied-requires : tie.Need-everyone-supplied-requires
 everyone-supplied-requires c κs = (own (c .before), c .energies .ensures)
 
 returns-4 : tie.Need-returns-4
+unfolding inputChecks FirstPass
 returns-4 c =
     let t = c .before in
     let e = t .before .before .before in
-    c .refused4 .ensures ∙ fixing-nine _ (input (begun e)) (passed-six (six (seven e))) (passed-seven (seven e)) (passed-eight e) (sym (t .before .everyone-supplied .ensures) ∙ not-true _ (t .if4 .taken))
+    let s = begun e in
+    worked-refused (s .args .n) (input s) _ NoLine (c .refused4 .ensures)
+    (refused-unless 3 (inputChecks (s .args .n) (input s)) 9 _ NoLine _
+    (passes OutOfRange (passed-six (six (seven e))), (passes ValueTooLarge (passed-seven (seven e)), (passes WrongSector (passed-eight e), tt))) refl
+    (told-false (t .before .everyone-supplied .ensures) (t .if4 .taken)))
 
 price-lines-requires : tie.Need-price-lines-requires
 unfolding inputEnergies
 price-lines-requires c κs = (passed-nine c, c .before .before .energies .ensures)
 
 returns-5 : tie.Need-returns-5
-returns-5 c = c .price-lines .ensures ∙ fixing-priced _ _ (passed-nine (c .before))
+returns-5 c = worked-priced _ _ _ (c .price-lines .ensures) (passed-nine (c .before))
 
 pub fix-input-spec : {M : Type 1} → statement M
 fix-input-spec =

@@ -13,14 +13,14 @@ returns : tie.Need-returns
 returns c =
     let s = c .before .before .before .before in
     answered-mean (s .args .table) (s .args .first) (s .args .month) (s .args .series) (s .args .lag) (s .args .window)
-    _ _ (c .before .before .before .term-mean .ensures) (s .pre .1 .1) (c .before .mean .given .1)
+    _ _ (c .before .before .before .term-mean .ensures .answered) (s .pre .1 .1) (c .before .mean .given .1)
 
 returns-2 : tie.Need-returns-2
 returns-2 c =
     let s = c .before .before .before in
     absurd
     (true≢false
-    (sym (answered-missing (s .args .table) (s .args .first) (s .args .month) (s .args .series) (s .args .lag) (s .args .window) _ (c .before .before .term-mean .ensures) (c .enum-told .given .1))
+    (sym (answered-missing (s .args .table) (s .args .first) (s .args .month) (s .args .series) (s .args .lag) (s .args .window) _ (c .before .before .term-mean .ensures .answered) (c .enum-told .given .1))
     ∙ s .pre .1 .1))
 
 pub present-mean-spec : {M : Type 1} → statement M

@@ -12,7 +12,7 @@ use Rattle.numbers.specs.Bounded.{sumBelow, anyBelow}
 use Rattle.numbers.proofs.SumLaws.{sum-step}
 use Rattle.numbers.proofs.TestLaws.{any-more, any-holds}
 use Rattle.series.specs.Series.{termValue, termMissing, meanOf, termMean, meanAnswer}
-use Rattle.series.proofs.SeriesLaws.{value-most, values-most}
+use Rattle.series.proofs.SeriesLaws.{value-most, values-most, mean-promised}
 use Rattle.series.proofs.term.term_mean.Statement.{statement}
 use Rattle.series.proofs.term.term_mean.Tie as tie
 use native.Mathlib.Omega.{arith}
@@ -36,8 +36,9 @@ returns c =
     let l = c .before .before .before .before in
     let s = l .before .before in
     let row = getD (s .args .t1) (s .args .series) [] in
-    rw (any-holds (s .args .window) (λ i. eqb (termValue row (s .args .first) (s .args .month) (s .args .lag) i) 0) (l .loop .k) (omega arith)
-    (eq-eqb _ _ (sym (c .before .term-value .ensures) ∙ c .if1 .taken)))
+    mean-promised (s .args .t1) _ _ _ _ _ _
+    (rw (any-holds (s .args .window) (λ i. eqb (termValue row (s .args .first) (s .args .month) (s .args .lag) i) 0) (l .loop .k) (omega arith)
+    (eq-eqb _ _ (sym (c .before .term-value .ensures) ∙ c .if1 .taken))))
 
 add-sum : tie.Need-add-sum Inv-loop μ-loop
 add-sum c =
@@ -82,7 +83,8 @@ returns-2 c =
     let l = c .before .before in
     let s = l .before .before in
     let e : l .loop .k ≡ s .args .window = omega arith in
-    rw (rw e at (l .loop .inv .1)) (ap Published (c .half-up .ensures ∙ ap (λ x. halfUp x (s .args .window)) (rw e at (l .loop .inv .2))))
+    mean-promised (s .args .t1) _ _ _ _ _ _
+    (rw (rw e at (l .loop .inv .1)) (ap Published (c .half-up .ensures ∙ ap (λ x. halfUp x (s .args .window)) (rw e at (l .loop .inv .2)))))
 
 pub term-mean-spec : {M : Type 1} → statement M
 term-mean-spec =

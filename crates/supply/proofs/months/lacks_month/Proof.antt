@@ -35,7 +35,7 @@ returns c =
     let m = c .before .before in
     let s = m .before .before .before .before .before in
     rw (← m .before .before .before .term-word .ensures, ← m .before .before .term-word2 .ensures, ← m .before .term-word3 .ensures)
-    (sym (answered-present (s .args .table) (s .args .first) (s .args .month) _ _ _ _ _ (m .term-mean .ensures) (c .enum-told .given .1)))
+    (sym (answered-present (s .args .table) (s .args .first) (s .args .month) _ _ _ _ _ (m .term-mean .ensures .answered) (c .enum-told .given .1)))
 
 returns-2 : tie.Need-returns-2
 unfolding lacksMonth
@@ -43,7 +43,7 @@ returns-2 c =
     let m = c .before .before in
     let s = m .before .before .before .before .before in
     rw (← m .before .before .before .term-word .ensures, ← m .before .before .term-word2 .ensures, ← m .before .term-word3 .ensures)
-    (sym (answered-missing (s .args .table) (s .args .first) (s .args .month) _ _ _ _ (m .term-mean .ensures) (c .enum-told2 .given .1)))
+    (sym (answered-missing (s .args .table) (s .args .first) (s .args .month) _ _ _ _ (m .term-mean .ensures .answered) (c .enum-told2 .given .1)))
 
 pub lacks-month-spec : {M : Type 1} → statement M
 lacks-month-spec =

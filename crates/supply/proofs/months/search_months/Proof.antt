@@ -5,21 +5,23 @@ use Prim.Native.Nat.{_≤_, _-_}
 use Rattle.numbers.specs.Bounded.{firstBelow}
 use Rattle.numbers.proofs.FirstLaws.{first-step, first-is}
 use Rattle.supply.specs.Line.{termCountOf}
-use Rattle.supply.specs.Months.{missingTerm, missingInLine, monthSearch}
-use Rattle.supply.specs.declared.months.MonthSearch.the-variants.{AllPublished, MissingAt}
-use Rattle.supply.proofs.MonthLaws.{term-missing, term-published}
+use Rattle.supply.specs.Months.{missingTerm, missingInLine, firstMissing, monthCheck}
+use Rattle.numbers.specs.Checks.{verdictOf}
+use Rattle.numbers.specs.declared.refusal.Verdict.the-variants.{Passed, Refused}
+use Rattle.numbers.specs.declared.refusal.Refusal.the-variants.{MonthMissing}
+use Rattle.supply.proofs.MonthLaws.{term-missing, term-published, months-judged}
 use Rattle.supply.proofs.months.search_months.Statement.{statement}
 use Rattle.supply.proofs.months.search_months.Tie as tie
 use native.Mathlib.Omega.{arith}
 
 abbrev Inv-loop : tie.InvT-loop
-Inv-loop table first month lines count found₀ j terms k₀ found k = (k ≤ terms) × (found ≡ AllPublished) × (firstBelow k (missingTerm table first month lines j) ≡ none)
+Inv-loop table first month lines count found₀ j terms k₀ found k = (k ≤ terms) × (found ≡ Passed) × (firstBelow k (missingTerm table first month lines j) ≡ none)
 
 abbrev μ-loop : tie.MeasureT-loop
 μ-loop table first month lines count found₀ j terms k₀ found k = terms - k
 
 abbrev Inv-lines : tie.InvT-lines
-Inv-lines table first month lines count found₀ j₀ found j = (j ≤ count) × (found ≡ AllPublished) × (firstBelow j (missingInLine table first month lines) ≡ none)
+Inv-lines table first month lines count found₀ j₀ found j = (j ≤ count) × (found ≡ Passed) × (firstBelow j (missingInLine table first month lines) ≡ none)
 
 abbrev μ-lines : tie.MeasureT-lines
 μ-lines table first month lines count found₀ j₀ found j = count - j
@@ -65,21 +67,21 @@ lines-again c =
     )
 
 returns : tie.Need-returns Inv-loop μ-loop Inv-lines μ-lines
-unfolding monthSearch
+unfolding verdictOf monthCheck firstMissing
 returns c =
     let o = c .before in
     let e : o .lines .j ≡ o .before .before .args .count = omega arith in
-    rw (← e, o .lines .inv .2) (o .lines .inv .1)
+    months-judged _ _ _ _ _ _ (rw (← e, o .lines .inv .2) (o .lines .inv .1))
 
 returns-2 : tie.Need-returns-2 Inv-loop μ-loop Inv-lines μ-lines
-unfolding monthSearch missingInLine
+unfolding verdictOf monthCheck firstMissing missingInLine
 returns-2 c =
     let l = c .before .before .before in
     let o = l .before .before .before in
     let s = o .before .before in
-    sym
+    months-judged (s .args .table) (s .args .first) (s .args .month) (s .args .count) (s .args .lines .now) (Refused (MonthMissing (o .lines .j) (l .loop .k)))
     (rw
-    (first-is (missingInLine (s .args .table) (s .args .first) (s .args .month) (s .args .lines .now)) (o .lines .j) (s .args .count) (MissingAt (o .lines .j) (l .loop .k)) (omega arith) (o .lines .inv .2)
+    (first-is (missingInLine (s .args .table) (s .args .first) (s .args .month) (s .args .lines .now)) (o .lines .j) (s .args .count) (record { line = o .lines .j; term = l .loop .k }) (omega arith) (o .lines .inv .2)
     (first-is (missingTerm (s .args .table) (s .args .first) (s .args .month) (s .args .lines .now) (o .lines .j)) (l .loop .k) (termCountOf (s .args .lines .now) (o .lines .j)) _
     (omega (arith, l .before .line-word .ensures)) (l .loop .inv .2)
     (term-missing (s .args .table) (s .args .first) (s .args .month) (s .args .lines .now) (o .lines .j) (l .loop .k) (sym (c .before .lacks-month .ensures) ∙ c .if1 .taken)))))

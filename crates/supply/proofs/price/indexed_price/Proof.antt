@@ -4,7 +4,8 @@ use Prim.Native.Nat.{_*_, _≤_}
 use native.Mathlib.Nat.{mul-le-mul}
 use borrow.Author.Tests.{lt-leb, le-leb}
 use Rattle.numbers.specs.Rounding.{halfUp}
-use Rattle.supply.specs.Price.{indexedOf, lineIndexed, indexedAnswer}
+use Rattle.supply.specs.Price.{indexedOf, lineIndexed, indexedAllowed, indexedAnswer}
+use Rattle.supply.proofs.PriceLaws.{indexed-promised}
 use borrow.Author.Needs.{needs}
 use Rattle.supply.proofs.price.indexed_price.Statement.{statement}
 use Rattle.supply.proofs.price.indexed_price.Tie as tie
@@ -25,8 +26,8 @@ module _ (c : tie.After-half-up) where
   indexed = c .half-up .ensures ∙ ap₂ (λ base factor. halfUp (base * factor) 1000000) (c .before .line-word .ensures) (c .before .before .before .factor .ensures)
 
 returns : tie.Need-returns
-unfolding indexedAnswer
-returns c = rw (← c .before .factor .ensures, lt-leb _ _ (c .if1 .taken))
+unfolding indexedAnswer indexedAllowed
+returns c = indexed-promised _ _ _ _ _ _ (rw (← c .before .factor .ensures, lt-leb _ _ (c .if1 .taken)))
 
 line-word-requires : tie.Need-line-word-requires
 line-word-requires c κs = let s = c .before .before .before in (s .pre .0 .lent, (s .pre .1 .1 .1 .0, omega arith))
@@ -38,16 +39,18 @@ half-up-requires : tie.Need-half-up-requires
 half-up-requires c κs = omega (arith, product c)
 
 returns-2 : tie.Need-returns-2
-unfolding indexedAnswer
+unfolding indexedAnswer indexedAllowed
 returns-2 c =
     let h = c .before .before in
-    rw (← indexed h, ← h .before .before .before .factor .ensures, le-leb _ _ (h .before .before .if1 .left), ← c .before .is-between .ensures, c .if2 .taken)
+    indexed-promised _ _ _ _ _ _
+    (rw (← indexed h, ← h .before .before .before .factor .ensures, le-leb _ _ (h .before .before .if1 .left), ← c .before .is-between .ensures, c .if2 .taken))
 
 returns-3 : tie.Need-returns-3
-unfolding indexedAnswer
+unfolding indexedAnswer indexedAllowed
 returns-3 c =
     let h = c .before .before in
-    rw (← indexed h, ← h .before .before .before .factor .ensures, le-leb _ _ (h .before .before .if1 .left), ← c .before .is-between .ensures, c .if2 .left)
+    indexed-promised _ _ _ _ _ _
+    (rw (← indexed h, ← h .before .before .before .factor .ensures, le-leb _ _ (h .before .before .if1 .left), ← c .before .is-between .ensures, c .if2 .left))
 
 pub indexed-price-spec : {M : Type 1} → statement M
 indexed-price-spec =

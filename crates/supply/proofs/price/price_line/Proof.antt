@@ -12,7 +12,7 @@ indexed-price-requires c κs = let s = c .before in (s .pre .0, (s .pre .1 .0, (
 reference-price-requires : tie.Need-reference-price-requires
 reference-price-requires c κs =
     let s = c .before .before .before .before .before in
-    let taken = sym (c .before .before .before .indexed-price .ensures) ∙ c .before .indexed .given .1 in (
+    let taken = sym (c .before .before .before .indexed-price .ensures .answered) ∙ c .before .indexed .given .1 in (
       s .pre .0,
       (
         (s .pre .1 .1 .0 .dollarMost, s .pre .1 .1 .0 .factorMost),
@@ -30,11 +30,11 @@ returns : tie.Need-returns
 unfolding priceAnswer
 returns c =
     let k = c .before in
-    rw (← k .before .before .before .indexed-price .ensures, k .before .indexed .given .1) (c .reference-price .ensures)
+    rw (← k .before .before .before .indexed-price .ensures .answered, k .before .indexed .given .1) (c .reference-price .ensures)
 
 returns-2 : tie.Need-returns-2
 unfolding priceAnswer
-returns-2 c = rw (← c .before .before .indexed-price .ensures, c .enum-told .given .1)
+returns-2 c = rw (← c .before .before .indexed-price .ensures .answered, c .enum-told .given .1)
 
 pub price-line-spec : {M : Type 1} → statement M
 price-line-spec =

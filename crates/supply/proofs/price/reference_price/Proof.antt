@@ -83,7 +83,7 @@ returns-2 c =
     let h = k .before .before .before in
     let s = h .before .before .before .before in
     rw (← bought h, ← k .before .before .is-between .ensures, not-false (k .before .before .is-between .result) (k .before .if1 .left))
-    (c .checked .ensures ∙ ap checkedPrice (c .before .half-up2 .ensures ∙ referred k))
+    (c .checked .ensures .answered ∙ ap checkedPrice (c .before .half-up2 .ensures ∙ referred k))
 
 pub reference-price-spec : {M : Type 1} → statement M
 reference-price-spec =

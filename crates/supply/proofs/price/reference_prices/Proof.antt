@@ -1,17 +1,16 @@
 -- The invariant: no line passed is out of bounds, and the references of the lines passed are filled in.
 use borrow.Author.Needs.{needs}
-use Rattle.supply.specs.declared.price.References.{References}
-use Rattle.supply.specs.declared.price.BoundsSearch.the-variants.{AllWithin, BeyondAt}
-use Rattle.supply.proofs.PriceLaws.{line-within, line-beyond, line-price}
+use Rattle.supply.proofs.PriceLaws.{line-within, line-beyond, line-price, bounds-judged}
 use mathlib.Core.Path.{_≡_, refl, sym, _∙_, ap, ap₂}
 use mathlib.Core.Option.{none, some}
 use Prim.Native.Nat.{_-_, _≤_}
 use lib.ListN.{set}
 use Rattle.numbers.specs.Bounded.{firstBelow, filledBelow}
+use Rattle.numbers.specs.Checks.{verdictOf}
 use Rattle.numbers.specs.Units.{noPrice}
 use Rattle.numbers.proofs.FirstLaws.{first-step, first-is}
 use Rattle.numbers.proofs.ListLaws.{filled-none, filled-more}
-use Rattle.supply.specs.Price.{beyondIn, boundsSearch, referencePrice, referencePrices}
+use Rattle.supply.specs.Price.{beyondIn, firstBeyond, boundsCheck, referencePrice, referencePrices}
 use Rattle.supply.proofs.MonthLaws.{search-published}
 use Rattle.supply.proofs.price.reference_prices.Statement.{statement}
 use Rattle.supply.proofs.price.reference_prices.Tie as tie
@@ -55,15 +54,15 @@ enum-told : tie.Need-enum-told Inv-loop μ-loop
 enum-told c = search needs
 
 returns : tie.Need-returns Inv-loop μ-loop
-unfolding referencePrices boundsSearch
+unfolding referencePrices firstBeyond verdictOf boundsCheck
 returns c =
     let l = c .before .before .before .before in
     let s = l .before .before .before in
     let lines = s .args .lines .now in
-    let e : firstBelow (s .args .count) (beyondIn (s .args .table) (s .args .first) (s .args .month) (s .args .dollar) (s .args .factor) lines) ≡ some (BeyondAt (l .loop .j)) =
-    first-is (beyondIn (s .args .table) (s .args .first) (s .args .month) (s .args .dollar) (s .args .factor) lines) (l .loop .j) (s .args .count) (BeyondAt (l .loop .j)) (omega arith) (l .loop .inv .1)
+    let e : firstBelow (s .args .count) (beyondIn (s .args .table) (s .args .first) (s .args .month) (s .args .dollar) (s .args .factor) lines) ≡ some (l .loop .j) =
+    first-is (beyondIn (s .args .table) (s .args .first) (s .args .month) (s .args .dollar) (s .args .factor) lines) (l .loop .j) (s .args .count) (l .loop .j) (omega arith) (l .loop .inv .1)
     (line-beyond (s .args .table) (s .args .first) (s .args .month) (s .args .dollar) (s .args .factor) lines (l .loop .j) (sym (c .before .before .price-line .ensures) ∙ c .enum-told .given .1)) in
-    rw e (ap {B = References} (λ p. record { prices = p; search = BeyondAt (l .loop .j) }) (l .loop .inv .2))
+    (rw e (l .loop .inv .2), bounds-judged _ _ _ _ _ _ _ _ (rw e))
 
 add-j : tie.Need-add-j Inv-loop μ-loop
 add-j c = omega (arith, c .before .before .before .before .before .before .before .before .pre .0 .lent .few)
@@ -81,13 +80,14 @@ loop-again c =
     )
 
 returns-2 : tie.Need-returns-2 Inv-loop μ-loop
-unfolding referencePrices boundsSearch
+unfolding referencePrices firstBeyond verdictOf boundsCheck
 returns-2 c =
     let l = c .before in
     let s = l .before .before .before in
     let lines = s .args .lines .now in
     let e : l .loop .j ≡ s .args .count = omega arith in
-    rw (rw e at (l .loop .inv .1)) (ap {B = References} (λ p. record { prices = p; search = AllWithin }) (rw e at (l .loop .inv .2)))
+    let none-beyond = rw e at (l .loop .inv .1) in
+    (rw none-beyond (rw e at (l .loop .inv .2)), bounds-judged _ _ _ _ _ _ _ _ (rw none-beyond))
 
 pub reference-prices-spec : {M : Type 1} → statement M
 reference-prices-spec =

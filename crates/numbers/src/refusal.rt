@@ -1,0 +1,46 @@
+// What a call that may be refused answers: that it passed, or one of the refusals of 01's table, "Refusals by cause".
+ghost use mathlib.Core.Path.{_≡_};
+ghost use Rattle.numbers.specs.Refusal.{refusalAnswered};
+
+// In the order of the table.
+pub enum Refusal {
+    WrongCount,
+    Unsound,
+    WrongLength,
+    OutOfTurn,
+    NoFixing,
+    OutOfRange,
+    ValueTooLarge,
+    WrongSector,
+    NoLine,
+    MonthMissing { line: usize, term: usize },
+    OutOfBounds { line: usize },
+    WrongReading,
+    PositionBeyond,
+}
+
+pub enum Verdict {
+    Passed,
+    Refused(Refusal),
+}
+
+// 01's number of a refusal.
+pub fn number(refusal: Refusal) -> u64
+    ensures { λ r. ⌜ r ≡ refusalAnswered refusal .number ⌝ }
+{
+    match refusal {
+        Refusal::WrongCount => 1,
+        Refusal::Unsound => 2,
+        Refusal::WrongLength => 3,
+        Refusal::OutOfTurn => 4,
+        Refusal::NoFixing => 5,
+        Refusal::OutOfRange => 6,
+        Refusal::ValueTooLarge => 7,
+        Refusal::WrongSector => 8,
+        Refusal::NoLine => 9,
+        Refusal::MonthMissing { line: _, term: _ } => 10,
+        Refusal::OutOfBounds { line: _ } => 11,
+        Refusal::WrongReading => 12,
+        Refusal::PositionBeyond => 13,
+    }
+}
