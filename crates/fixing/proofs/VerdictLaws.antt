@@ -30,7 +30,7 @@ use Rattle.fixing.specs.Limit.{InRange}
 use Rattle.fixing.specs.Prices.{distributors}
 use Rattle.fixing.specs.Sector.{sectorsAllowed}
 use Rattle.fixing.specs.Input.{FixingInput, RightLengths, CheckedInput, lineCount, indexTable, ranged, supplied, beyondLine, tableChecks, inputChecks, inputVerdict, inputReferences, inputAverages, inputEnergies}
-use Rattle.fixing.specs.Fixing.{refusedFixing, acceptedFixing, fixingBy, workedFixing, pricedFixing, fixingOf, WorkedFixing}
+use Rattle.fixing.specs.Fixing.{refusedFixing, acceptedFixing, fixingBy, workedFixing, pricedFixing, fixingOf, InputPromise}
 use Rattle.fixing.specs.declared.fix.Fixing.{Fixing}
 use Rattle.fixing.proofs.InputLaws.{own-lines, accepted-range}
 
@@ -133,7 +133,7 @@ module _ (n : ℕ) (input : FixingInput) where
       go Passed = refl
       go (Refused refusal) = refl
 
-  input-told : AllTold (inputChecks n input)
+  pub input-told : AllTold (inputChecks n input)
   unfolding AllTold inputChecks tableChecks
   input-told =
       let months = month-told (indexTable input) (input .first) (input .month) (lineCount input) (input .lines) in
@@ -145,16 +145,16 @@ module _ (n : ℕ) (input : FixingInput) where
         ),
       )
 
-  fixing-worked : (fixing : Fixing) → fixing ≡ fixingOf n input → WorkedFixing n input fixing
+  fixing-worked : (fixing : Fixing) → fixing ≡ fixingOf n input → InputPromise n input fixing
   unfolding inputVerdict
   fixing-worked fixing e =
       record { worked = e; judged = judged (inputChecks n input) input-told (fixing .verdict) (ap (λ (x : Fixing). x .verdict) e ∙ verdict-is) }
 
-  pub worked-refused : (fixing : Fixing) (refusal : Refusal) → fixing ≡ refusedFixing refusal → verdictOf (inputChecks n input) ≡ Refused refusal → WorkedFixing n input fixing
+  pub worked-refused : (fixing : Fixing) (refusal : Refusal) → fixing ≡ refusedFixing refusal → verdictOf (inputChecks n input) ≡ Refused refusal → InputPromise n input fixing
   unfolding fixingOf inputVerdict
   worked-refused fixing refusal e h = fixing-worked fixing (e ∙ ap (λ v. fixingBy v (workedFixing n input)) (sym h))
 
-  pub worked-priced : (fixing : Fixing) → fixing ≡ pricedFixing n input → CheckedInput n input → WorkedFixing n input fixing
+  pub worked-priced : (fixing : Fixing) → fixing ≡ pricedFixing n input → CheckedInput n input → InputPromise n input fixing
   unfolding pricedFixing fixingOf inputVerdict inputChecks FirstPass
   worked-priced fixing e ok =
       let passed = verdict-from 4 (inputChecks n input) (passes OutOfRange (ok .ranges), (passes ValueTooLarge (ok .small), (passes WrongSector (ok .sectored), (passes NoLine (ok .everyone), tt)))) in
@@ -165,6 +165,10 @@ module _ (n : ℕ) (input : FixingInput) where
     pub passed-fixing : fixingOf n input ≡ acceptedFixing n (inputAverages n input) (inputEnergies n input) (input .sectors)
     unfolding fixingOf workedFixing
     passed-fixing = rw passed
+
+    pub passed-sectors : sectorsAllowed n (input .sectors) ≡ true
+    unfolding inputVerdict inputChecks FirstPass
+    passed-sectors = passed-test WrongSector _ (all-passed (inputChecks n input) passed .1 .1 .0)
 
     -- its distributors are in range of the limit
     pub input-range : RightLengths n input → InRange (distributors n (inputAverages n input) (inputEnergies n input))

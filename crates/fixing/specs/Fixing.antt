@@ -67,6 +67,6 @@ unfoldable pub fixingOf : ℕ → FixingInput → Fixing
 fixingOf n input = fixingBy (inputVerdict n input) (workedFixing n input)
 
 -- what the fixing of input promises: it is the definition's, and its verdict has the number and values of the checks
-pub record WorkedFixing (n : ℕ) (input : FixingInput) (fixing : Fixing) : Type 0 where
+pub record InputPromise (n : ℕ) (input : FixingInput) (fixing : Fixing) : Type 0 where
   pub worked : fixing ≡ fixingOf n input
   pub judged : Judged (fixing .verdict) (inputChecks n input)

@@ -17,6 +17,8 @@ use Rattle.supply.specs.Line.{lineWords, WholeLines}
 use Rattle.supply.specs.Range.{inputInRange}
 use Rattle.supply.specs.Months.{Place, firstMissing, monthCheck}
 use Rattle.supply.specs.Price.{firstBeyond, boundsCheck, referencePrices}
+use Rattle.fixing.specs.Limit.{Distributors}
+use Rattle.fixing.specs.Prices.{distributors}
 use Rattle.fixing.specs.Average.{everyoneSupplied, energyList, averageList}
 use Rattle.fixing.specs.Sector.{sectorsAllowed}
 
@@ -96,6 +98,10 @@ inputAverages n input = averageList n (inputReferences input) (lineCount input) 
 
 unfoldable pub inputEnergies : ℕ → FixingInput → List Energy
 inputEnergies n input = energyList n (lineCount input) (input .lines)
+
+-- the distributors of an input: averages and energies of their lines
+unfoldable pub inputDistributors : ℕ → FixingInput → Distributors
+inputDistributors n input = distributors n (inputAverages n input) (inputEnergies n input)
 
 -- input that passed causes 6 to 9
 pub record CheckedInput (n : ℕ) (input : FixingInput) : Type 0 where

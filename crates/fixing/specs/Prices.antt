@@ -1,6 +1,6 @@
 -- The call on averages and energies alone: what it answers, by the definitions of the limit. Assumes nothing.
 use mathlib.Core.Path.{_≡_}
-use mathlib.Core.List.{List}
+use mathlib.Core.List.{List, [], _∷_}
 use Prim.Native.Nat.{ℕ, _<_}
 use lib.ListN.{getD}
 use lib.IntN.{ℤ, pos}
@@ -25,7 +25,11 @@ finalPrices d = filledBelow mostDistributors noPrice (d .count) (λ i. record { 
 unfoldable pub chargeList : Distributors → List ℤ
 chargeList d = filledBelow mostDistributors (pos 0) (d .count) (charge d)
 
--- "Fixing .. returns L, r (0 if none), rounds, residue", beside the final prices
+-- "Fixing .. returns L, r (0 if none), rounds, residue"
+unfoldable pub returnedValues : Distributors → List ℕ
+returnedValues d = limit d ∷ surcharge d ∷ rounds d ∷ residue d ∷ []
+
+-- the same in their units, beside the final prices
 unfoldable pub fixedPrices : Distributors → FixedPrices
 fixedPrices d =
     record {

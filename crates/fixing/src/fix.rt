@@ -7,7 +7,7 @@ ghost use Rattle.numbers.specs.Sizes.{sectorCount};
 ghost use Rattle.fixing.specs.Average.{AcceptedLines, averageList, energyList};
 ghost use Rattle.fixing.specs.Sector.{sectorsAllowed};
 ghost use Rattle.fixing.specs.Input.{RightLengths, CheckedInput, inputOf, inputEnergies};
-ghost use Rattle.fixing.specs.Fixing.{refusedFixing, acceptedFixing, pricedFixing, WorkedFixing};
+ghost use Rattle.fixing.specs.Fixing.{refusedFixing, acceptedFixing, pricedFixing, InputPromise};
 use crate::average::averages;
 use crate::average::energies;
 use crate::average::everyone_supplied;
@@ -134,7 +134,7 @@ pub fn fix_input(
     sectors: &[u64],
 ) -> Fixing
     requires { ⌜ RightLengths n (inputOf month dollar factor first (now series) (now lines) (now sectors)) ⌝ }
-    ensures { λ r. ⌜ WorkedFixing n (inputOf month dollar factor first (now (series .entry)) (now (lines .entry)) (now (sectors .entry))) r ⌝ }
+    ensures { λ r. ⌜ InputPromise n (inputOf month dollar factor first (now (series .entry)) (now (lines .entry)) (now (sectors .entry))) r ⌝ }
 {
     let count = lines.len() / line::LINE_WORDS;
     if !input_in_range(n as u64, dollar, factor, first, count, lines) {

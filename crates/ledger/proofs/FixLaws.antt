@@ -1,42 +1,35 @@
--- Laws of the open call of fixing: its answer where a check is met and those before it are passed, and what it promises
--- where it refuses and where it accepts. Assumes nothing.
+-- Laws of the open call of fixing: what it promises where it refuses and where it accepts. Assumes nothing.
 use mathlib.Core.Path.{_≡_, refl, sym, _∙_, ap}
-use mathlib.Core.Bool.{true, false, cond, _&&_, true≢false}
+use mathlib.Core.Bool.{true, _&&_}
 use mathlib.Core.List.{List}
-use mathlib.Core.Option.{some}
 use Prim.Native.Nat.{_*_}
 use lib.Dec.{eqb}
 use lib.ListN.{length}
 use lib.IntN.{ℤ}
-use borrow.Author.Tests.{eqb-true}
-use Rattle.numbers.specs.Checks.{firstOf}
+use borrow.Author.Tests.{eqb-true, lt-ltb}
+use Rattle.numbers.specs.Refusal.{verdictAnswered}
+use Rattle.numbers.specs.Checks.{verdictOf}
 use Rattle.numbers.specs.Sizes.{sectorCount}
+use Rattle.numbers.specs.declared.refusal.Refusal.{Refusal}
+use Rattle.numbers.specs.declared.refusal.Refusal.the-variants.{Unsound, WrongLength, OutOfTurn}
+use Rattle.numbers.specs.declared.refusal.Verdict.the-variants.{Passed, Refused}
 use Rattle.numbers.proofs.BoolLaws.{and-right}
+use Rattle.numbers.proofs.CheckLaws.{FirstPass, AllTold, check-told, verdict-told, verdict-from}
 use Rattle.series.specs.Series.{wordCount}
-use Rattle.fixing.specs.Input.{inputVerdict}
-use Rattle.fixing.specs.Fixing.{fixingOf}
+use Rattle.fixing.specs.Input.{RightLengths, inputVerdict, inputDistributors}
+use Rattle.fixing.specs.Prices.{fixedPrices, returnedValues}
+use Rattle.fixing.specs.Fixing.{acceptedFixing, fixingOf}
 use Rattle.fixing.specs.declared.fix.Fixing.{Fixing}
-use Rattle.fixing.specs.declared.verdict.Verdict.{Verdict}
-use Rattle.fixing.specs.declared.verdict.Verdict.the-variants.{Passed, OutOfRange, ValueTooLarge, WrongSector, NoLine, MonthMissing, OutOfBounds}
+use Rattle.fixing.proofs.LimitLaws.{rounds-few}
+use Rattle.fixing.proofs.VerdictLaws.{verdict-is, input-told, passed-fixing, input-range}
 use Rattle.ledger.specs.Ledger.{fixedLedger}
 use Rattle.ledger.specs.Sound.{sound}
 use Rattle.ledger.specs.Turn.{fixingTurn}
-use Rattle.ledger.specs.Fix.{FixingCall, linesWhole, fixingLengths, fromVerdict, isPassed, fixingChecks, acceptedAnswer, fixingAnswer, isAccepted, answerNumber, answerValues, fixingLedger, priceList, fixingList, Fixed}
+use Rattle.ledger.specs.Fix.{FixingCall, linesWhole, fixingLengths, fixingChecks, fixingVerdict, acceptedAnswer, fixingAnswer, fixingAnswered, roundsBelow, fixingLedger, priceList, fixingList, FixingPromise}
 use Rattle.ledger.specs.declared.book.Ledger.{Ledger}
 use Rattle.ledger.specs.declared.fix.FixingAnswer.{FixingAnswer}
-use Rattle.ledger.specs.declared.fix.FixingAnswer.the-variants.{Unsound, WrongLength, OutOfTurn, Rejected}
+use Rattle.ledger.specs.declared.fix.FixingAnswer.the-variants as answer
 use Rattle.ledger.specs.declared.fix.FixingOutcome.{FixingOutcome}
-use Rattle.ledger.proofs.PassedLaws.{verdict-is}
-
--- a verdict that is not Passed is the answer
-rejected : (v : Verdict) → isPassed v ≡ false → fromVerdict v ≡ some (Rejected v)
-rejected Passed h = absurd (true≢false h)
-rejected OutOfRange h = refl
-rejected ValueTooLarge h = refl
-rejected WrongSector h = refl
-rejected NoLine h = refl
-rejected (MonthMissing line term) h = refl
-rejected (OutOfBounds line) h = refl
 
 module _ (book : Ledger) (call : FixingCall) where
   -- the price list's length by cause 3
@@ -49,63 +42,57 @@ module _ (book : Ledger) (call : FixingCall) where
       let prices = eqb (length (call .prices)) (book .n * 3) in
       eqb-true _ _ (and-right sectors prices (and-right lines (sectors && prices) (and-right series (lines && (sectors && prices)) h)))
 
+  -- every answer has the number and values of the checks
+  checks-told : AllTold (fixingChecks book call)
+  unfolding AllTold fixingChecks
+  checks-told = (
+    check-told 2 (sound book) Unsound refl,
+    (
+      check-told 3 (fixingLengths (book .n) call) WrongLength refl,
+      (check-told 4 (fixingTurn (book .months) (book .last) (call .input .month)) OutOfTurn refl, input-told (book .n) (call .input)),
+    ),
+  )
+
   -- what is promised of a refusal: ledger and list as they were
-  pub fixed-refused : (answer : FixingAnswer) → fixingAnswer book call ≡ answer → isAccepted answer ≡ false → (r : FixingOutcome) → r ≡ record { answer = answer; ledger = book } → Fixed book call (r .answer) (r .ledger) (call .prices)
-  unfolding fixingLedger fixingList
-  fixed-refused answer f n r e =
-      let told : r .answer ≡ fixingAnswer book call = ap (λ (o : FixingOutcome). o .answer) e ∙ sym f in
-      let no : false ≡ isAccepted (fixingAnswer book call) = sym (ap isAccepted f ∙ n) in
+  pub fixed-refused : (refusal : Refusal) → verdictOf (fixingChecks book call) ≡ Refused refusal → (r : FixingOutcome) → r ≡ record { answer = answer.Refused refusal; ledger = book } → FixingPromise book call (r .answer) (r .ledger) (call .prices)
+  unfolding fixingLedger fixingList fixingAnswer fixingVerdict
+  fixed-refused refusal v r e =
+      let given : r .answer ≡ answer.Refused refusal = ap (λ (o : FixingOutcome). o .answer) e in
+      let values = returnedValues (inputDistributors (book .n) (call .input)) in
       record {
-        answered = told;
-        numbered = ap answerNumber told;
-        valued = ap answerValues told;
-        booked =
-            ap (λ (o : FixingOutcome). o .ledger) e
-            ∙ ap (λ b′. cond b′ (fixedLedger book (call .input .month) (fixingOf (book .n) (call .input) .sectors)) book) no;
-        listed = ap (λ b′. cond b′ (priceList (book .n) (fixingOf (book .n) (call .input))) (call .prices)) no;
+        answered = given ∙ rw v;
+        numbered = ap fixingAnswered given ∙ ap (verdictAnswered values) (sym v) ∙ verdict-told (fixingChecks book call) values checks-told;
+        few = ap (roundsBelow (book .n)) given;
+        booked = ap (λ (o : FixingOutcome). o .ledger) e ∙ rw v;
+        listed = rw v;
       }
 
-  -- the answer by the first check that is met
-  pub answer-two : sound book ≡ false → fixingAnswer book call ≡ Unsound
-  unfolding fixingAnswer fixingChecks firstOf
-  answer-two a = rw a
+  module _ (first : FirstPass 3 (fixingChecks book call)) (fixing : Fixing) (e : fixing ≡ fixingOf (book .n) (call .input)) where
+    -- where the ledger's checks are passed, the input's verdict is the call's
+    pub verdict-left : verdictOf (fixingChecks book call) ≡ fixing .verdict
+    unfolding fixingChecks inputVerdict
+    verdict-left =
+        verdict-from 3 (fixingChecks book call) first
+        ∙ sym (ap (λ (f : Fixing). f .verdict) e ∙ verdict-is (book .n) (call .input))
 
-  module _ (a : sound book ≡ true) where
-    pub answer-three : fixingLengths (book .n) call ≡ false → fixingAnswer book call ≡ WrongLength
-    unfolding fixingAnswer fixingChecks firstOf
-    answer-three b = rw (a, b)
+    pub input-passes : fixing .verdict ≡ Passed → inputVerdict (book .n) (call .input) ≡ Passed
+    input-passes h = sym (verdict-is (book .n) (call .input)) ∙ ap (λ (f : Fixing). f .verdict) (sym e) ∙ h
 
-    module _ (b : fixingLengths (book .n) call ≡ true) where
-      pub answer-four : fixingTurn (book .months) (book .last) (call .input .month) ≡ false → fixingAnswer book call ≡ OutOfTurn
-      unfolding fixingAnswer fixingChecks firstOf
-      answer-four d = rw (a, b, d)
-
-      module _ (d : fixingTurn (book .months) (book .last) (call .input .month) ≡ true) (fixing : Fixing) (e : fixing ≡ fixingOf (book .n) (call .input)) where
-        pub verdict-told : inputVerdict (book .n) (call .input) ≡ fixing .verdict
-        verdict-told = sym (ap (λ (f : Fixing). f .verdict) e ∙ verdict-is (book .n) (call .input))
-
-        pub answer-rejected : isPassed (fixing .verdict) ≡ false → fixingAnswer book call ≡ Rejected (fixing .verdict)
-        unfolding fixingAnswer fixingChecks firstOf
-        answer-rejected h = rw (a, b, d, verdict-told, rejected (fixing .verdict) h)
-
-        answer-accepted : fixing .verdict ≡ Passed → fixingAnswer book call ≡ acceptedAnswer (fixing .prices)
-        unfolding fixingAnswer fixingChecks firstOf
-        answer-accepted h = rw (a, b, d, verdict-told, h) (ap (λ (f : Fixing). acceptedAnswer (f .prices)) (sym e))
-
-        -- what is promised of an accepted fixing
-        pub fixed-accepted : fixing .verdict ≡ Passed → (answer : FixingAnswer) (next : Ledger) (list : List ℤ) → answer ≡ acceptedAnswer (fixing .prices) → next ≡ fixedLedger book (call .input .month) (fixing .sectors) → list ≡ priceList (book .n) fixing → Fixed book call answer next list
-        unfolding fixingLedger fixingList acceptedAnswer
-        fixed-accepted h answer next list p q r =
-            let told : answer ≡ fixingAnswer book call = p ∙ sym (answer-accepted h) in
-            let yes : true ≡ isAccepted (fixingAnswer book call) = sym (ap isAccepted (answer-accepted h)) in
-            record {
-              answered = told;
-              numbered = ap answerNumber told;
-              valued = ap answerValues told;
-              booked =
-                  q ∙ ap (λ (f : Fixing). fixedLedger book (call .input .month) (f .sectors)) e
-                  ∙ ap (λ b′. cond b′ (fixedLedger book (call .input .month) (fixingOf (book .n) (call .input) .sectors)) book) yes;
-              listed =
-                  r ∙ ap (priceList (book .n)) e
-                  ∙ ap (λ b′. cond b′ (priceList (book .n) (fixingOf (book .n) (call .input))) (call .prices)) yes;
-            }
+    -- what is promised of an accepted fixing
+    pub fixed-accepted : RightLengths (book .n) (call .input) → fixing .verdict ≡ Passed → (given : FixingAnswer) (next : Ledger) (list : List ℤ) → given ≡ acceptedAnswer (fixing .prices) → next ≡ fixedLedger book (call .input .month) (fixing .sectors) → list ≡ priceList (book .n) fixing → FixingPromise book call given next list
+    unfolding fixingLedger fixingList fixingAnswer fixingVerdict acceptedAnswer acceptedFixing fixedPrices returnedValues inputDistributors
+    fixed-accepted right h given next list p q r =
+        let v = verdict-left ∙ h in
+        let passed = input-passes h in
+        let d = inputDistributors (book .n) (call .input) in
+        let prices : fixing .prices ≡ fixedPrices d = ap (λ (f : Fixing). f .prices) (e ∙ passed-fixing (book .n) (call .input) passed) in
+        record {
+          answered = p ∙ ap (λ (f : Fixing). acceptedAnswer (f .prices)) e ∙ rw v;
+          numbered =
+              ap fixingAnswered (p ∙ ap acceptedAnswer prices)
+              ∙ ap (verdictAnswered (returnedValues d)) (sym v)
+              ∙ verdict-told (fixingChecks book call) (returnedValues d) checks-told;
+          few = ap (roundsBelow (book .n)) (p ∙ ap acceptedAnswer prices) ∙ lt-ltb _ _ (rounds-few d (input-range (book .n) (call .input) passed right));
+          booked = q ∙ ap (λ (f : Fixing). fixedLedger book (call .input .month) (f .sectors)) e ∙ rw v;
+          listed = r ∙ ap (priceList (book .n)) e ∙ rw v;
+        }

@@ -12,6 +12,7 @@ use lib.IntN.{ℤ, pos, natAbs, _+ℤ_, _*ℤ_}
 use borrow.Author.Tests.{leb-true, eqb-true, not-false}
 use Rattle.numbers.specs.Bounded.{anyBelow}
 use Rattle.numbers.specs.Signed.{signedSumBelow}
+use Rattle.numbers.specs.Refusal.{isPassed}
 use Rattle.numbers.specs.Rounding.{halfUp}
 use Rattle.numbers.specs.Sizes.{mostDistributors, sectorCount, sectorPlaces}
 use Rattle.numbers.proofs.BoolLaws.{and-left, and-right}
@@ -21,13 +22,13 @@ use Rattle.numbers.proofs.SignedLaws.{size-mul, signed-sum-add}
 use Rattle.series.specs.Series.{lastMonth}
 use Rattle.fixing.specs.Limit.{Distributors, InRange, charge}
 use Rattle.fixing.specs.Charge.{sectorCharge}
-use Rattle.fixing.specs.Prices.{distributors}
 use Rattle.fixing.specs.Sector.{mostFactor, factorAt, sectorPresent, chargedPlaces, sectorCharges, noCharges}
-use Rattle.fixing.specs.Input.{inputAverages, inputEnergies}
+use Rattle.fixing.specs.Input.{inputDistributors}
 use Rattle.fixing.specs.Fixing.{acceptedFixing, fixingOf}
 use Rattle.fixing.specs.declared.fix.Fixing.{Fixing}
 use Rattle.fixing.proofs.LimitLaws.{charge-size, sector-size}
 use Rattle.fixing.proofs.SectorLaws.{allowed-factor}
+use Rattle.fixing.proofs.VerdictLaws.{passed-fixing, passed-sectors}
 use Rattle.settlement.specs.Amount.{collectedAmount}
 use Rattle.settlement.specs.Settlement.{positionOf, newBalance, oneSign}
 use Rattle.settlement.specs.Month.{moneyAt, moneyBelow, positionList, settledMonth}
@@ -36,12 +37,12 @@ use Rattle.settlement.proofs.MonthLaws.{money-at, positions-within, balances-wi
 use Rattle.ledger.specs.Ledger.{anySettled, noBalances, emptyLedger, fixedLedger, settledLedger}
 use Rattle.ledger.specs.Sound.{presentIn, chargeIn, sound}
 use Rattle.ledger.specs.Turn.{fixingTurn, settlementTurn}
-use Rattle.ledger.specs.Fix.{FixingCall, fixingAnswer, fixingLedger, isAccepted}
-use Rattle.ledger.specs.Settle.{SettlementCall, settlementAnswer, settlementLedger, isSettled, positionsOf}
+use Rattle.ledger.specs.Fix.{FixingCall, fixingVerdict, fixingLedger}
+use Rattle.ledger.specs.Settle.{SettlementCall, settlementVerdict, settlementLedger, positionsOf}
 use Rattle.ledger.specs.declared.book.Ledger.{Ledger}
 use Rattle.ledger.proofs.SoundFacts.{or-else, zero-size, some-settled, none-settled, PlaceFacts, BalanceFacts, sound-facts, sound-test}
 use Rattle.ledger.proofs.MoneyLaws.{signed-sum-same, sum-wide, money-past, money-sum, money-sign}
-use Rattle.ledger.proofs.CallLaws.{FixingPassed, fixing-passed, input-passed, passed-range, passed-fixing, SettlementPassed, settlement-passed}
+use Rattle.ledger.proofs.CallLaws.{FixingPassed, fixing-passed, passed-range, SettlementPassed, settlement-passed}
 
 -- the places of charged sectors: those of the first k hold presence and charge, the others nothing
 module _ (k : ℕ) (charge : ℕ → ℤ) (sectors : List ℕ) (j : ℕ) (p : j < sectorPlaces) where
@@ -140,11 +141,11 @@ module _ (months last month : ℕ) (h : fixingTurn months last month ≡ true) w
       (or-else (not (anySettled months)) (eqb month (last + 1)) (and-right (leb month lastMonth) dueNext h) (ap not (some-settled months p)))
 
 pub fixing-keeps : (book : Ledger) (call : FixingCall) → sound book ≡ true → sound (fixingLedger book call) ≡ true
-unfolding fixingLedger fixedLedger acceptedFixing
-fixing-keeps book call h = go (isAccepted (fixingAnswer book call)) refl
+unfolding fixingLedger fixedLedger acceptedFixing inputDistributors
+fixing-keeps book call h = go (isPassed (fixingVerdict book call)) refl
   where
     d : Distributors
-    d = distributors (book .n) (inputAverages (book .n) (call .input)) (inputEnergies (book .n) (call .input))
+    d = inputDistributors (book .n) (call .input)
 
     accepted : FixingPassed book call → sound (fixedLedger book (call .input .month) (fixingOf (book .n) (call .input) .sectors)) ≡ true
     accepted f =
@@ -159,7 +160,7 @@ fixing-keeps book call h = go (isAccepted (fixingAnswer book call)) refl
           few = g .few;
           place =
               charged-place (book .n) d (call .input .sectors) (g .few) (charge-size d r)
-              (allowed-factor (book .n) (call .input .sectors) (input-passed (book .n) (call .input) (f .passed) .sectored));
+              (allowed-factor (book .n) (call .input .sectors) (passed-sectors (book .n) (call .input) (f .passed)));
           unset =
               record {
                 unfixed = λ t. absurd (true≢false t);
@@ -178,12 +179,12 @@ fixing-keeps book call h = go (isAccepted (fixingAnswer book call)) refl
           signs = g .signs;
         }))
 
-    go : (b : Bool) → isAccepted (fixingAnswer book call) ≡ b → sound (cond b (fixedLedger book (call .input .month) (fixingOf (book .n) (call .input) .sectors)) book) ≡ true
+    go : (b : Bool) → isPassed (fixingVerdict book call) ≡ b → sound (cond b (fixedLedger book (call .input .month) (fixingOf (book .n) (call .input) .sectors)) book) ≡ true
     go true e = accepted (fixing-passed book call e)
     go false e = h
 
 -- an accepted settlement's balances add up to the old ones plus the collected amounts
-pub settlement-adds : (book : Ledger) (call : SettlementCall) → sound book ≡ true → isSettled (settlementAnswer book call) ≡ true → signedSumBelow mostDistributors (moneyAt (settlementLedger book call .balances)) ≡ signedSumBelow mostDistributors (moneyAt (book .balances)) +ℤ signedSumBelow (book .n) (collectedAmount (book .force .charges) (call .readings) (call .losses))
+pub settlement-adds : (book : Ledger) (call : SettlementCall) → sound book ≡ true → isPassed (settlementVerdict book call) ≡ true → signedSumBelow mostDistributors (moneyAt (settlementLedger book call .balances)) ≡ signedSumBelow mostDistributors (moneyAt (book .balances)) +ℤ signedSumBelow (book .n) (collectedAmount (book .force .charges) (call .readings) (call .losses))
 unfolding settlementLedger settledLedger settledMonth positionsOf positionList positionOf
 settlement-adds book call h e =
     let g = sound-facts book h in
@@ -220,7 +221,7 @@ module _ (months last : ℕ) (fixed : Bool) (fixingMonth month : ℕ) (h : settl
 
 pub settlement-keeps : (book : Ledger) (call : SettlementCall) → sound book ≡ true → sound (settlementLedger book call) ≡ true
 unfolding settlementLedger settledLedger settledMonth
-settlement-keeps book call h = go (isSettled (settlementAnswer book call)) refl
+settlement-keeps book call h = go (isPassed (settlementVerdict book call)) refl
   where
     accepted : SettlementPassed book call → sound (settledLedger book (call .month) (settledMonth (book .n) (positionsOf book call) .balances)) ≡ true
     accepted f =
@@ -258,6 +259,6 @@ settlement-keeps book call h = go (isSettled (settlementAnswer book call)) refl
           signs = money-sign (book .n) (g .few) balance (balances-sign (book .n) (moneyAt (positionsOf book call)));
         })
 
-    go : (b : Bool) → isSettled (settlementAnswer book call) ≡ b → sound (cond b (settledLedger book (call .month) (settledMonth (book .n) (positionsOf book call) .balances)) book) ≡ true
+    go : (b : Bool) → isPassed (settlementVerdict book call) ≡ b → sound (cond b (settledLedger book (call .month) (settledMonth (book .n) (positionsOf book call) .balances)) book) ≡ true
     go true e = accepted (settlement-passed book call e)
     go false e = h

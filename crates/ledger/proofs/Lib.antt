@@ -1,5 +1,6 @@
 pub mod SoundLaws
 pub mod PassedLaws
+pub mod OpenLaws
 pub mod FixLaws
 pub mod SettleLaws
 pub mod SoundFacts

@@ -1,7 +1,6 @@
 -- Laws of a fixing's input that passed every check: its averages and final prices are small at every place.
 -- Assumes nothing.
-use mathlib.Core.Path.{_≡_, refl, ap}
-use mathlib.Core.Bool.{true, false≢true}
+use mathlib.Core.Path.{_≡_, ap}
 use Prim.Native.Nat.{ℕ, _^_, _≤_, _<_}
 use native.Mathlib.Omega.{arith}
 use native.Mathlib.Decide.{decLt}
@@ -13,37 +12,13 @@ use Rattle.numbers.proofs.ListLaws.{filled-length, filled-past}
 use Rattle.fixing.specs.Average.{averageList}
 use Rattle.fixing.specs.Prices.{distributors, finalPrices, fixedPrices}
 use Rattle.fixing.specs.Input.{FixingInput, RightLengths, inputVerdict, inputAverages, inputEnergies}
-use Rattle.fixing.specs.Fixing.{refusedFixing, acceptedFixing, fixingBy, fixingOf}
+use Rattle.fixing.specs.Fixing.{acceptedFixing, fixingOf}
 use Rattle.fixing.specs.declared.fix.Fixing.{Fixing}
-use Rattle.fixing.specs.declared.verdict.Verdict.{Verdict}
-use Rattle.fixing.specs.declared.verdict.Verdict.the-variants.{Passed, OutOfRange, ValueTooLarge, WrongSector, NoLine, MonthMissing, OutOfBounds}
+use Rattle.numbers.specs.declared.refusal.Verdict.the-variants.{Passed}
 use Rattle.fixing.proofs.FixingLaws.{final-at}
 use Rattle.fixing.proofs.LimitLaws.{final-most}
-use Rattle.ledger.specs.Fix.{isPassed, PricesSmall}
-use Rattle.ledger.proofs.CallLaws.{input-range}
-
-pub is-passed : (v : Verdict) → isPassed v ≡ true → v ≡ Passed
-is-passed Passed h = refl
-is-passed OutOfRange h = absurd (false≢true h)
-is-passed ValueTooLarge h = absurd (false≢true h)
-is-passed WrongSector h = absurd (false≢true h)
-is-passed NoLine h = absurd (false≢true h)
-is-passed (MonthMissing line term) h = absurd (false≢true h)
-is-passed (OutOfBounds line) h = absurd (false≢true h)
-
--- the verdict that a fixing tells is its input's
-pub verdict-is : (n : ℕ) (input : FixingInput) → fixingOf n input .verdict ≡ inputVerdict n input
-unfolding fixingOf refusedFixing acceptedFixing
-verdict-is n input = go (inputVerdict n input)
-  where
-    go : (v : Verdict) → fixingBy v (acceptedFixing n (inputAverages n input) (inputEnergies n input) (input .sectors)) .verdict ≡ v
-    go Passed = refl
-    go OutOfRange = refl
-    go ValueTooLarge = refl
-    go WrongSector = refl
-    go NoLine = refl
-    go (MonthMissing line term) = refl
-    go (OutOfBounds line) = refl
+use Rattle.fixing.proofs.VerdictLaws.{passed-fixing, input-range}
+use Rattle.ledger.specs.Fix.{PricesSmall}
 
 -- prices that are at most so much where they are filled in are so at every place
 filled-most : (k : ℕ) (f : ℕ → PesoPrice) → ((i : ℕ) → i < k → getD (filledBelow 40 noPrice k f) i noPrice .0 ≤ mostPrice) → (i : ℕ) → getD (filledBelow 40 noPrice k f) i noPrice .0 < 2 ^ 62
@@ -62,7 +37,7 @@ module _ (n : ℕ) (input : FixingInput) (right : RightLengths n input) (passed 
   accepted-small : PricesSmall (inputAverages n input) (fixedPrices (distributors n (inputAverages n input) (inputEnergies n input)) .finals)
   unfolding inputAverages averageList fixedPrices finalPrices
   accepted-small =
-      let r = input-range n input right passed in
+      let r = input-range n input passed right in
       record {
         average = filled-most n _ (λ i p. r .most i p);
         final = filled-most n _ (λ i p.
@@ -75,5 +50,5 @@ module _ (n : ℕ) (input : FixingInput) (right : RightLengths n input) (passed 
 
   -- so the prices of a fixing that passed fit their words
   pub prices-small : (fixing : Fixing) → fixing ≡ fixingOf n input → PricesSmall (fixing .averages) (fixing .prices .finals)
-  unfolding fixingOf acceptedFixing
-  prices-small fixing e = rw (e, passed) accepted-small
+  unfolding acceptedFixing
+  prices-small fixing e = rw (e, passed-fixing n input passed) accepted-small

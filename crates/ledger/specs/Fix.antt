@@ -3,30 +3,32 @@
 use mathlib.Core.Path.{_≡_}
 use mathlib.Core.Bool.{Bool, true, false, cond, _&&_}
 use mathlib.Core.List.{List, [], _∷_}
-use mathlib.Core.Option.{Option, none, some}
 use Prim.Native.Nat.{ℕ, zero, suc, _*_, _/_, _%_, _^_, _<_}
-use lib.Dec.{eqb}
+use lib.Dec.{eqb, ltb}
 use lib.ListN.{length, getD}
 use lib.IntN.{ℤ, pos, natAbs}
 use Rattle.numbers.specs.Bounded.{listBelow}
-use Rattle.numbers.specs.Checks.{refusedUnless, firstOf}
+use Rattle.numbers.specs.Refusal.{Answered, accepted, refusalAnswered, isPassed}
+use Rattle.numbers.specs.Checks.{Check, check, verdictOf, answeredBy}
+use Rattle.numbers.specs.declared.refusal.Refusal.the-variants.{Unsound, WrongLength, OutOfTurn}
+use Rattle.numbers.specs.declared.refusal.Verdict.{Verdict}
+use Rattle.numbers.specs.declared.refusal.Verdict.the-variants.{Passed, Refused}
 use Rattle.numbers.specs.Units.{between, noPrice}
 use Rattle.numbers.specs.Sizes.{sectorCount}
 use Rattle.numbers.specs.declared.units.PesoPrice.{PesoPrice}
 use Rattle.series.specs.Series.{wordCount}
 use Rattle.supply.specs.Line.{lineWords, mostLines}
-use Rattle.fixing.specs.Input.{FixingInput, inputOf, inputVerdict, verdictNumber, verdictValues}
+use Rattle.fixing.specs.Input.{FixingInput, inputOf, inputChecks, inputDistributors}
+use Rattle.fixing.specs.Prices.{returnedValues}
 use Rattle.fixing.specs.Fixing.{fixingOf}
 use Rattle.fixing.specs.declared.fix.Fixing.{Fixing}
 use Rattle.fixing.specs.declared.prices.FixedPrices.{FixedPrices}
-use Rattle.fixing.specs.declared.verdict.Verdict.{Verdict}
-use Rattle.fixing.specs.declared.verdict.Verdict.the-variants.{Passed, OutOfRange, ValueTooLarge, WrongSector, NoLine, MonthMissing, OutOfBounds}
 use Rattle.ledger.specs.Ledger.{fixedLedger}
 use Rattle.ledger.specs.Sound.{sound}
 use Rattle.ledger.specs.Turn.{fixingTurn}
 use Rattle.ledger.specs.declared.book.Ledger.{Ledger}
 use Rattle.ledger.specs.declared.fix.FixingAnswer.{FixingAnswer}
-use Rattle.ledger.specs.declared.fix.FixingAnswer.the-variants.{Accepted, Unsound, WrongLength, OutOfTurn, Rejected}
+use Rattle.ledger.specs.declared.fix.FixingAnswer.the-variants as answer
 
 -- what a fixing is given beside the ledger: its input, and the lent list for the prices, as found
 pub record FixingCall : Type 0 where
@@ -48,68 +50,45 @@ fixingLengths n call =
     && (linesWhole (call .input .lines)
     && (eqb (length (call .input .sectors)) (n * sectorCount) && eqb (length (call .prices)) (n * 3)))
 
-abbrev pub fromVerdict : Verdict → Option FixingAnswer
-fromVerdict Passed = none
-fromVerdict OutOfRange = some (Rejected OutOfRange)
-fromVerdict ValueTooLarge = some (Rejected ValueTooLarge)
-fromVerdict WrongSector = some (Rejected WrongSector)
-fromVerdict NoLine = some (Rejected NoLine)
-fromVerdict (MonthMissing line term) = some (Rejected (MonthMissing line term))
-fromVerdict (OutOfBounds line) = some (Rejected (OutOfBounds line))
-
-abbrev pub isPassed : Verdict → Bool
-isPassed Passed = true
-isPassed OutOfRange = false
-isPassed ValueTooLarge = false
-isPassed WrongSector = false
-isPassed NoLine = false
-isPassed (MonthMissing line term) = false
-isPassed (OutOfBounds line) = false
-
--- the checks of a fixing in their order: 2, 3, 4, then 6 to 11
-unfoldable pub fixingChecks : Ledger → FixingCall → List (Option FixingAnswer)
+-- the checks of a fixing in their order: unsound ledger, a lent list of wrong length or line count, month above 1,199 or
+-- out of turn, then those of its input
+unfoldable pub fixingChecks : Ledger → FixingCall → List Check
 fixingChecks book call =
-    refusedUnless (sound book) Unsound
-    ∷ refusedUnless (fixingLengths (book .n) call) WrongLength
-    ∷ refusedUnless (fixingTurn (book .months) (book .last) (call .input .month)) OutOfTurn
-    ∷ fromVerdict (inputVerdict (book .n) (call .input))
-    ∷ []
+    check 2 (sound book) Unsound
+    ∷ check 3 (fixingLengths (book .n) call) WrongLength
+    ∷ check 4 (fixingTurn (book .months) (book .last) (call .input .month)) OutOfTurn
+    ∷ inputChecks (book .n) (call .input)
+
+unfoldable pub fixingVerdict : Ledger → FixingCall → Verdict
+fixingVerdict book call = verdictOf (fixingChecks book call)
 
 -- an accepted fixing "returns L, r (0 if none), rounds, residue"
 unfoldable pub acceptedAnswer : FixedPrices → FixingAnswer
-acceptedAnswer prices = Accepted (prices .limit) (prices .surcharge) (prices .rounds) (prices .residue)
+acceptedAnswer prices = answer.Accepted (prices .limit) (prices .surcharge) (prices .rounds) (prices .residue)
+
+abbrev pub answerBy : Verdict → FixingAnswer → FixingAnswer
+answerBy Passed accepted = accepted
+answerBy (Refused refusal) accepted = answer.Refused refusal
 
 unfoldable pub fixingAnswer : Ledger → FixingCall → FixingAnswer
-fixingAnswer book call =
-    firstOf (fixingChecks book call) (acceptedAnswer (fixingOf (book .n) (call .input) .prices))
-
-abbrev pub isAccepted : FixingAnswer → Bool
-isAccepted (Accepted limit surcharge rounds residue) = true
-isAccepted Unsound = false
-isAccepted WrongLength = false
-isAccepted OutOfTurn = false
-isAccepted (Rejected verdict) = false
+fixingAnswer book call = answerBy (fixingVerdict book call) (acceptedAnswer (fixingOf (book .n) (call .input) .prices))
 
 -- 01's number for each answer (0: accepted), and the values returned with it
-abbrev pub answerNumber : FixingAnswer → ℕ
-answerNumber (Accepted limit surcharge rounds residue) = 0
-answerNumber Unsound = 2
-answerNumber WrongLength = 3
-answerNumber OutOfTurn = 4
-answerNumber (Rejected verdict) = verdictNumber verdict
+abbrev pub fixingAnswered : FixingAnswer → Answered
+fixingAnswered (answer.Accepted limit surcharge rounds residue) =
+    accepted (limit .0 ∷ surcharge .0 ∷ rounds ∷ natAbs (residue .0) ∷ [])
+fixingAnswered (answer.Refused refusal) = refusalAnswered refusal
 
-abbrev pub answerValues : FixingAnswer → List ℕ
-answerValues (Accepted limit surcharge rounds residue) = limit .0 ∷ surcharge .0 ∷ rounds ∷ natAbs (residue .0) ∷ []
-answerValues Unsound = []
-answerValues WrongLength = []
-answerValues OutOfTurn = []
-answerValues (Rejected verdict) = verdictValues verdict
+-- "the count of rounds made" is below the number of distributors
+abbrev pub roundsBelow : ℕ → FixingAnswer → Bool
+roundsBelow n (answer.Accepted limit surcharge rounds residue) = ltb rounds n
+roundsBelow n (answer.Refused refusal) = true
 
 -- the ledger handed back: a refused one unchanged
 unfoldable pub fixingLedger : Ledger → FixingCall → Ledger
 fixingLedger book call =
     let booked = fixedLedger book (call .input .month) (fixingOf (book .n) (call .input) .sectors) in
-    cond (isAccepted (fixingAnswer book call)) booked book
+    cond (isPassed (fixingVerdict book call)) booked book
 
 -- "Fixing writes average, final, charge, distributor by distributor": word k of the list
 abbrev pub third : ℕ → ℤ → ℤ → ℤ → ℤ
@@ -129,13 +108,14 @@ priceList n fixing =
 
 unfoldable pub fixingList : Ledger → FixingCall → List ℤ
 fixingList book call =
-    cond (isAccepted (fixingAnswer book call)) (priceList (book .n) (fixingOf (book .n) (call .input))) (call .prices)
+    cond (isPassed (fixingVerdict book call)) (priceList (book .n) (fixingOf (book .n) (call .input))) (call .prices)
 
--- what the open call promises, for every ledger and every call: answer, its number and values, ledger and written list
-pub record Fixed (book : Ledger) (call : FixingCall) (answer : FixingAnswer) (next : Ledger) (list : List ℤ) : Type 0 where
-  pub answered : answer ≡ fixingAnswer book call
-  pub numbered : answerNumber answer ≡ answerNumber (fixingAnswer book call)
-  pub valued : answerValues answer ≡ answerValues (fixingAnswer book call)
+-- what the open call promises, for every ledger and every call: answer, its number and values, rounds below n, ledger and
+-- written list
+pub record FixingPromise (book : Ledger) (call : FixingCall) (given : FixingAnswer) (next : Ledger) (list : List ℤ) : Type 0 where
+  pub answered : given ≡ fixingAnswer book call
+  pub numbered : fixingAnswered given ≡ answeredBy (fixingChecks book call) (returnedValues (inputDistributors (book .n) (call .input)))
+  pub few : roundsBelow (book .n) given ≡ true
   pub booked : next ≡ fixingLedger book call
   pub listed : list ≡ fixingList book call
 

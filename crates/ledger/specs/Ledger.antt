@@ -1,20 +1,22 @@
 -- The ledger of document 01 ("Taken and handed back by value"): how it opens, and how an accepted fixing and a settled
 -- month change it. Assumes nothing.
+use mathlib.Core.Path.{_≡_}
 use mathlib.Core.Bool.{Bool, true, false, cond, not}
-use mathlib.Core.List.{List, []}
+use mathlib.Core.List.{List, [], _∷_}
 use Prim.Native.Nat.{ℕ, _+_}
 use lib.Dec.{eqb}
 use lib.IntN.{pos}
+use Rattle.numbers.specs.Refusal.{isPassed}
+use Rattle.numbers.specs.Checks.{Check, check, verdictOf, Judged}
 use Rattle.numbers.specs.Sizes.{mostDistributors}
 use Rattle.numbers.specs.Units.{between}
+use Rattle.numbers.specs.declared.refusal.Refusal.the-variants.{WrongCount}
+use Rattle.numbers.specs.declared.refusal.Verdict.{Verdict}
 use Rattle.numbers.specs.declared.units.Pesos.{Pesos}
 use Rattle.fixing.specs.Sector.{noCharges}
 use Rattle.fixing.specs.declared.sector.SectorCharges.{SectorCharges}
 use Rattle.settlement.specs.Month.{moneyBelow}
 use Rattle.ledger.specs.declared.book.Ledger.{Ledger}
-use Rattle.ledger.specs.declared.open.OpeningAnswer.{OpeningAnswer}
-use Rattle.ledger.specs.declared.open.OpeningAnswer.the-variants.{Opened, WrongCount}
-use Rattle.ledger.specs.declared.open.Opening.{Opening}
 
 -- no balances
 unfoldable pub noBalances : List Pesos
@@ -55,18 +57,18 @@ settledLedger book month balances =
       balances = balances;
     }
 
--- "opening, n not 1 to 40" is 1
-unfoldable pub openingOf : ℕ → Opening
-openingOf n =
-    cond (between 1 mostDistributors n)
-    (record { answer = Opened; ledger = emptyLedger n })
-    (record { answer = WrongCount; ledger = emptyLedger 0 })
+-- the check of an opening: "opening, n not 1 to 40"
+unfoldable pub openingChecks : ℕ → List Check
+openingChecks n = check 1 (between 1 mostDistributors n) WrongCount ∷ []
 
--- 01's number for each answer (0: accepted), and the values returned with it
-abbrev pub openingNumber : OpeningAnswer → ℕ
-openingNumber Opened = 0
-openingNumber WrongCount = 1
+unfoldable pub openingVerdict : ℕ → Verdict
+openingVerdict n = verdictOf (openingChecks n)
 
-abbrev pub openingValues : OpeningAnswer → List ℕ
-openingValues Opened = []
-openingValues WrongCount = []
+-- "Opening gives zero balances"; a refused one returns the "all-zero ledger"
+unfoldable pub openingLedger : ℕ → Ledger
+openingLedger n = cond (isPassed (openingVerdict n)) (emptyLedger n) (emptyLedger 0)
+
+-- what the open call promises, for every count: verdict with its number and values, and ledger
+pub record OpeningPromise (n : ℕ) (verdict : Verdict) (next : Ledger) : Type 0 where
+  pub judged : Judged verdict (openingChecks n)
+  pub opened : next ≡ openingLedger n

@@ -6,15 +6,17 @@ ghost use lib.ListN.{length};
 ghost use Rattle.numbers.specs.Bounded.{listBelow};
 ghost use Rattle.ledger.specs.Ledger.{fixedLedger};
 ghost use Rattle.ledger.specs.Turn.{fixingTurn};
-ghost use Rattle.ledger.specs.Fix.{callOf, linesWhole, fixingLengths, priceWord, PricesSmall, answerNumber, isPassed, acceptedAnswer, Fixed};
+ghost use Rattle.ledger.specs.declared.fix.FixingAnswer.the-variants.{Refused};
+ghost use Rattle.ledger.specs.Fix.{callOf, linesWhole, fixingLengths, priceWord, PricesSmall, fixingAnswered, acceptedAnswer, FixingPromise};
 use crate::book::LAST_MONTH;
 use crate::book::Ledger;
 use crate::sound::sound;
 use fixing::fix::fix_input;
 use fixing::prices::FixedPrices;
 use fixing::sector::SectorCharges;
-use fixing::verdict::Verdict;
-use fixing::verdict::{self};
+use numbers::refusal::Refusal;
+use numbers::refusal::Verdict;
+use numbers::refusal::{self};
 use numbers::signed::difference;
 use numbers::units::PesoPrice;
 use numbers::units::Pesos;
@@ -28,10 +30,7 @@ pub enum FixingAnswer {
         rounds: u64,
         residue: Pesos,
     },
-    Unsound,
-    WrongLength,
-    OutOfTurn,
-    Rejected(Verdict),
+    Refused(Refusal),
 }
 
 // The answer, and the ledger handed back.
@@ -73,21 +72,6 @@ fn in_turn(months: u64, last: u64, month: u64) -> bool
     ensures { λ r. ⌜ r ≡ fixingTurn months last month ⌝ }
 {
     month <= LAST_MONTH && (months == 0 || month == last + 1)
-}
-
-// Whether the input passed.
-fn is_passed(verdict: Verdict) -> bool
-    ensures { λ r. ⌜ r ≡ isPassed verdict ⌝ }
-{
-    match verdict {
-        Verdict::Passed => true,
-        Verdict::OutOfRange => false,
-        Verdict::ValueTooLarge => false,
-        Verdict::WrongSector => false,
-        Verdict::NoLine => false,
-        Verdict::MonthMissing { line: _, term: _ } => false,
-        Verdict::OutOfBounds { line: _ } => false,
-    }
 }
 
 // Word k of the price list: average, final price and charge of each distributor in turn.
@@ -143,10 +127,13 @@ fn accepted(fixed: FixedPrices) -> FixingAnswer
 }
 
 // A refusal hands the ledger back as it was.
-fn refused(answer: FixingAnswer, ledger: Ledger) -> FixingOutcome
-    ensures { λ r. ⌜ r ≡ record { answer = answer; ledger = ledger } ⌝ }
+fn refused(refusal: Refusal, ledger: Ledger) -> FixingOutcome
+    ensures { λ r. ⌜ r ≡ record { answer = Refused refusal; ledger = ledger } ⌝ }
 {
-    FixingOutcome { answer, ledger }
+    FixingOutcome {
+        answer: FixingAnswer::Refused(refusal),
+        ledger,
+    }
 }
 
 // A fixing of the ledger's distributors for a month, from the dollar, the reference factor, the index series with its
@@ -163,24 +150,24 @@ pub fn fix(
     sectors: &[u64],
     prices: &mut [i64],
 ) -> FixingOutcome
-    ensures { λ r. ⌜ Fixed ledger (callOf month dollar factor first (now (series .entry)) (now (lines .entry)) (now (sectors .entry)) (now (prices .entry))) (r .answer) (r .ledger) (now (prices .exit)) ⌝ }
+    ensures { λ r. ⌜ FixingPromise ledger (callOf month dollar factor first (now (series .entry)) (now (lines .entry)) (now (sectors .entry)) (now (prices .entry))) (r .answer) (r .ledger) (now (prices .exit)) ⌝ }
 {
     if !sound(ledger) {
-        return refused(FixingAnswer::Unsound, ledger);
+        return refused(Refusal::Unsound, ledger);
     }
     let n = ledger.n;
     if !lengths_right(n, series, lines, sectors, prices) {
-        return refused(FixingAnswer::WrongLength, ledger);
+        return refused(Refusal::WrongLength, ledger);
     }
     let months = ledger.months;
     let last = ledger.last;
     if !in_turn(months, last, month) {
-        return refused(FixingAnswer::OutOfTurn, ledger);
+        return refused(Refusal::OutOfTurn, ledger);
     }
     let fixing = fix_input(n, month, dollar, factor, first, series, lines, sectors);
     let verdict = fixing.verdict;
-    if !is_passed(verdict) {
-        return refused(FixingAnswer::Rejected(verdict), ledger);
+    if let Verdict::Refused(refusal) = verdict {
+        return refused(refusal, ledger);
     }
     let fixed = fixing.prices;
     let averages = fixing.averages;
@@ -195,7 +182,7 @@ pub fn fix(
 
 // 01's number of a fixing's answer: 0 where it is accepted.
 pub fn number(answer: FixingAnswer) -> u64
-    ensures { λ r. ⌜ r ≡ answerNumber answer ⌝ }
+    ensures { λ r. ⌜ r ≡ fixingAnswered answer .number ⌝ }
 {
     match answer {
         FixingAnswer::Accepted {
@@ -204,9 +191,6 @@ pub fn number(answer: FixingAnswer) -> u64
             rounds: _,
             residue: _,
         } => 0,
-        FixingAnswer::Unsound => 2,
-        FixingAnswer::WrongLength => 3,
-        FixingAnswer::OutOfTurn => 4,
-        FixingAnswer::Rejected(verdict) => verdict::number(verdict),
+        FixingAnswer::Refused(refusal) => refusal::number(refusal),
     }
 }

@@ -1,17 +1,15 @@
 // Opening a ledger of n distributors.
 ghost use mathlib.Core.Path.{_≡_};
-ghost use Rattle.ledger.specs.Ledger.{emptyLedger, openingOf, openingNumber};
+ghost use Rattle.ledger.specs.Ledger.{emptyLedger, OpeningPromise};
 use crate::book::Ledger;
 use fixing::sector::no_charges;
+use numbers::refusal::Refusal;
+use numbers::refusal::Verdict;
 use numbers::units::Pesos;
-
-pub enum OpeningAnswer {
-    Opened,
-    WrongCount,
-}
+use numbers::units::is_between;
 
 pub struct Opening {
-    pub answer: OpeningAnswer,
+    pub verdict: Verdict,
     pub ledger: Ledger,
 }
 
@@ -34,28 +32,18 @@ fn empty(n: usize) -> Ledger
 
 // A new ledger of 1 to 40 distributors; any other count is refused with the all-zero ledger.
 pub fn open(n: usize) -> Opening
-    ensures { λ r. ⌜ r ≡ openingOf n ⌝ }
+    ensures { λ r. ⌜ OpeningPromise n (r .verdict) (r .ledger) ⌝ }
 {
-    if 1 <= n && n <= 40 {
+    if is_between(1, 40, n as u64) {
         let ledger = empty(n);
         return Opening {
-            answer: OpeningAnswer::Opened,
+            verdict: Verdict::Passed,
             ledger,
         };
     }
     let ledger = empty(0);
     Opening {
-        answer: OpeningAnswer::WrongCount,
+        verdict: Verdict::Refused(Refusal::WrongCount),
         ledger,
-    }
-}
-
-// 01's number of an opening: 0 where the ledger was opened, 1 else.
-pub fn number(answer: OpeningAnswer) -> u64
-    ensures { λ r. ⌜ r ≡ openingNumber answer ⌝ }
-{
-    match answer {
-        OpeningAnswer::Opened => 0,
-        OpeningAnswer::WrongCount => 1,
     }
 }

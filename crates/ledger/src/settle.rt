@@ -4,32 +4,25 @@ ghost use mathlib.Core.Path.{_≡_};
 ghost use Prim.Native.Nat.{_≤_, _<_, _^_};
 ghost use lib.ListN.{length};
 ghost use Rattle.numbers.specs.Bounded.{listBelow};
+ghost use Rattle.numbers.specs.declared.refusal.Verdict.the-variants.{Refused};
 ghost use Rattle.settlement.specs.Month.{moneyAt};
 ghost use Rattle.ledger.specs.Ledger.{settledLedger};
 ghost use Rattle.ledger.specs.Turn.{settlementTurn};
-ghost use Rattle.ledger.specs.Settle.{callOf, settlementLengths, Due, answerNumber, Settlement};
+ghost use Rattle.ledger.specs.Settle.{callOf, settlementLengths, Due, SettlementPromise};
 use crate::book::LAST_MONTH;
 use crate::book::Ledger;
 use crate::sound::sound;
+use numbers::refusal::Refusal;
+use numbers::refusal::Verdict;
 use numbers::units::Pesos;
 use settlement::amount::billing_in_range;
 use settlement::month::positions;
 use settlement::month::positions_in_range;
 use settlement::month::settle_positions;
 
-pub enum SettlementAnswer {
-    Settled,
-    Unsound,
-    WrongLength,
-    OutOfTurn,
-    NoFixing,
-    WrongReading,
-    PositionBeyond,
-}
-
-// The answer, and the ledger handed back.
+// The verdict, and the ledger handed back.
 pub struct SettlementOutcome {
-    pub answer: SettlementAnswer,
+    pub verdict: Verdict,
     pub ledger: Ledger,
 }
 
@@ -84,10 +77,13 @@ fn write_transfers(transfers: &mut [i64], n: usize, amounts: [Pesos; 40])
 }
 
 // A refusal hands the ledger back as it was.
-fn refused(answer: SettlementAnswer, ledger: Ledger) -> SettlementOutcome
-    ensures { λ r. ⌜ r ≡ record { answer = answer; ledger = ledger } ⌝ }
+fn refused(refusal: Refusal, ledger: Ledger) -> SettlementOutcome
+    ensures { λ r. ⌜ r ≡ record { verdict = Refused refusal; ledger = ledger } ⌝ }
 {
-    SettlementOutcome { answer, ledger }
+    SettlementOutcome {
+        verdict: Verdict::Refused(refusal),
+        ledger,
+    }
 }
 
 // The settlement of a sound ledger with a fixing in force, in a month that is due: causes 12 and 13, then the month.
@@ -99,19 +95,19 @@ fn settle_month(
     transfers: &mut [i64],
 ) -> SettlementOutcome
     requires { ⌜ Due ledger (callOf month (now readings) (now losses) (now transfers)) ⌝ }
-    ensures { λ r. ⌜ Settlement ledger (callOf month (now (readings .entry)) (now (losses .entry)) (now (transfers .entry))) (r .answer) (r .ledger) (now (transfers .exit)) ⌝ }
+    ensures { λ r. ⌜ SettlementPromise ledger (callOf month (now (readings .entry)) (now (losses .entry)) (now (transfers .entry))) (r .verdict) (r .ledger) (now (transfers .exit)) ⌝ }
 {
     let n = ledger.n;
     let force = ledger.force;
     let present = force.present;
     let charges = force.charges;
     if !billing_in_range(n, &present, readings, losses) {
-        return refused(SettlementAnswer::WrongReading, ledger);
+        return refused(Refusal::WrongReading, ledger);
     }
     let old = ledger.balances;
     let positions = positions(n, old, &charges, readings, losses);
     if !positions_in_range(n, positions) {
-        return refused(SettlementAnswer::PositionBeyond, ledger);
+        return refused(Refusal::PositionBeyond, ledger);
     }
     let settled = settle_positions(n, positions);
     let amounts = settled.transfers;
@@ -119,7 +115,7 @@ fn settle_month(
     write_transfers(transfers, n, amounts);
     let ledger = ledger.book_month(month, balances);
     SettlementOutcome {
-        answer: SettlementAnswer::Settled,
+        verdict: Verdict::Passed,
         ledger,
     }
 }
@@ -133,39 +129,24 @@ pub fn settle(
     losses: &[u64],
     transfers: &mut [i64],
 ) -> SettlementOutcome
-    ensures { λ r. ⌜ Settlement ledger (callOf month (now (readings .entry)) (now (losses .entry)) (now (transfers .entry))) (r .answer) (r .ledger) (now (transfers .exit)) ⌝ }
+    ensures { λ r. ⌜ SettlementPromise ledger (callOf month (now (readings .entry)) (now (losses .entry)) (now (transfers .entry))) (r .verdict) (r .ledger) (now (transfers .exit)) ⌝ }
 {
     if !sound(ledger) {
-        return refused(SettlementAnswer::Unsound, ledger);
+        return refused(Refusal::Unsound, ledger);
     }
     let n = ledger.n;
     if !lengths_right(n, readings, losses, transfers) {
-        return refused(SettlementAnswer::WrongLength, ledger);
+        return refused(Refusal::WrongLength, ledger);
     }
     let months = ledger.months;
     let last = ledger.last;
     let fixed = ledger.fixed;
     let fixing_month = ledger.month;
     if !in_turn(months, last, fixed, fixing_month, month) {
-        return refused(SettlementAnswer::OutOfTurn, ledger);
+        return refused(Refusal::OutOfTurn, ledger);
     }
     if !fixed {
-        return refused(SettlementAnswer::NoFixing, ledger);
+        return refused(Refusal::NoFixing, ledger);
     }
     settle_month(ledger, month, readings, losses, transfers)
-}
-
-// 01's number of a settlement's answer: 0 where it is accepted.
-pub fn number(answer: SettlementAnswer) -> u64
-    ensures { λ r. ⌜ r ≡ answerNumber answer ⌝ }
-{
-    match answer {
-        SettlementAnswer::Settled => 0,
-        SettlementAnswer::Unsound => 2,
-        SettlementAnswer::WrongLength => 3,
-        SettlementAnswer::OutOfTurn => 4,
-        SettlementAnswer::NoFixing => 5,
-        SettlementAnswer::WrongReading => 12,
-        SettlementAnswer::PositionBeyond => 13,
-    }
 }

@@ -2,18 +2,19 @@
 use mathlib.Core.Path.{_≡_, refl, _∙_}
 use mathlib.Core.Bool.{true}
 use borrow.Author.Needs.{needs}
+use Rattle.numbers.specs.declared.refusal.Refusal.the-variants.{Unsound, WrongLength, OutOfTurn}
+use Rattle.numbers.specs.declared.refusal.Verdict.the-variants.{Passed}
 use Rattle.numbers.proofs.BoolLaws.{told-true, told-false}
+use Rattle.numbers.proofs.CheckLaws.{FirstPass, passes, refused-unless}
 use Rattle.fixing.specs.Input.{RightLengths}
-use Rattle.fixing.specs.declared.verdict.Verdict.the-variants.{Passed}
 use Rattle.ledger.specs.Sound.{sound}
 use Rattle.ledger.specs.Turn.{fixingTurn}
-use Rattle.ledger.specs.Fix.{FixingCall, callOf, fixingLengths, priceList}
+use Rattle.ledger.specs.Fix.{FixingCall, callOf, fixingLengths, fixingChecks, priceList}
 use Rattle.ledger.specs.declared.book.Ledger.{Ledger}
-use Rattle.ledger.specs.declared.fix.FixingAnswer.the-variants.{Unsound, WrongLength, OutOfTurn, Rejected}
 use Rattle.ledger.proofs.SoundLaws.{sound-some, sound-few, sound-last}
-use Rattle.ledger.proofs.PassedLaws.{is-passed, prices-small}
+use Rattle.ledger.proofs.PassedLaws.{prices-small}
 use Rattle.ledger.proofs.CallLaws.{right-lengths}
-use Rattle.ledger.proofs.FixLaws.{prices-length, answer-two, answer-three, answer-four, verdict-told, answer-rejected, fixed-accepted, fixed-refused}
+use Rattle.ledger.proofs.FixLaws.{prices-length, verdict-left, input-passes, fixed-accepted, fixed-refused}
 use Rattle.ledger.proofs.fix.fix.Statement.{statement}
 use Rattle.ledger.proofs.fix.fix.Tie as tie
 
@@ -55,49 +56,63 @@ module _ (c : tie.Else3) where
   right : RightLengths (book from .n) (call from .input)
   right = right-lengths (book from .n) (call from) (sound-some _ (whole from)) (sound-few _ (whole from)) (lengths three)
 
-module _ (c : tie.Else4) where
-  abbrev four : tie.Else3
-  four = c .before .before .before
-
-  passed : c .before .before .fix-input .result .verdict ≡ Passed
-  passed = is-passed _ (told-true (c .before .is-passed .ensures) (c .if4 .left))
+  first : FirstPass 3 (fixingChecks (book from) (call from))
+  unfolding FirstPass fixingChecks
+  first = (passes Unsound (whole from), (passes WrongLength (lengths three), (passes OutOfTurn turn, tt)))
 
 returns : tie.Need-returns
+unfolding fixingChecks FirstPass
 returns c =
     let t = c .before in
-    fixed-refused _ _ Unsound (answer-two _ _ (told-false (t .before .sound .ensures) (t .if1 .taken))) refl _ (c .refused .ensures)
+    let s = t .before .before .before .before .before in
+    let b = s .args .ledger in
+    fixed-refused _ _ Unsound (refused-unless 0 (fixingChecks _ _) 2 _ Unsound _ tt refl (told-false (t .before .sound .ensures) (t .if1 .taken))) _ (c .refused .ensures)
 
 returns-2 : tie.Need-returns-2
+unfolding fixingChecks FirstPass
 returns-2 c =
     let t = c .before in
-    fixed-refused _ _ WrongLength
-    (answer-three _ _ (whole (two (t .before))) (told-false (told (t .before)) (t .if2 .taken))) refl _ (c .refused2 .ensures)
+    let e = two (t .before) in
+    fixed-refused (book e) (call e) WrongLength
+    (refused-unless 1 (fixingChecks (book e) (call e)) 3 _ WrongLength _ (passes Unsound (whole e), tt) refl (told-false (told (t .before)) (t .if2 .taken))) _ (c .refused2 .ensures)
 
 returns-3 : tie.Need-returns-3
+unfolding fixingChecks FirstPass
 returns-3 c =
     let t = c .before in
     let e = t .before .before in
-    fixed-refused _ _ OutOfTurn
-    (answer-four _ _ (whole (two (e .before))) (lengths e) (told-false (t .before .in-turn .ensures) (t .if3 .taken))) refl _ (c .refused3 .ensures)
+    let s = two (e .before) in
+    fixed-refused (book s) (call s) OutOfTurn
+    (refused-unless 2 (fixingChecks (book s) (call s)) 4 _ OutOfTurn _ (passes Unsound (whole s), (passes WrongLength (lengths e), tt)) refl (told-false (t .before .in-turn .ensures) (t .if3 .taken)))
+    _ (c .refused3 .ensures)
 
 returns-4 : tie.Need-returns-4
 returns-4 c =
-    let t = c .before in
-    let g = t .before .before in
+    let v = c .before .before in
+    let g = v .before .before in
     let e = g .before in
-    fixed-refused _ _ (Rejected (g .fix-input .result .verdict))
-    (answer-rejected _ _ (whole (from e)) (lengths (three e)) (turn e) _ (g .fix-input .ensures) (told-false (t .before .is-passed .ensures) (t .if4 .taken)))
-    refl _ (c .refused4 .ensures)
+    fixed-refused (book (from e)) (call (from e)) _
+    (verdict-left (book (from e)) (call (from e)) (first e) _ (g .fix-input .ensures .worked) ∙ v .verdict .given .1) _ (c .refused4 .ensures)
+
+-- an input that passed
+module _ (c : tie.After-enum-told) where
+  abbrev worked : tie.After-fix-input
+  worked = c .before .before
+
+  passed : worked .fix-input .result .verdict ≡ Passed
+  passed = c .enum-told .given .1
 
 write-prices-requires : tie.Need-write-prices-requires
 write-prices-requires c κs =
-    let p = c .before .before .before .before .before .before in
-    let e = four p in
-    let g = p .before .before in (
+    let t = c .before .before .before .before .before .before in
+    let g = worked t in
+    let e = g .before in
+    let b = book (from e) in
+    let l = call (from e) in (
       sound-few _ (whole (from e)),
       (
-        prices-length (book (from e)) (call (from e)) (lengths (three e)),
-        prices-small _ _ (right e) (verdict-told _ _ (whole (from e)) (lengths (three e)) (turn e) _ (g .fix-input .ensures) ∙ passed p) _ (g .fix-input .ensures),
+        prices-length b l (lengths (three e)),
+        prices-small _ _ (right e) (input-passes b l (first e) _ (g .fix-input .ensures .worked) (passed t)) _ (g .fix-input .ensures .worked),
       ),
     )
 
@@ -105,9 +120,10 @@ returns-5 : tie.Need-returns-5
 unfolding priceList
 returns-5 c =
     let w = c .before .before .before in
-    let p = w .before .before .before .before .before .before .before in
-    let e = four p in
-    fixed-accepted _ _ (whole (from e)) (lengths (three e)) (turn e) _ (p .before .before .fix-input .ensures) (passed p)
+    let t = w .before .before .before .before .before .before .before in
+    let g = worked t in
+    let e = g .before in
+    fixed-accepted (book (from e)) (call (from e)) (first e) _ (g .fix-input .ensures .worked) (right e) (passed t)
     _ _ _ (c .before .accepted .ensures) (c .book-fixing .ensures) (w .write-prices .ensures)
 
 pub fix-spec : {M : Type 1} → statement M
@@ -123,8 +139,9 @@ fix-spec =
     (λ c κs. search needs) (λ c. search needs)
     returns-3
     (λ c κs. right c)
-    (λ c κs. search needs) (λ c κs. search needs) (λ c. search needs)
+    (λ c. search needs) (λ c κs. search needs) (λ c. search needs)
     returns-4
+    (λ c. search needs)
     write-prices-requires
     (λ c κs. search needs) (λ c κs. search needs) (λ c. search needs)
     returns-5)

@@ -3,14 +3,15 @@ use mathlib.Core.Path.{_≡_, refl}
 use mathlib.Core.Bool.{true}
 use borrow.Author.Tests.{not-true, not-false}
 use borrow.Author.Needs.{needs}
+use Rattle.numbers.specs.declared.refusal.Refusal.the-variants.{Unsound, WrongLength, OutOfTurn, NoFixing}
 use Rattle.numbers.proofs.BoolLaws.{told-true, told-false}
+use Rattle.numbers.proofs.CheckLaws.{FirstPass, passes, refused-unless}
 use Rattle.ledger.specs.Sound.{sound}
 use Rattle.ledger.specs.Turn.{settlementTurn}
-use Rattle.ledger.specs.Settle.{SettlementCall, callOf, settlementLengths}
+use Rattle.ledger.specs.Settle.{SettlementCall, callOf, settlementLengths, settlementChecks}
 use Rattle.ledger.specs.declared.book.Ledger.{Ledger}
-use Rattle.ledger.specs.declared.settle.SettlementAnswer.the-variants.{Unsound, WrongLength, OutOfTurn, NoFixing}
 use Rattle.ledger.proofs.SoundLaws.{sound-few, sound-last}
-use Rattle.ledger.proofs.SettleLaws.{answer-two, answer-three, answer-four, answer-five, month-refused}
+use Rattle.ledger.proofs.SettleLaws.{month-refused}
 use Rattle.ledger.proofs.settle.settle.Statement.{statement}
 use Rattle.ledger.proofs.settle.settle.Tie as tie
 
@@ -50,29 +51,39 @@ module _ (c : tie.Else3) where
   turn = told-true (c .before .in-turn .ensures) (c .if3 .left)
 
 returns : tie.Need-returns
+unfolding settlementChecks FirstPass
 returns c =
     let t = c .before in
-    month-refused _ _ Unsound (answer-two _ _ (told-false (t .before .sound .ensures) (t .if1 .taken))) refl _ (c .refused .ensures)
+    month-refused _ _ Unsound (refused-unless 0 (settlementChecks _ _) 2 _ Unsound _ tt refl (told-false (t .before .sound .ensures) (t .if1 .taken))) _ (c .refused .ensures)
 
 returns-2 : tie.Need-returns-2
+unfolding settlementChecks FirstPass
 returns-2 c =
     let t = c .before in
-    month-refused _ _ WrongLength
-    (answer-three _ _ (whole (two (t .before))) (told-false (told (t .before)) (t .if2 .taken))) refl _ (c .refused2 .ensures)
+    let s = two (t .before) in
+    month-refused (book s) (call s) WrongLength
+    (refused-unless 1 (settlementChecks (book s) (call s)) 3 _ WrongLength _ (passes Unsound (whole s), tt) refl (told-false (told (t .before)) (t .if2 .taken)))
+    _ (c .refused2 .ensures)
 
 returns-3 : tie.Need-returns-3
+unfolding settlementChecks FirstPass
 returns-3 c =
     let t = c .before in
     let e = t .before .before in
-    month-refused _ _ OutOfTurn
-    (answer-four _ _ (whole (two (e .before))) (lengths e) (told-false (t .before .in-turn .ensures) (t .if3 .taken))) refl _ (c .refused3 .ensures)
+    let s = two (e .before) in
+    month-refused (book s) (call s) OutOfTurn
+    (refused-unless 2 (settlementChecks (book s) (call s)) 4 _ OutOfTurn _ (passes Unsound (whole s), (passes WrongLength (lengths e), tt)) refl
+    (told-false (t .before .in-turn .ensures) (t .if3 .taken))) _ (c .refused3 .ensures)
 
 returns-4 : tie.Need-returns-4
+unfolding settlementChecks FirstPass
 returns-4 c =
     let t = c .before in
     let e = t .before in
-    month-refused _ _ NoFixing
-    (answer-five _ _ (whole (from e)) (lengths (three e)) (turn e) (not-true _ (t .if4 .taken))) refl _ (c .refused4 .ensures)
+    let s = from e in
+    month-refused (book s) (call s) NoFixing
+    (refused-unless 3 (settlementChecks (book s) (call s)) 5 (book s .fixed) NoFixing _ (passes Unsound (whole s), (passes WrongLength (lengths (three e)), (passes OutOfTurn (turn e), tt))) refl
+    (not-true _ (t .if4 .taken))) _ (c .refused4 .ensures)
 
 settle-month-requires : tie.Need-settle-month-requires
 settle-month-requires c κs =

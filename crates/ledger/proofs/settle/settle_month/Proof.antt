@@ -1,17 +1,18 @@
 -- Causes 12 and 13 in their order; a month that passes both is settled, written and booked.
-use mathlib.Core.Path.{_≡_, refl, sym, _∙_}
+use mathlib.Core.Path.{_≡_, refl}
 use mathlib.Core.Bool.{true}
 use native.Mathlib.Omega.{arith}
-use borrow.Author.Tests.{not-true, not-false}
+use Rattle.numbers.specs.declared.refusal.Refusal.the-variants.{WrongReading, PositionBeyond}
+use Rattle.numbers.proofs.BoolLaws.{told-true, told-false}
+use Rattle.numbers.proofs.CheckLaws.{refused-unless}
 use Rattle.settlement.specs.Amount.{billingInRange}
 use Rattle.settlement.specs.Settlement.{positionsInRange}
 use Rattle.settlement.specs.Month.{moneyAt}
 use Rattle.settlement.proofs.MonthLaws.{positions-within}
-use Rattle.ledger.specs.Settle.{SettlementCall, callOf, positionsOf}
+use Rattle.ledger.specs.Settle.{SettlementCall, callOf, positionsOf, settlementChecks}
 use Rattle.ledger.specs.declared.book.Ledger.{Ledger}
-use Rattle.ledger.specs.declared.settle.SettlementAnswer.the-variants.{WrongReading, PositionBeyond}
 use Rattle.ledger.proofs.SoundLaws.{sound-few, sound-months, sound-balances}
-use Rattle.ledger.proofs.SettleLaws.{lists-due, transfers-length, billed-due, answer-twelve, answer-thirteen, month-settled, month-refused}
+use Rattle.ledger.proofs.SettleLaws.{lists-due, transfers-length, first-due, billed-due, position-beyond, month-settled, month-refused}
 use borrow.Author.Needs.{needs}
 use Rattle.ledger.proofs.settle.settle_month.Statement.{statement}
 use Rattle.ledger.proofs.settle.settle_month.Tie as tie
@@ -33,7 +34,7 @@ module _ (c : tie.Else1) where
   begun = start (c .before .before)
 
   billed : billingInRange (book begun .n) (book begun .force .present) (begun .args .readings .now) (begun .args .losses .now) ≡ true
-  billed = sym (c .before .billing-in-range .ensures) ∙ not-false _ (c .if1 .left)
+  billed = told-true (c .before .billing-in-range .ensures) (c .if1 .left)
 
 module _ (c : tie.After-positions) where
   abbrev twelve : tie.Else1
@@ -48,17 +49,19 @@ module _ (c : tie.Else2) where
   placed = c .before .before
 
   within : positionsInRange (book (begun (twelve placed)) .n) (moneyAt (placed .positions .result)) ≡ true
-  within = sym (c .before .positions-in-range .ensures) ∙ not-false _ (c .if2 .left)
+  within = told-true (c .before .positions-in-range .ensures) (c .if2 .left)
 
 billing-in-range-requires : tie.Need-billing-in-range-requires
 billing-in-range-requires c κs = lists-due _ (call (start c)) (start c .pre)
 
 returns : tie.Need-returns
+unfolding settlementChecks
 returns c =
     let t = c .before in
     let s = start (t .before .before) in
     month-refused (book s) (call s) WrongReading
-    (answer-twelve _ _ (s .pre) (sym (t .before .billing-in-range .ensures) ∙ not-true _ (t .if1 .taken))) refl _ (c .refused .ensures)
+    (refused-unless 4 (settlementChecks (book s) (call s)) 12 _ WrongReading _ (first-due (book s) (call s) (s .pre)) refl (told-false (t .before .billing-in-range .ensures) (t .if1 .taken)))
+    _ (c .refused .ensures)
 
 positions-requires : tie.Need-positions-requires
 positions-requires c κs =
@@ -75,8 +78,8 @@ returns-2 c =
     let p = t .before .before in
     let s = begun (twelve p) in
     month-refused (book s) (call s) PositionBeyond
-    (answer-thirteen _ _ (s .pre) (billed (twelve p)) _ (worked p) (sym (t .before .positions-in-range .ensures) ∙ not-true _ (t .if2 .taken)))
-    refl _ (c .refused2 .ensures)
+    (position-beyond (book s) (call s) (s .pre) (billed (twelve p)) _ (worked p) (told-false (t .before .positions-in-range .ensures) (t .if2 .taken)))
+    _ (c .refused2 .ensures)
 
 settle-positions-requires : tie.Need-settle-positions-requires
 settle-positions-requires c κs = positions-within _ _ (sound-few _ (begun (twelve (placed c)) .pre .whole)) (within c)
