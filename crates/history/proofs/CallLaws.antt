@@ -1,19 +1,26 @@
 -- One call put to the ledger that follows from a plain ledger: the checks go the same way on both. Assumes nothing.
 use mathlib.Core.Path.{_≡_, refl, _∙_, ap}
 use mathlib.Core.Bool.{Bool, true, false, cond}
-use mathlib.Core.List.{[], _∷_}
+use mathlib.Core.List.{List, [], _∷_}
+use mathlib.Core.Option.{Option, none, some}
 use Prim.Native.Nat.{ℕ, _≤_, _<_}
 use native.Mathlib.Omega.{arith}
 use lib.Dec.{eqb}
 use lib.IntN.{ℤ, _+ℤ_}
-use Rattle.numbers.specs.Checks.{refusedUnless, firstOf}
-use Rattle.fixing.specs.Limit.{Distributors, limit, surcharge, rounds, residue}
-use Rattle.fixing.specs.Prices.{fixedPrices}
-use Rattle.fixing.specs.Input.{inputVerdict, verdictNumber, verdictValues}
+use Rattle.numbers.specs.Refusal.{Answered, verdictAnswered, isPassed}
+use Rattle.numbers.specs.Checks.{Met, Check, metUnless, verdictOf, answeredOr, answeredBy}
+use Rattle.numbers.specs.declared.refusal.Refusal.{Refusal}
+use Rattle.numbers.specs.declared.refusal.Refusal.the-variants.{Unsound, WrongLength, OutOfTurn, NoFixing, OutOfRange, ValueTooLarge, WrongSector, NoLine, WrongReading, PositionBeyond}
+use Rattle.numbers.proofs.CheckLaws.{AllTold, verdict-told, passed-number}
+use Rattle.series.specs.Series.{valuesInRange}
+use Rattle.supply.specs.Months.{Place, missingAt, monthCheck}
+use Rattle.supply.specs.Price.{outOfBoundsAt, boundsCheck}
+use Rattle.fixing.specs.Prices.{returnedValues}
+use Rattle.fixing.specs.Sector.{sectorsAllowed}
+use Rattle.fixing.specs.Input.{ranged, supplied, missingPlace, beyondLine, tableChecks, inputChecks, inputDistributors}
 use Rattle.fixing.specs.Fixing.{acceptedFixing, fixingOf}
 use Rattle.fixing.specs.declared.fix.Fixing.{Fixing}
-use Rattle.fixing.specs.declared.verdict.Verdict.{Verdict}
-use Rattle.fixing.specs.declared.verdict.Verdict.the-variants.{Passed, OutOfRange, ValueTooLarge, WrongSector, NoLine, MonthMissing, OutOfBounds}
+use Rattle.fixing.proofs.VerdictLaws.{passed-fixing}
 use Rattle.settlement.specs.Amount.{billingInRange}
 use Rattle.settlement.specs.Settlement.{positionOf, positionsInRange, newBalance}
 use Rattle.settlement.specs.Month.{moneyAt, moneyBelow, positionList, settledMonth}
@@ -21,76 +28,99 @@ use Rattle.settlement.proofs.MonthLaws.{money-at, money-same}
 use Rattle.ledger.specs.Ledger.{fixedLedger, settledLedger}
 use Rattle.ledger.specs.Sound.{sound}
 use Rattle.ledger.specs.Turn.{fixingTurn, settlementTurn}
-use Rattle.ledger.specs.Fix.{FixingCall, fixingLengths, fixingChecks, fixingAnswer, fixingLedger, fromVerdict, acceptedAnswer, isAccepted}
-use Rattle.ledger.specs.Fix.{answerNumber as fixingNumber, answerValues as fixingValues}
-use Rattle.ledger.specs.Settle.{SettlementCall, settlementLengths, settlementChecks, settlementAnswer, settlementLedger, isSettled, positionsOf}
-use Rattle.ledger.specs.Settle.{answerNumber as settlementNumber, answerValues as settlementValues}
-use Rattle.ledger.specs.declared.fix.FixingAnswer.{FixingAnswer}
-use Rattle.ledger.specs.declared.fix.FixingAnswer.the-variants.{Unsound, WrongLength, OutOfTurn}
-use Rattle.ledger.specs.declared.settle.SettlementAnswer.{SettlementAnswer}
-use Rattle.ledger.specs.declared.settle.SettlementAnswer.the-variants.{Settled, NoFixing, WrongReading, PositionBeyond}
-use Rattle.ledger.specs.declared.settle.SettlementAnswer.the-variants.{Unsound as NotSound, WrongLength as NotWhole, OutOfTurn as NotDue}
+use Rattle.ledger.specs.Fix.{FixingCall, fixingLengths, fixingChecks, fixingVerdict, fixingAnswer, fixingAnswered, fixingLedger}
+use Rattle.ledger.specs.Settle.{SettlementCall, settlementLengths, settlementChecks, settlementVerdict, settlementLedger, positionsOf}
 use Rattle.ledger.proofs.SoundFacts.{sound-facts}
 use Rattle.ledger.proofs.MoneyLaws.{range-same, balance-same}
-use Rattle.ledger.proofs.CallLaws.{fixing-passed, passed-fixing}
-use Rattle.history.specs.Run.{fixing, settlement, Answered}
-use Rattle.history.specs.Plain.{Plain, inputDistributors, isHeld, heldMonth, heldForce, image, refusedAt, plainFixing, plainAmount, plainPosition, plainSettlement, plainAnswer, plainAccepts, plainChange, plainStep, refusal}
+use Rattle.ledger.proofs.CallLaws.{fixing-passed}
+use Rattle.ledger.proofs.FixLaws.{fixing-told, answer-told}
+use Rattle.ledger.proofs.SettleLaws.{settlement-told}
+use Rattle.history.specs.Run.{fixing, settlement}
+use Rattle.history.specs.Plain.{Plain, isHeld, heldMonth, heldForce, image, cause, causeAtTerm, causeAtLine, firstCause, fixingCauses, plainFixing, plainAmount, plainPosition, settlementCauses, plainSettlement, plainAnswer, plainAccepts, plainChange, plainStep}
 
--- an answer by its number and values
-abbrev pub fixingAnswered : FixingAnswer → Answered
-fixingAnswered x = record { number = fixingNumber x; values = fixingValues x }
-
-abbrev pub settlementAnswered : SettlementAnswer → Answered
-settlementAnswered x = record { number = settlementNumber x; values = settlementValues x }
-
--- the same answer, accepted by the ledger exactly where its number is 0
-pub record Same (answered : Answered) (accepted : Bool) (plain : Answered) : Type 0 where
+-- the same number and values, accepted by the ledger exactly where the number is 0
+pub record Same (answered : Answered) (passed : Bool) (plain : Answered) : Type 0 where
   pub answer : answered ≡ plain
-  pub accepts : accepted ≡ eqb (plain .number) 0
+  pub accepts : passed ≡ eqb (plain .number) 0
 
-alike : (x : Answered) → Same x (eqb (x .number) 0) x
-alike x = record { answer = refl; accepts = refl }
+-- the ledger's checks beside the plain ledger's causes: each is met at once, with one number and the same values
+abbrev told : ℕ → Option Met → Option Answered
+told number none = none
+told number (some met) = some (record { number = number; values = met .values })
 
-pub fixing-same : (plain : Plain) (call : FixingCall) → Same (fixingAnswered (fixingAnswer (image plain) call)) (isAccepted (fixingAnswer (image plain) call)) (plainFixing plain call)
-unfolding image fixingAnswer fixingChecks firstOf acceptedAnswer plainFixing inputDistributors acceptedFixing fixedPrices
-fixing-same plain call =
-    go (sound (image plain)) (fixingLengths (plain .count) call) (fixingTurn (plain .months) (plain .last) (call .input .month))
-    (inputVerdict (plain .count) (call .input)) refl
+unfoldable Alike : List Check → List (Option Answered) → Type 0
+Alike [] [] = Unit {0}
+Alike [] (o ∷ causes) = ⊥
+Alike (c ∷ checks) [] = ⊥
+Alike (c ∷ checks) (o ∷ causes) = (told (c .number) (c .met) ≡ o) × Alike checks causes
+
+first-same : (checks : List Check) (causes : List (Option Answered)) (values : List ℕ) → Alike checks causes → answeredBy checks values ≡ firstCause causes values
+unfolding Alike answeredBy firstCause
+first-same [] [] values h = refl
+first-same [] (o ∷ causes) values h = absurd h
+first-same (c ∷ checks) [] values h = absurd h
+first-same (c ∷ checks) (o ∷ causes) values h = rw (← h .0) (go (c .met) (first-same checks causes values (h .1)))
   where
-    d : Distributors
-    d = inputDistributors (plain .count) (call .input)
+    go : (m : Option Met) → answeredBy checks values ≡ firstCause causes values → answeredOr (c .number) m (answeredBy checks values) ≡ firstCause (told (c .number) m ∷ causes) values
+    go none later = later
+    go (some met) later = refl
 
-    worked : Answered
-    worked = record { number = 0; values = limit d ∷ surcharge d ∷ rounds d ∷ residue d ∷ [] }
+call-same : (checks : List Check) (causes : List (Option Answered)) (values : List ℕ) → AllTold checks → Alike checks causes → Same (verdictAnswered values (verdictOf checks)) (isPassed (verdictOf checks)) (firstCause causes values)
+call-same checks causes values t a =
+    let same = verdict-told checks values t ∙ first-same checks causes values a in
+    record { answer = same; accepts = passed-number values (verdictOf checks) ∙ ap (λ (x : Answered). eqb (x .number) 0) same }
 
-    answer : (a b c : Bool) (v : Verdict) → FixingAnswer
-    answer a b c v =
-        firstOf (refusedUnless a Unsound ∷ refusedUnless b WrongLength ∷ refusedUnless c OutOfTurn ∷ fromVerdict v ∷ [])
-        (acceptedAnswer (fixingOf (plain .count) (call .input) .prices))
+-- one check and one cause
+test-same : (number : ℕ) (refusal : Refusal) (passed : Bool) → told number (metUnless passed refusal) ≡ cause number passed
+test-same number refusal true = refl
+test-same number refusal false = refl
 
-    go : (a b c : Bool) (v : Verdict) → inputVerdict (plain .count) (call .input) ≡ v → Same (fixingAnswered (answer a b c v)) (isAccepted (answer a b c v)) (firstOf (refusedUnless a (refusal 2) ∷ refusedUnless b (refusal 3) ∷ refusedUnless c (refusal 4) ∷ refusedAt (verdictNumber v) (verdictValues v) ∷ []) worked)
-    go false b c v e = alike _
-    go true false c v e = alike _
-    go true true false v e = alike _
-    go true true true Passed e =
-        record {
-          answer = ap (λ (x : Fixing). fixingAnswered (acceptedAnswer (x .prices))) (passed-fixing (plain .count) (call .input) e);
-          accepts = refl;
-        }
-    go true true true OutOfRange e = alike _
-    go true true true ValueTooLarge e = alike _
-    go true true true WrongSector e = alike _
-    go true true true NoLine e = alike _
-    go true true true (MonthMissing line term) e = alike _
-    go true true true (OutOfBounds line) e = alike _
+term-same : (place : Option Place) → told 10 (missingAt place) ≡ causeAtTerm 10 place
+term-same none = refl
+term-same (some place) = refl
+
+line-same : (line : Option ℕ) → told 11 (outOfBoundsAt line) ≡ causeAtLine 11 line
+line-same none = refl
+line-same (some line) = refl
+
+fixing-alike : (plain : Plain) (call : FixingCall) → Alike (fixingChecks (image plain) call) (fixingCauses plain call)
+unfolding image fixingChecks inputChecks tableChecks monthCheck boundsCheck fixingCauses Alike
+fixing-alike plain call =
+    let n = plain .count in
+    let input = call .input in (
+      test-same 2 Unsound (sound (image plain)),
+      (
+        test-same 3 WrongLength (fixingLengths n call),
+        (
+          test-same 4 OutOfTurn (fixingTurn (plain .months) (plain .last) (input .month)),
+          (
+            test-same 6 OutOfRange (ranged n input),
+            (
+              test-same 7 ValueTooLarge (valuesInRange (input .series)),
+              (
+                test-same 8 WrongSector (sectorsAllowed n (input .sectors)),
+                (test-same 9 NoLine (supplied n input), (term-same (missingPlace input), (line-same (beyondLine input), tt))),
+              ),
+            ),
+          ),
+        ),
+      ),
+    )
+
+pub fixing-same : (plain : Plain) (call : FixingCall) → Same (fixingAnswered (fixingAnswer (image plain) call)) (isPassed (fixingVerdict (image plain) call)) (plainFixing plain call)
+unfolding image plainFixing returnedValues fixingVerdict
+fixing-same plain call =
+    let values = returnedValues (inputDistributors (plain .count) (call .input)) in
+    let same = call-same (fixingChecks (image plain) call) (fixingCauses plain call) values (fixing-told (image plain) call) (fixing-alike plain call) in
+    record { answer = answer-told (image plain) call ∙ same .answer; accepts = same .accepts }
 
 pub fixing-step : (plain : Plain) (call : FixingCall) → fixingLedger (image plain) call ≡ image (plainStep plain (fixing call))
 unfolding image fixingLedger fixedLedger plainStep plainAccepts plainAnswer plainChange inputDistributors acceptedFixing
 fixing-step plain call =
-    go (isAccepted (fixingAnswer (image plain) call)) refl
+    go (isPassed (fixingVerdict (image plain) call)) refl
     ∙ ap (λ b. image (cond b (plainChange plain (fixing call)) plain)) (fixing-same plain call .accepts)
   where
-    go : (b : Bool) → isAccepted (fixingAnswer (image plain) call) ≡ b → cond b (fixedLedger (image plain) (call .input .month) (fixingOf (plain .count) (call .input) .sectors)) (image plain) ≡ image (cond b (plainChange plain (fixing call)) plain)
+    go : (b : Bool) → isPassed (fixingVerdict (image plain) call) ≡ b → cond b (fixedLedger (image plain) (call .input .month) (fixingOf (plain .count) (call .input) .sectors)) (image plain) ≡ image (cond b (plainChange plain (fixing call)) plain)
     go true e =
         ap (λ (x : Fixing). fixedLedger (image plain) (call .input .month) (x .sectors))
         (passed-fixing (plain .count) (call .input) (fixing-passed (image plain) call e .passed))
@@ -109,33 +139,32 @@ module _ (plain : Plain) (call : SettlementCall) (h : sound (image plain) ≡ tr
       money-at (positionOf held (plainAmount plain call)) (plain .count) i p (omega (arith, few))
       ∙ ap (λ (z : ℤ). z +ℤ plainAmount plain call i) (money-at (plain .balance) (plain .count) i p (omega (arith, few)))
 
-  pub settlement-same : Same (settlementAnswered (settlementAnswer (image plain) call)) (isSettled (settlementAnswer (image plain) call)) (plainSettlement plain call)
-  unfolding image settlementAnswer settlementChecks firstOf plainSettlement
+  pub settlement-same : Same (verdictAnswered [] (settlementVerdict (image plain) call)) (isPassed (settlementVerdict (image plain) call)) (plainSettlement plain call)
+  unfolding image settlementVerdict settlementChecks settlementCauses plainSettlement Alike
   settlement-same =
-      rw (range-same (plain .count) (moneyAt (positionsOf (image plain) call)) (plainPosition plain call) position-same)
-      (go (sound (image plain)) (settlementLengths (plain .count) call)
-      (settlementTurn (plain .months) (plain .last) (isHeld (plain .held)) (heldMonth (plain .held)) (call .month))
-      (isHeld (plain .held))
-      (billingInRange (plain .count) (heldForce (plain .count) (plain .held) .present) (call .readings) (call .losses))
-      (positionsInRange (plain .count) (plainPosition plain call)))
-    where
-      answer : (a b c d e f : Bool) → SettlementAnswer
-      answer a b c d e f =
-          firstOf (refusedUnless a NotSound ∷ refusedUnless b NotWhole ∷ refusedUnless c NotDue ∷ refusedUnless d NoFixing ∷ refusedUnless e WrongReading ∷ refusedUnless f PositionBeyond ∷ []) Settled
-
-      go : (a b c d e f : Bool) → Same (settlementAnswered (answer a b c d e f)) (isSettled (answer a b c d e f)) (firstOf (refusedUnless a (refusal 2) ∷ refusedUnless b (refusal 3) ∷ refusedUnless c (refusal 4) ∷ refusedUnless d (refusal 5) ∷ refusedUnless e (refusal 12) ∷ refusedUnless f (refusal 13) ∷ []) (record { number = 0; values = [] }))
-      go false b c d e f = alike _
-      go true false c d e f = alike _
-      go true true false d e f = alike _
-      go true true true false e f = alike _
-      go true true true true false f = alike _
-      go true true true true true false = alike _
-      go true true true true true true = alike _
+      let n = plain .count in
+      let within = range-same n (moneyAt (positionsOf (image plain) call)) (plainPosition plain call) position-same in
+      call-same (settlementChecks (image plain) call) (settlementCauses plain call) [] (settlement-told (image plain) call) (
+        test-same 2 Unsound (sound (image plain)),
+        (
+          test-same 3 WrongLength (settlementLengths n call),
+          (
+            test-same 4 OutOfTurn (settlementTurn (plain .months) (plain .last) (isHeld (plain .held)) (heldMonth (plain .held)) (call .month)),
+            (
+              test-same 5 NoFixing (isHeld (plain .held)),
+              (
+                test-same 12 WrongReading (billingInRange n (heldForce n (plain .held) .present) (call .readings) (call .losses)),
+                (ap (λ b. told 13 (metUnless b PositionBeyond)) within ∙ test-same 13 PositionBeyond (positionsInRange n (plainPosition plain call)), tt),
+              ),
+            ),
+          ),
+        ),
+      )
 
   pub settlement-step : settlementLedger (image plain) call ≡ image (plainStep plain (settlement call))
   unfolding image settlementLedger settledLedger settledMonth plainStep plainAccepts plainAnswer plainChange
   settlement-step =
-      go (isSettled (settlementAnswer (image plain) call))
+      go (isPassed (settlementVerdict (image plain) call))
       ∙ ap (λ b. image (cond b (plainChange plain (settlement call)) plain)) (settlement-same .accepts)
     where
       go : (b : Bool) → cond b (settledLedger (image plain) (call .month) (settledMonth (plain .count) (positionsOf (image plain) call) .balances)) (image plain) ≡ image (cond b (plainChange plain (settlement call)) plain)

@@ -6,7 +6,9 @@ use mathlib.Core.List.{List, [], _∷_}
 use Prim.Native.Nat.{ℕ, _≤_}
 use native.Mathlib.Omega.{arith}
 use lib.IntN.{ℤ, pos, _+ℤ_, +ℤ-idl, +ℤ-idr, +ℤ-assoc}
+use Rattle.numbers.specs.Refusal.{Answered}
 use Rattle.numbers.specs.Signed.{signedSumBelow}
+use Rattle.numbers.specs.Checks.{verdictOf}
 use Rattle.numbers.specs.Units.{noMoney}
 use Rattle.numbers.specs.Sizes.{mostDistributors}
 use Rattle.numbers.proofs.UnitLaws.{between-yes}
@@ -14,7 +16,8 @@ use Rattle.numbers.proofs.ListLaws.{filled-empty}
 use Rattle.settlement.specs.Month.{moneyAt, moneyBelow}
 use Rattle.settlement.proofs.MonthLaws.{money-none}
 use Rattle.fixing.specs.Sector.{noCharges}
-use Rattle.ledger.specs.Ledger.{noBalances, emptyLedger, openingOf}
+use Rattle.fixing.specs.Input.{inputDistributors}
+use Rattle.ledger.specs.Ledger.{noBalances, emptyLedger, openingChecks, openingVerdict, openingLedger}
 use Rattle.ledger.specs.Sound.{sound}
 use Rattle.ledger.specs.Fix.{FixingCall, fixingList}
 use Rattle.ledger.specs.Settle.{SettlementCall}
@@ -22,8 +25,8 @@ use Rattle.ledger.specs.declared.book.Ledger.{Ledger}
 use Rattle.ledger.proofs.SoundFacts.{sound-facts}
 use Rattle.ledger.proofs.MoneyLaws.{money-sum}
 use Rattle.ledger.proofs.KeptLaws.{opened-sound, fixing-keeps, settlement-keeps, settlement-adds}
-use Rattle.history.specs.Run.{Call, fixing, settlement, Answered, opened, step, answer, after, answers}
-use Rattle.history.specs.Plain.{Plain, inputDistributors, plainOpened, image, plainAnswer, plainAmount, plainAccepts, plainChange, plainStep, plainAfter, plainAnswers, callCollects, plainCollected}
+use Rattle.history.specs.Run.{Call, fixing, settlement, opened, step, answer, after, answers}
+use Rattle.history.specs.Plain.{Plain, plainOpened, image, plainAnswer, plainAmount, plainAccepts, plainChange, plainStep, plainAfter, plainAnswers, callCollects, plainCollected}
 use Rattle.history.specs.History.{WrittenPrices, History}
 use Rattle.history.proofs.CallLaws.{fixing-same, fixing-step, settlement-same, settlement-step}
 use Rattle.history.proofs.WrittenLaws.{written}
@@ -115,7 +118,7 @@ module _ (n : ℕ) (p : 1 ≤ n) (q : n ≤ 40) where
       sym (money-none (λ i. pos 0)) ∙ filled-empty mostDistributors noMoney n (λ i. noMoney) (λ i r. refl)
 
   opened-is : opened n ≡ emptyLedger n
-  unfolding opened openingOf
+  unfolding opened openingLedger openingVerdict openingChecks verdictOf
   opened-is = rw (between-yes 1 40 n p q, opened)
 
   opened-same : opened n ≡ image (plainOpened n)

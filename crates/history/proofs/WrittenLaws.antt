@@ -7,6 +7,7 @@ use native.Mathlib.Omega.{arith}
 use lib.ListN.{length, getD}
 use lib.IntN.{ℤ, pos, _-ℤ_, _*ℤ_}
 use Rattle.numbers.specs.Bounded.{listBelow}
+use Rattle.numbers.specs.Refusal.{isPassed}
 use Rattle.numbers.specs.Units.{noPrice}
 use Rattle.numbers.specs.declared.units.PesoPrice.{PesoPrice}
 use Rattle.numbers.proofs.ListLaws.{list-length, list-at}
@@ -14,18 +15,18 @@ use Rattle.numbers.proofs.SignedLaws.{pos-le}
 use Rattle.fixing.specs.Limit.{Distributors, InRange, contractTotal, limit, finalPrice, charge, collected}
 use Rattle.fixing.specs.Charge.{greater, greatestUpTo, pricesCollect, largestCharge}
 use Rattle.fixing.specs.Prices.{fixedPrices, chargeList}
-use Rattle.fixing.specs.Input.{inputAverages, inputEnergies}
+use Rattle.fixing.specs.Input.{inputAverages, inputEnergies, inputDistributors}
 use Rattle.fixing.specs.Fixing.{acceptedFixing}
 use Rattle.fixing.specs.declared.fix.Fixing.{Fixing}
-use Rattle.fixing.proofs.LimitLaws.{final-limit, collects, smallest-largest, collect-whole}
+use Rattle.fixing.proofs.LimitLaws.{final-limit, rounds-few, collects, smallest-largest, collect-whole}
 use Rattle.fixing.proofs.FixingLaws.{final-at, charge-at}
 use Rattle.ledger.specs.Sound.{sound}
-use Rattle.ledger.specs.Fix.{FixingCall, fixingAnswer, fixingList, isAccepted, priceList, priceWord, third}
+use Rattle.ledger.specs.Fix.{FixingCall, fixingVerdict, fixingList, priceList, priceWord, third}
 use Rattle.ledger.specs.declared.book.Ledger.{Ledger}
 use Rattle.ledger.proofs.SoundFacts.{sound-facts}
 use Rattle.ledger.proofs.MoneyLaws.{signed-sum-same}
-use Rattle.ledger.proofs.CallLaws.{fixing-passed, passed-range, passed-fixing}
-use Rattle.history.specs.Plain.{inputDistributors}
+use Rattle.ledger.proofs.CallLaws.{fixing-passed, passed-range}
+use Rattle.fixing.proofs.VerdictLaws.{passed-fixing}
 use Rattle.history.specs.History.{writtenFinal, WrittenPrices}
 
 -- prices that agree below n collect the same and have the same largest charge
@@ -58,7 +59,7 @@ module _ (n : ℕ) (averages finals : List PesoPrice) (charges : List ℤ) (i : 
       list-at (priceWord averages finals charges) (n * 3) (pos 0) j (omega arith) ∙ rw (whole, part)
 
 -- a fixing that was accepted
-module _ (book : Ledger) (call : FixingCall) (h : sound book ≡ true) (e : isAccepted (fixingAnswer book call) ≡ true) where
+module _ (book : Ledger) (call : FixingCall) (h : sound book ≡ true) (e : isPassed (fixingVerdict book call) ≡ true) where
   abbrev d : Distributors
   d = inputDistributors (book .n) (call .input)
 
@@ -120,4 +121,5 @@ module _ (book : Ledger) (call : FixingCall) (h : sound book ≡ true) (e : isAc
         smallest = λ price below enough.
             rw (largest-same d (writtenFinal (fixingList book call)) (λ i. pos (finalPrice d i)) same (range .some))
             (smallest-largest d range price below enough);
+        few = rounds-few d range;
       }

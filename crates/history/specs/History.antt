@@ -6,24 +6,26 @@ use Prim.Native.Nat.{ℕ, _+_, _*_, _<_}
 use lib.ListN.{length, getD}
 use lib.IntN.{ℤ, pos}
 use lib.Signed.{_≤ℤ_}
+use Rattle.numbers.specs.Refusal.{isPassed}
 use Rattle.numbers.specs.Signed.{signedSumBelow}
 use Rattle.numbers.specs.Sizes.{mostDistributors}
-use Rattle.fixing.specs.Limit.{Distributors, contractTotal, limit, finalPrice, charge}
+use Rattle.fixing.specs.Limit.{Distributors, contractTotal, limit, rounds, finalPrice, charge}
+use Rattle.fixing.specs.Input.{inputDistributors}
 use Rattle.fixing.specs.Charge.{pricesCollect, largestCharge}
 use Rattle.settlement.specs.Settlement.{oneSign}
 use Rattle.settlement.specs.Month.{moneyAt}
 use Rattle.ledger.specs.Sound.{sound}
-use Rattle.ledger.specs.Fix.{FixingCall, fixingAnswer, fixingList, isAccepted}
+use Rattle.ledger.specs.Fix.{FixingCall, fixingVerdict, fixingList}
 use Rattle.history.specs.Run.{Call, fixing, opened, after, answers}
-use Rattle.history.specs.Plain.{inputDistributors, plainOpened, image, plainAfter, plainAnswers, plainCollected}
+use Rattle.history.specs.Plain.{plainOpened, image, plainAfter, plainAnswers, plainCollected}
 
 -- the written final prices of a price list
 abbrev pub writtenFinal : List ℤ → ℕ → ℤ
 writtenFinal written i = getD written (i * 3 + 1) (pos 0)
 
 -- what an accepted fixing wrote, of its arguments: 3n words, average, final price and charge of each distributor as 01
--- defines them; no final price above the limit; they collect the contract total; and every list of whole prices of either
--- sign, none above the limit, that does so has a largest charge at least as great
+-- defines them; no final price above the limit; they collect the contract total; every list of whole prices of either
+-- sign, none above the limit, that does so has a largest charge at least as great; and the rounds made are below n
 pub record WrittenPrices (n : ℕ) (d : Distributors) (written : List ℤ) : Type 0 where
   pub words : length written ≡ n * 3
   pub average : (i : ℕ) → i < n → getD written (i * 3) (pos 0) ≡ pos (d .average i)
@@ -32,6 +34,7 @@ pub record WrittenPrices (n : ℕ) (d : Distributors) (written : List ℤ) : Typ
   pub limited : (i : ℕ) → i < n → writtenFinal written i ≤ℤ pos (limit d)
   pub collects : pos (contractTotal d) ≤ℤ pricesCollect d (writtenFinal written)
   pub smallest : (price : ℕ → ℤ) → ((i : ℕ) → i < n → price i ≤ℤ pos (limit d)) → pos (contractTotal d) ≤ℤ pricesCollect d price → largestCharge d (writtenFinal written) ≤ℤ largestCharge d price
+  pub few : rounds d < n
 
 -- after every list of calls from an opened ledger of n distributors:
 pub record History (n : ℕ) (calls : List Call) : Type 0 where
@@ -46,4 +49,4 @@ pub record History (n : ℕ) (calls : List Call) : Type 0 where
   -- the ledger is sound, so that no call in such a list meets 2
   pub whole : sound (after (opened n) calls) ≡ true
   -- each accepted fixing in the list wrote 01's prices, with a smallest largest charge
-  pub fixings : (before rest : List Call) (call : FixingCall) → calls ≡ before ++ (fixing call ∷ rest) → isAccepted (fixingAnswer (after (opened n) before) call) ≡ true → WrittenPrices n (inputDistributors n (call .input)) (fixingList (after (opened n) before) call)
+  pub fixings : (before rest : List Call) (call : FixingCall) → calls ≡ before ++ (fixing call ∷ rest) → isPassed (fixingVerdict (after (opened n) before) call) ≡ true → WrittenPrices n (inputDistributors n (call .input)) (fixingList (after (opened n) before) call)

@@ -7,12 +7,13 @@ use mathlib.Core.Option.{Option, none, some}
 use Prim.Native.Nat.{ℕ, _+_}
 use lib.Dec.{eqb}
 use lib.IntN.{ℤ, pos, _+ℤ_}
-use Rattle.numbers.specs.Checks.{refusedUnless, firstOf}
+use Rattle.numbers.specs.Refusal.{Answered, accepted, withoutValues}
 use Rattle.numbers.specs.Signed.{signedSumBelow}
-use Rattle.fixing.specs.Limit.{Distributors, limit, surcharge, rounds, residue, charge}
-use Rattle.fixing.specs.Prices.{distributors}
-use Rattle.fixing.specs.Sector.{sectorCharges, noCharges}
-use Rattle.fixing.specs.Input.{FixingInput, inputVerdict, verdictNumber, verdictValues, inputAverages, inputEnergies}
+use Rattle.series.specs.Series.{valuesInRange}
+use Rattle.supply.specs.Months.{Place}
+use Rattle.fixing.specs.Limit.{limit, surcharge, rounds, residue, charge}
+use Rattle.fixing.specs.Sector.{sectorsAllowed, sectorCharges, noCharges}
+use Rattle.fixing.specs.Input.{ranged, supplied, missingPlace, beyondLine, inputDistributors}
 use Rattle.fixing.specs.declared.sector.SectorCharges.{SectorCharges}
 use Rattle.settlement.specs.Amount.{billingInRange, collectedAmount}
 use Rattle.settlement.specs.Settlement.{positionOf, positionsInRange, newBalance}
@@ -22,7 +23,7 @@ use Rattle.ledger.specs.Turn.{fixingTurn, settlementTurn}
 use Rattle.ledger.specs.Fix.{FixingCall, fixingLengths}
 use Rattle.ledger.specs.Settle.{SettlementCall, settlementLengths}
 use Rattle.ledger.specs.declared.book.Ledger.{Ledger}
-use Rattle.history.specs.Run.{Call, fixing, settlement, Answered}
+use Rattle.history.specs.Run.{Call, fixing, settlement}
 
 -- "It holds n, the count of settled months, the last month, the latest accepted fixing's arguments and n balances"
 pub record Plain : Type 0 where
@@ -45,10 +46,6 @@ abbrev pub heldMonth : Option FixingCall → ℕ
 heldMonth none = 0
 heldMonth (some call) = call .input .month
 
--- the distributors of a fixing's arguments: averages and energies of their lines
-unfoldable pub inputDistributors : ℕ → FixingInput → Distributors
-inputDistributors n input = distributors n (inputAverages n input) (inputEnergies n input)
-
 abbrev pub heldForce : ℕ → Option FixingCall → SectorCharges
 heldForce n none = noCharges
 heldForce n (some call) = sectorCharges n (charge (inputDistributors n (call .input))) (call .input .sectors)
@@ -66,27 +63,45 @@ image plain =
       balances = moneyBelow (plain .count) (plain .balance);
     }
 
--- a number without values
-abbrev pub refusal : ℕ → Answered
-refusal number = record { number = number; values = [] }
+-- a cause by its number, met where a test fails
+abbrev pub cause : ℕ → Bool → Option Answered
+cause number passed = cond passed none (some (withoutValues number))
 
--- the fixing's causes 6 to 11, by their numbers
-abbrev pub refusedAt : ℕ → List ℕ → Option Answered
-refusedAt number values = cond (eqb number 0) none (some (record { number = number; values = values }))
+-- a cause that returns its place: "line, term" and "first such line"
+abbrev pub causeAtTerm : ℕ → Option Place → Option Answered
+causeAtTerm number none = none
+causeAtTerm number (some place) = some (record { number = number; values = place .line ∷ place .term ∷ [] })
+
+abbrev pub causeAtLine : ℕ → Option ℕ → Option Answered
+causeAtLine number none = none
+causeAtLine number (some line) = some (record { number = number; values = line ∷ [] })
+
+-- the first cause that is met, or the values of what is accepted
+unfoldable pub firstCause : List (Option Answered) → List ℕ → Answered
+firstCause [] values = accepted values
+firstCause (none ∷ rest) values = firstCause rest values
+firstCause (some met ∷ rest) values = met
 
 -- "Each call is put to the checks below, in their order, on the plain ledger": a fixing
+unfoldable pub fixingCauses : Plain → FixingCall → List (Option Answered)
+fixingCauses plain call =
+    let n = plain .count in
+    let input = call .input in
+    cause 2 (sound (image plain))
+    ∷ cause 3 (fixingLengths n call)
+    ∷ cause 4 (fixingTurn (plain .months) (plain .last) (input .month))
+    ∷ cause 6 (ranged n input)
+    ∷ cause 7 (valuesInRange (input .series))
+    ∷ cause 8 (sectorsAllowed n (input .sectors))
+    ∷ cause 9 (supplied n input)
+    ∷ causeAtTerm 10 (missingPlace input)
+    ∷ causeAtLine 11 (beyondLine input)
+    ∷ []
+
 unfoldable pub plainFixing : Plain → FixingCall → Answered
 plainFixing plain call =
-    let n = plain .count in
-    let verdict = inputVerdict n (call .input) in
-    let d = inputDistributors n (call .input) in
-    firstOf
-    (refusedUnless (sound (image plain)) (refusal 2)
-    ∷ refusedUnless (fixingLengths n call) (refusal 3)
-    ∷ refusedUnless (fixingTurn (plain .months) (plain .last) (call .input .month)) (refusal 4)
-    ∷ refusedAt (verdictNumber verdict) (verdictValues verdict)
-    ∷ [])
-    (record { number = 0; values = limit d ∷ surcharge d ∷ rounds d ∷ residue d ∷ [] })
+    let d = inputDistributors (plain .count) (call .input) in
+    firstCause (fixingCauses plain call) (limit d ∷ surcharge d ∷ rounds d ∷ residue d ∷ [])
 
 -- the collected amount of each distributor: "works MFAR from its readings, its loss factors and those charges"
 unfoldable pub plainAmount : Plain → SettlementCall → ℕ → ℤ
@@ -97,19 +112,20 @@ unfoldable pub plainPosition : Plain → SettlementCall → ℕ → ℤ
 plainPosition plain call = positionOf (plain .balance) (plainAmount plain call)
 
 -- a settlement put to the checks
-unfoldable pub plainSettlement : Plain → SettlementCall → Answered
-plainSettlement plain call =
+unfoldable pub settlementCauses : Plain → SettlementCall → List (Option Answered)
+settlementCauses plain call =
     let n = plain .count in
     let force = heldForce n (plain .held) in
-    firstOf
-    (refusedUnless (sound (image plain)) (refusal 2)
-    ∷ refusedUnless (settlementLengths n call) (refusal 3)
-    ∷ refusedUnless (settlementTurn (plain .months) (plain .last) (isHeld (plain .held)) (heldMonth (plain .held)) (call .month)) (refusal 4)
-    ∷ refusedUnless (isHeld (plain .held)) (refusal 5)
-    ∷ refusedUnless (billingInRange n (force .present) (call .readings) (call .losses)) (refusal 12)
-    ∷ refusedUnless (positionsInRange n (plainPosition plain call)) (refusal 13)
-    ∷ [])
-    (record { number = 0; values = [] })
+    cause 2 (sound (image plain))
+    ∷ cause 3 (settlementLengths n call)
+    ∷ cause 4 (settlementTurn (plain .months) (plain .last) (isHeld (plain .held)) (heldMonth (plain .held)) (call .month))
+    ∷ cause 5 (isHeld (plain .held))
+    ∷ cause 12 (billingInRange n (force .present) (call .readings) (call .losses))
+    ∷ cause 13 (positionsInRange n (plainPosition plain call))
+    ∷ []
+
+unfoldable pub plainSettlement : Plain → SettlementCall → Answered
+plainSettlement plain call = firstCause (settlementCauses plain call) []
 
 unfoldable pub plainAnswer : Plain → Call → Answered
 plainAnswer plain (fixing call) = plainFixing plain call

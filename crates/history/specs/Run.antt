@@ -2,11 +2,10 @@
 -- answer, by the very definitions that the open calls' contracts equate with. Assumes nothing.
 use mathlib.Core.List.{List, [], _∷_}
 use Prim.Native.Nat.{ℕ}
-use Rattle.ledger.specs.Ledger.{openingOf}
-use Rattle.ledger.specs.Fix.{FixingCall, fixingAnswer, fixingLedger}
-use Rattle.ledger.specs.Fix.{answerNumber as fixingNumber, answerValues as fixingValues}
-use Rattle.ledger.specs.Settle.{SettlementCall, settlementAnswer, settlementLedger}
-use Rattle.ledger.specs.Settle.{answerNumber as settlementNumber, answerValues as settlementValues}
+use Rattle.numbers.specs.Refusal.{Answered, verdictAnswered}
+use Rattle.ledger.specs.Ledger.{openingLedger}
+use Rattle.ledger.specs.Fix.{FixingCall, fixingAnswer, fixingAnswered, fixingLedger}
+use Rattle.ledger.specs.Settle.{SettlementCall, settlementVerdict, settlementLedger}
 use Rattle.ledger.specs.declared.book.Ledger.{Ledger}
 
 -- a fixing or a settlement, with any arguments
@@ -14,24 +13,18 @@ pub data Call : Type 0 where
   fixing : FixingCall → Call
   settlement : SettlementCall → Call
 
--- 01's number of an answer (0: accepted) and the values returned with it
-pub record Answered : Type 0 where
-  pub number : ℕ
-  pub values : List ℕ
-
 -- the ledger that an opening with n hands back
 unfoldable pub opened : ℕ → Ledger
-opened n = openingOf n .ledger
+opened n = openingLedger n
 
 unfoldable pub step : Ledger → Call → Ledger
 step book (fixing call) = fixingLedger book call
 step book (settlement call) = settlementLedger book call
 
+-- the number and values of a call's answer
 unfoldable pub answer : Ledger → Call → Answered
-answer book (fixing call) =
-    record { number = fixingNumber (fixingAnswer book call); values = fixingValues (fixingAnswer book call) }
-answer book (settlement call) =
-    record { number = settlementNumber (settlementAnswer book call); values = settlementValues (settlementAnswer book call) }
+answer book (fixing call) = fixingAnswered (fixingAnswer book call)
+answer book (settlement call) = verdictAnswered [] (settlementVerdict book call)
 
 -- the ledger after a list of calls, and their answers
 unfoldable pub after : Ledger → List Call → Ledger

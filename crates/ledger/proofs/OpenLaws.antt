@@ -13,18 +13,18 @@ use Rattle.ledger.specs.Ledger.{emptyLedger, openingChecks, openingVerdi
 use Rattle.ledger.specs.declared.book.Ledger.{Ledger}
 
 module _ (n : ℕ) (next : Ledger) where
-  checks-told : AllTold (openingChecks n)
+  opening-told : AllTold (openingChecks n)
   unfolding AllTold openingChecks
-  checks-told = (check-told 1 (between 1 mostDistributors n) WrongCount refl, tt)
+  opening-told = (check-told 1 (between 1 mostDistributors n) WrongCount refl, tt)
 
   pub opening-accepted : between 1 mostDistributors n ≡ true → next ≡ emptyLedger n → OpeningPromise n Passed next
   unfolding openingLedger openingVerdict openingChecks FirstPass
   opening-accepted h e =
       let v : verdictOf (openingChecks n) ≡ Passed = verdict-passed (openingChecks n) (passes WrongCount h, tt) in
-      record { judged = judged (openingChecks n) checks-told Passed (sym v); opened = e ∙ rw v }
+      record { judged = judged (openingChecks n) opening-told Passed (sym v); opened = e ∙ rw v }
 
   pub opening-refused : between 1 mostDistributors n ≡ false → next ≡ emptyLedger 0 → OpeningPromise n (Refused WrongCount) next
   unfolding openingLedger openingVerdict openingChecks FirstPass
   opening-refused h e =
       let v : verdictOf (openingChecks n) ≡ Refused WrongCount = refused-unless 0 (openingChecks n) 1 _ WrongCount [] tt refl h in
-      record { judged = judged (openingChecks n) checks-told (Refused WrongCount) (sym v); opened = e ∙ rw v }
+      record { judged = judged (openingChecks n) opening-told (Refused WrongCount) (sym v); opened = e ∙ rw v }

@@ -31,9 +31,9 @@ use Rattle.ledger.proofs.SoundLaws.{sound-few, sound-charges}
 
 module _ (book : Ledger) (call : SettlementCall) where
   -- every verdict has the number and values of the checks
-  checks-told : AllTold (settlementChecks book call)
+  pub settlement-told : AllTold (settlementChecks book call)
   unfolding AllTold settlementChecks
-  checks-told = (
+  settlement-told = (
     check-told 2 (sound book) Unsound refl,
     (
       check-told 3 (settlementLengths (book .n) call) WrongLength refl,
@@ -55,7 +55,7 @@ module _ (book : Ledger) (call : SettlementCall) where
   unfolding settlementLedger settlementList settlementVerdict
   month-refused refusal v r e =
       record {
-        judged = judged (settlementChecks book call) checks-told (r .verdict) (ap (λ (o : SettlementOutcome). o .verdict) e ∙ sym v);
+        judged = judged (settlementChecks book call) settlement-told (r .verdict) (ap (λ (o : SettlementOutcome). o .verdict) e ∙ sym v);
         booked = ap (λ (o : SettlementOutcome). o .ledger) e ∙ rw v;
         listed = rw v;
       }
@@ -119,7 +119,7 @@ module _ (book : Ledger) (call : SettlementCall) where
             let v = verdict-from 5 (settlementChecks book call) first-billed ∙ last in
             let month : settled ≡ settledMonth (book .n) (positionsOf book call) = g ∙ ap (settledMonth (book .n)) e in
             record {
-              judged = judged (settlementChecks book call) checks-told Passed (sym v);
+              judged = judged (settlementChecks book call) settlement-told Passed (sym v);
               booked = q ∙ ap (λ (s : Settled). settledLedger book (call .month) (s .balances)) month ∙ rw v;
               listed = r ∙ ap (λ (s : Settled). listBelow (book .n) (moneyAt (s .transfers))) month ∙ rw v;
             }

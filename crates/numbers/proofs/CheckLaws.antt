@@ -6,10 +6,12 @@ use mathlib.Core.List.{List, [], _∷_}
 use mathlib.Core.Option.{Option, none, some}
 use Prim.Native.Nat.{ℕ, zero, suc}
 use native.Mathlib.Omega.{arith}
+use lib.Dec.{eqb}
 use lib.ListN.{length, drop}
 use Rattle.numbers.specs.Refusal.{Answered, accepted, withoutValues, refusalAnswered, verdictAnswered, isPassed}
 use Rattle.numbers.specs.Checks.{Met, Check, metUnless, check, refusedOr, answeredOr, verdictOf, answeredBy, Promised, Judged, acceptedWhere}
 use Rattle.numbers.specs.declared.refusal.Refusal.{Refusal}
+use Rattle.numbers.specs.declared.refusal.Refusal.the-variants.{WrongCount, Unsound, WrongLength, OutOfTurn, NoFixing, OutOfRange, ValueTooLarge, WrongSector, NoLine, MonthMissing, OutOfBounds, WrongReading, PositionBeyond}
 use Rattle.numbers.specs.declared.refusal.Verdict.{Verdict}
 use Rattle.numbers.specs.declared.refusal.Verdict.the-variants.{Passed, Refused}
 
@@ -77,6 +79,26 @@ verdict-passed (c ∷ rest) h = rw (h .0) (verdict-passed rest (h .1))
 pub is-passed : (v : Verdict) → isPassed v ≡ true → v ≡ Passed
 is-passed Passed h = refl
 is-passed (Refused refusal) h = absurd (let z : _≡_ {A = ℕ} 0 1 = cc in omega arith)
+
+-- no refusal has the number of what is accepted
+pub passed-number : (values : List ℕ) (v : Verdict) → isPassed v ≡ eqb (verdictAnswered values v .number) 0
+passed-number values Passed = refl
+passed-number values (Refused refusal) = go refusal
+  where
+    go : (r : Refusal) → false ≡ eqb (refusalAnswered r .number) 0
+    go WrongCount = refl
+    go Unsound = refl
+    go WrongLength = refl
+    go OutOfTurn = refl
+    go NoFixing = refl
+    go OutOfRange = refl
+    go ValueTooLarge = refl
+    go WrongSector = refl
+    go NoLine = refl
+    go (MonthMissing line term) = refl
+    go (OutOfBounds line) = refl
+    go WrongReading = refl
+    go PositionBeyond = refl
 
 -- a check whose number and values are those of its refusal
 abbrev pub Told : Check → Type 0
