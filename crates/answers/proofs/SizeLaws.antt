@@ -6,20 +6,16 @@ use native.Mathlib.Omega.{arith}
 use lib.Dec.{eqb}
 use lib.IntN.{ℤ, pos}
 use lib.ListN.{length, getD, length-append}
+use Rattle.numbers.specs.Refusal.{refusalAnswered, verdictAnswered, isPassed}
 use Rattle.numbers.specs.Sizes.{mostDistributors, sectorCount}
+use Rattle.numbers.specs.declared.refusal.Verdict.{Verdict}
 use Rattle.numbers.specs.declared.units.Pesos.{Pesos}
 use Rattle.numbers.proofs.ListLaws.{list-length}
-use Rattle.fixing.specs.declared.verdict.Verdict.the-variants.{Passed, OutOfRange, ValueTooLarge, WrongSector, NoLine, MonthMissing, OutOfBounds}
-use Rattle.fixing.specs.declared.verdict.Verdict.{Verdict}
 use Rattle.settlement.specs.Month.{moneyAt}
-use Rattle.ledger.specs.Fix.{answerNumber as fixingNumber}
-use Rattle.ledger.specs.Ledger.{openingNumber}
-use Rattle.ledger.specs.Settle.{answerNumber as settlementNumber}
+use Rattle.ledger.specs.Fix.{fixingAnswered}
 use Rattle.ledger.specs.declared.book.Ledger.{Ledger}
-use Rattle.ledger.specs.declared.fix.FixingAnswer.the-variants.{Accepted, Unsound, WrongLength, OutOfTurn, Rejected}
 use Rattle.ledger.specs.declared.fix.FixingAnswer.{FixingAnswer}
-use Rattle.ledger.specs.declared.open.OpeningAnswer.{OpeningAnswer}
-use Rattle.ledger.specs.declared.settle.SettlementAnswer.{SettlementAnswer}
+use Rattle.ledger.specs.declared.fix.FixingAnswer.the-variants.{Accepted, Refused}
 use Rattle.store.specs.Store.{truthWord, keptCount, presentWords, chargeWords, balanceWords}
 use Rattle.store.proofs.StoreLaws.{kept-most}
 use Rattle.journal.specs.Command.{openName, fixName, settleName, loadName, presentName, chargesName, balancesName}
@@ -38,9 +34,9 @@ line-size : (command : List ℕ) (number : ℕ) → length (outcomeLine command 
 unfolding outcomeLine
 line-size command number = rw length-append (omega (arith, outcome-size command number))
 
-pub opening-size : (answer : OpeningAnswer) → length (openingText answer) ≤ 262144
+pub opening-size : (verdict : Verdict) → length (openingText verdict) ≤ 262144
 unfolding openingText
-opening-size answer = omega (arith, line-size openName (openingNumber answer))
+opening-size verdict = omega (arith, line-size openName (verdictAnswered [] verdict .number))
 
 pub loading-size : length loadingText ≤ 262144
 unfolding loadingText
@@ -50,25 +46,18 @@ pub error-size : (at : ℕ) → length (errorText at) ≤ 43
 unfolding errorText
 error-size at = rw length-append (omega (arith, named-size (bytes "journal error at byte") at))
 
-place-size : (verdict : Verdict) → length (placeText verdict) ≤ 116
+place-size : (values : List ℕ) → length (placeText values) ≤ 116
 unfolding placeText
-place-size Passed = omega arith
-place-size OutOfRange = omega arith
-place-size ValueTooLarge = omega arith
-place-size WrongSector = omega arith
-place-size NoLine = omega arith
-place-size (MonthMissing line term) = rw length-append (omega (arith, named-size (bytes " line") line, named-size (bytes " term") term))
-place-size (OutOfBounds line) = omega (arith, named-size (bytes " line") line)
+place-size [] = omega arith
+place-size (line ∷ []) = omega (arith, named-size (bytes " line") line)
+place-size (line ∷ term ∷ more) = rw length-append (omega (arith, named-size (bytes " line") line, named-size (bytes " term") term))
 
 detail-size : (answer : FixingAnswer) → length (detailText answer) ≤ 116
 unfolding detailText fixedText
 detail-size (Accepted limit surcharge rounds residue) =
     rw (length-append, length-append, length-append, length-append)
     (omega (arith, named-size (bytes " limit") (limit .0), named-size (bytes " surcharge") (surcharge .0), named-size (bytes " rounds") rounds, signed-word-size (residue .0)))
-detail-size Unsound = omega arith
-detail-size WrongLength = omega arith
-detail-size OutOfTurn = omega arith
-detail-size (Rejected verdict) = place-size verdict
+detail-size (Refused refusal) = place-size (refusalAnswered refusal .values)
 
 changed-size : (list : List ℤ) → length (changedText list) ≤ 8
 unfolding changedText
@@ -85,8 +74,8 @@ unfolding fixingText priceRows
 fixing-size answer prices few =
     let rows : length (textBelow (length prices / 3) (priceRow prices)) ≤ 237510 =
     omega (arith, texts-size (length prices / 3) 87 (priceRow prices) (price-row-size prices)) in
-    let under = choice-size (eqb (fixingNumber answer) 0) (textBelow (length prices / 3) (priceRow prices)) (changedText prices) 237510 rows (omega (arith, changed-size prices)) in
-    rw (length-append, length-append, length-append) (omega (arith, under, outcome-size fixName (fixingNumber answer), detail-size answer))
+    let under = choice-size (eqb (fixingAnswered answer .number) 0) (textBelow (length prices / 3) (priceRow prices)) (changedText prices) 237510 rows (omega (arith, changed-size prices)) in
+    rw (length-append, length-append, length-append) (omega (arith, under, outcome-size fixName (fixingAnswered answer .number), detail-size answer))
 
 transfer-row-size : (transfers : List ℤ) (balances : List Pesos) (i : ℕ) → length (transferRow transfers balances i) ≤ 65
 unfolding transferRow
@@ -94,15 +83,15 @@ transfer-row-size transfers balances i =
     rw (length-append, length-append, length-append)
     (omega (arith, decimal-size i, signed-word-size (getD transfers i (pos 0)), signed-word-size (moneyAt balances i)))
 
-pub settlement-size : (answer : SettlementAnswer) (transfers : List ℤ) (balances : List Pesos) → length (settlementText answer transfers balances) ≤ 262144
+pub settlement-size : (verdict : Verdict) (transfers : List ℤ) (balances : List Pesos) → length (settlementText verdict transfers balances) ≤ 262144
 unfolding settlementText transferRows
-settlement-size answer transfers balances =
+settlement-size verdict transfers balances =
     let count = min (length transfers) mostDistributors in
     let few : count ≤ 40 = omega arith in
     let rows : length (textBelow count (transferRow transfers balances)) ≤ 2600 =
     omega (arith, texts-size count 65 (transferRow transfers balances) (transfer-row-size transfers balances), few) in
-    let under = choice-size (eqb (settlementNumber answer) 0) (textBelow count (transferRow transfers balances)) (changedText transfers) 2600 rows (omega (arith, changed-size transfers)) in
-    rw length-append (omega (arith, under, line-size settleName (settlementNumber answer)))
+    let under = choice-size (isPassed verdict) (textBelow count (transferRow transfers balances)) (changedText transfers) 2600 rows (omega (arith, changed-size transfers)) in
+    rw length-append (omega (arith, under, line-size settleName (verdictAnswered [] verdict .number)))
 
 list-size : (name : List ℕ) (list : List ℕ) → length (listText name list) ≤ length name + 22 + length list * 21
 unfolding listText

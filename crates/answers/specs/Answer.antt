@@ -6,21 +6,17 @@ use lib.Dec.{eqb}
 use lib.ListN.{length, getD}
 use lib.IntN.{ℤ, pos, natAbs}
 use Rattle.numbers.specs.Bounded.{allBelow}
+use Rattle.numbers.specs.Refusal.{refusalAnswered, verdictAnswered, isPassed}
 use Rattle.numbers.specs.Signed.{isNegative}
 use Rattle.numbers.specs.Sizes.{mostDistributors, sectorCount}
+use Rattle.numbers.specs.declared.refusal.Verdict.{Verdict}
 use Rattle.numbers.specs.declared.units.PesoPrice.{PesoPrice}
 use Rattle.numbers.specs.declared.units.Pesos.{Pesos}
-use Rattle.fixing.specs.declared.verdict.Verdict.{Verdict}
-use Rattle.fixing.specs.declared.verdict.Verdict.the-variants.{Passed, OutOfRange, ValueTooLarge, WrongSector, NoLine, MonthMissing, OutOfBounds}
 use Rattle.settlement.specs.Month.{moneyAt}
-use Rattle.ledger.specs.Ledger.{openingNumber}
-use Rattle.ledger.specs.Fix.{answerNumber as fixingNumber}
-use Rattle.ledger.specs.Settle.{answerNumber as settlementNumber}
+use Rattle.ledger.specs.Fix.{fixingAnswered}
 use Rattle.ledger.specs.declared.book.Ledger.{Ledger}
-use Rattle.ledger.specs.declared.open.OpeningAnswer.{OpeningAnswer}
 use Rattle.ledger.specs.declared.fix.FixingAnswer.{FixingAnswer}
-use Rattle.ledger.specs.declared.fix.FixingAnswer.the-variants.{Accepted, Unsound, WrongLength, OutOfTurn, Rejected}
-use Rattle.ledger.specs.declared.settle.SettlementAnswer.{SettlementAnswer}
+use Rattle.ledger.specs.declared.fix.FixingAnswer.the-variants.{Accepted, Refused}
 use Rattle.store.specs.Store.{truthWord, keptCount, presentWords, chargeWords, balanceWords}
 use Rattle.journal.specs.Command.{openName, fixName, settleName, loadName, presentName, chargesName, balancesName}
 use Rattle.text.specs.Text.{bytes, decimal, word, signedWord, named, textBelow, lineEnd}
@@ -34,8 +30,8 @@ outcome command number =
 unfoldable pub outcomeLine : List ℕ → ℕ → List ℕ
 outcomeLine command number = outcome command number ++ lineEnd ∷ []
 
-unfoldable pub openingText : OpeningAnswer → List ℕ
-openingText answer = outcomeLine openName (openingNumber answer)
+unfoldable pub openingText : Verdict → List ℕ
+openingText verdict = outcomeLine openName (verdictAnswered [] verdict .number)
 
 unfoldable pub loadingText : List ℕ
 loadingText = outcomeLine loadName 0
@@ -50,23 +46,16 @@ fixedText limit surcharge rounds residue =
     named (bytes " limit") (limit .0) ++ named (bytes " surcharge") (surcharge .0) ++ named (bytes " rounds") rounds
     ++ bytes " residue" ++ signedWord (residue .0)
 
--- "line J term T", "line J": the place of a refusal that has one
-unfoldable pub placeText : Verdict → List ℕ
-placeText Passed = []
-placeText OutOfRange = []
-placeText ValueTooLarge = []
-placeText WrongSector = []
-placeText NoLine = []
-placeText (MonthMissing line term) = named (bytes " line") line ++ named (bytes " term") term
-placeText (OutOfBounds line) = named (bytes " line") line
+-- "line J term T", "line J": the values of a refusal that has any
+unfoldable pub placeText : List ℕ → List ℕ
+placeText [] = []
+placeText (line ∷ []) = named (bytes " line") line
+placeText (line ∷ term ∷ more) = named (bytes " line") line ++ named (bytes " term") term
 
 -- what follows the outcome of a fixing on its line
 unfoldable pub detailText : FixingAnswer → List ℕ
 detailText (Accepted limit surcharge rounds residue) = fixedText limit surcharge rounds residue
-detailText Unsound = []
-detailText WrongLength = []
-detailText OutOfTurn = []
-detailText (Rejected verdict) = placeText verdict
+detailText (Refused refusal) = placeText (refusalAnswered refusal .values)
 
 -- "it is lent with every word -1": whether a lent list is as it was lent
 unfoldable pub isUnwritten : ℤ → Bool
@@ -91,8 +80,8 @@ priceRows prices = textBelow (length prices / 3) (priceRow prices)
 -- the line of a fixing, and the rows under an accepted one
 unfoldable pub fixingText : FixingAnswer → List ℤ → List ℕ
 fixingText answer prices =
-    outcome fixName (fixingNumber answer) ++ detailText answer ++ lineEnd ∷ []
-    ++ cond (eqb (fixingNumber answer) 0) (priceRows prices) (changedText prices)
+    outcome fixName (fixingAnswered answer .number) ++ detailText answer ++ lineEnd ∷ []
+    ++ cond (eqb (fixingAnswered answer .number) 0) (priceRows prices) (changedText prices)
 
 -- "I TRANSFER BALANCE (a row for each distributor)"
 unfoldable pub transferRow : List ℤ → List Pesos → ℕ → List ℕ
@@ -103,10 +92,10 @@ unfoldable pub transferRows : List ℤ → List Pesos → List ℕ
 transferRows transfers balances = textBelow (min (length transfers) mostDistributors) (transferRow transfers balances)
 
 -- the line of a settlement, and the rows under an accepted one
-unfoldable pub settlementText : SettlementAnswer → List ℤ → List Pesos → List ℕ
-settlementText answer transfers balances =
-    outcomeLine settleName (settlementNumber answer)
-    ++ cond (eqb (settlementNumber answer) 0) (transferRows transfers balances) (changedText transfers)
+unfoldable pub settlementText : Verdict → List ℤ → List Pesos → List ℕ
+settlementText verdict transfers balances =
+    outcomeLine settleName (verdictAnswered [] verdict .number)
+    ++ cond (isPassed verdict) (transferRows transfers balances) (changedText transfers)
 
 -- a list: its name, its count and its words
 unfoldable pub listText : List ℕ → List ℕ → List ℕ

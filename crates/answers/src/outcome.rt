@@ -2,7 +2,8 @@
 ghost use mathlib.Core.Path.{_≡_};
 ghost use Rattle.text.specs.Buffer.{bufferOf, written};
 ghost use Rattle.answers.specs.Answer.{outcome, outcomeLine, openingText, loadingText, errorText, allUnwritten, changedText};
-use ledger::open::OpeningAnswer;
+use numbers::refusal::Verdict;
+use numbers::refusal::verdict_number;
 use text::number::write_named;
 use text::write::write_byte;
 use text::write::write_text;
@@ -35,10 +36,10 @@ pub(crate) fn write_outcome_line(
 }
 
 // Writes the answer of an opening.
-pub fn write_opening(buffer: &mut [u8], count: usize, answer: OpeningAnswer) -> usize
-    ensures { λ r. ⌜ bufferOf (now (buffer .exit)) r ≡ written (openingText answer) (bufferOf (now (buffer .entry)) count) ⌝ }
+pub fn write_opening(buffer: &mut [u8], count: usize, verdict: Verdict) -> usize
+    ensures { λ r. ⌜ bufferOf (now (buffer .exit)) r ≡ written (openingText verdict) (bufferOf (now (buffer .entry)) count) ⌝ }
 {
-    write_outcome_line(buffer, count, b"open", ledger::open::number(answer))
+    write_outcome_line(buffer, count, b"open", verdict_number(verdict))
 }
 
 // Writes the answer of a loading, which is never refused.

@@ -2,12 +2,13 @@
 ghost use mathlib.Core.Path.{_≡_};
 ghost use Prim.Native.Nat.{_<_, _/_};
 ghost use lib.ListN.{length};
+ghost use Rattle.numbers.specs.Refusal.{refusalAnswered};
 ghost use Rattle.text.specs.Buffer.{bufferOf, written};
 ghost use Rattle.answers.specs.Answer.{fixedText, placeText, detailText, priceRow, priceRows, fixingText};
 use crate::outcome::write_changed;
 use crate::outcome::write_outcome;
-use fixing::verdict::Verdict;
 use ledger::fix::FixingAnswer;
+use numbers::refusal::Refusal;
 use numbers::units::PesoPrice;
 use numbers::units::Pesos;
 use text::number::write_decimal;
@@ -35,15 +36,15 @@ fn write_fixed(
 }
 
 // Writes the place of a refusal that has one.
-fn write_place(buffer: &mut [u8], count: usize, verdict: Verdict) -> usize
-    ensures { λ r. ⌜ bufferOf (now (buffer .exit)) r ≡ written (placeText verdict) (bufferOf (now (buffer .entry)) count) ⌝ }
+fn write_place(buffer: &mut [u8], count: usize, refusal: Refusal) -> usize
+    ensures { λ r. ⌜ bufferOf (now (buffer .exit)) r ≡ written (placeText (refusalAnswered refusal .values)) (bufferOf (now (buffer .entry)) count) ⌝ }
 {
-    match verdict {
-        Verdict::MonthMissing { line, term } => {
+    match refusal {
+        Refusal::MonthMissing { line, term } => {
             let end = write_named(buffer, count, b" line", line as u64);
             write_named(buffer, end, b" term", term as u64)
         }
-        Verdict::OutOfBounds { line } => write_named(buffer, count, b" line", line as u64),
+        Refusal::OutOfBounds { line } => write_named(buffer, count, b" line", line as u64),
         _ => count,
     }
 }
@@ -59,8 +60,7 @@ fn write_detail(buffer: &mut [u8], count: usize, answer: FixingAnswer) -> usize
             rounds,
             residue,
         } => write_fixed(buffer, count, limit, surcharge, rounds, residue),
-        FixingAnswer::Rejected(verdict) => write_place(buffer, count, verdict),
-        _ => count,
+        FixingAnswer::Refused(refusal) => write_place(buffer, count, refusal),
     }
 }
 

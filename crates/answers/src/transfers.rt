@@ -6,7 +6,8 @@ ghost use Rattle.text.specs.Buffer.{bufferOf, written};
 ghost use Rattle.answers.specs.Answer.{transferRow, transferRows, settlementText};
 use crate::outcome::write_changed;
 use crate::outcome::write_outcome_line;
-use ledger::settle::SettlementAnswer;
+use numbers::refusal::Verdict;
+use numbers::refusal::verdict_number;
 use numbers::units::Pesos;
 use text::number::write_decimal;
 use text::number::write_signed_word;
@@ -52,16 +53,15 @@ fn write_transfer_rows(
 pub fn write_settlement(
     buffer: &mut [u8],
     count: usize,
-    answer: SettlementAnswer,
+    verdict: Verdict,
     transfers: &[i64],
     balances: [Pesos; 40],
 ) -> usize
-    ensures { λ r. ⌜ bufferOf (now (buffer .exit)) r ≡ written (settlementText answer (now (transfers .entry)) balances) (bufferOf (now (buffer .entry)) count) ⌝ }
+    ensures { λ r. ⌜ bufferOf (now (buffer .exit)) r ≡ written (settlementText verdict (now (transfers .entry)) balances) (bufferOf (now (buffer .entry)) count) ⌝ }
 {
-    let number = ledger::settle::number(answer);
-    let end = write_outcome_line(buffer, count, b"settle", number);
-    if number == 0 {
-        return write_transfer_rows(buffer, end, transfers, balances);
+    let end = write_outcome_line(buffer, count, b"settle", verdict_number(verdict));
+    match verdict {
+        Verdict::Passed => write_transfer_rows(buffer, end, transfers, balances),
+        Verdict::Refused(_) => write_changed(buffer, end, transfers),
     }
-    write_changed(buffer, end, transfers)
 }

@@ -14,16 +14,16 @@ use Rattle.journal.specs.declared.command.Command.{Command}
 use Rattle.journal.specs.declared.command.Command.the-variants.{Open, Fix, Settle, Save, Load, Unknown, End}
 use Rattle.journal.specs.declared.command.CommandRead.{CommandRead}
 use Rattle.journal.proofs.CommandLaws.{fix-prices-most}
-use Rattle.ledger.specs.Ledger.{openingOf}
+use Rattle.ledger.specs.Ledger.{openingVerdict}
 use Rattle.ledger.specs.Fix.{fixingAnswer, fixingList}
-use Rattle.ledger.specs.Settle.{settlementAnswer, settlementLedger, settlementList}
+use Rattle.ledger.specs.Settle.{settlementVerdict, settlementLedger, settlementList}
 use Rattle.ledger.specs.declared.book.Ledger.{Ledger}
 use Rattle.ledger.proofs.CallLaws.{fixing-list-length}
 use Rattle.text.specs.Buffer.{bufferOf, written}
 use Rattle.text.proofs.BufferLaws.{Stands, text-stands}
 use Rattle.text.proofs.SizeLaws.{choice-size}
 use Rattle.answers.proofs.SizeLaws.{opening-size, loading-size, fixing-size, settlement-size, saving-size}
-use Rattle.commands.specs.Replay.{unwritten, fixingCall, settlementCall, commandNext, commandLedger, stepOf, stepAfter, fixingAnswered, settlementAnswered, commandAnswer, answerOf, answerAfter, longestAnswer, unansweredBy, CallMade, CommandMade, CommandAnswered}
+use Rattle.commands.specs.Replay.{unwritten, fixingCall, settlementCall, commandNext, commandLedger, stepOf, stepAfter, fixingPrinted, settlementPrinted, commandAnswer, answerOf, answerAfter, longestAnswer, unansweredBy, CallMade, CommandMade, CommandAnswered}
 use Rattle.commands.specs.declared.call.Made.{Made}
 use Rattle.commands.specs.declared.run.Answered.{Answered}
 use Rattle.commands.proofs.ReplayLaws.{stepBy, step-broken, step-made, step-read}
@@ -38,13 +38,13 @@ lent-few text cursor = rw list-length (fix-prices-most text cursor)
 
 -- no answer is longer than the buffer
 answer-size : (command : Command) (text : List ℕ) (cursor : Cursor) (book : Ledger) → length (commandAnswer command text cursor book) ≤ longestAnswer
-unfolding fixingAnswered settlementAnswered
-answer-size Open text cursor book = opening-size (openingOf (numberAfter text cursor mostWord .value) .answer)
+unfolding fixingPrinted settlementPrinted
+answer-size Open text cursor book = opening-size (openingVerdict (numberAfter text cursor mostWord .value))
 answer-size Fix text cursor book =
     fixing-size (fixingAnswer book (fixingCall text cursor)) (fixingList book (fixingCall text cursor)) (rw (fixing-list-length book (fixingCall text cursor)) (lent-few text cursor))
 answer-size Settle text cursor book =
     let call = settlementCall text cursor in
-    settlement-size (settlementAnswer book call) (settlementList book call) (settlementLedger book call .balances)
+    settlement-size (settlementVerdict book call) (settlementList book call) (settlementLedger book call .balances)
 answer-size Save text cursor book = saving-size book
 answer-size Load text cursor book = loading-size
 answer-size Unknown text cursor book = omega arith

@@ -25,8 +25,9 @@ use Rattle.journal.specs.declared.command.LoadRead.{LoadRead}
 use Rattle.journal.proofs.TokenLaws.{token-start-least, token-start-most, token-end-least, token-some}
 use Rattle.journal.proofs.CursorLaws.{onward-same, onward-number}
 use Rattle.journal.proofs.CommandLaws.{command-within, onward-fix, onward-settle, onward-load, fix-prices-most, settle-transfers-most}
+use Rattle.numbers.specs.Checks.{verdictOf}
 use Rattle.numbers.specs.Units.{between}
-use Rattle.ledger.specs.Ledger.{emptyLedger, openingOf}
+use Rattle.ledger.specs.Ledger.{emptyLedger, openingChecks, openingVerdict, openingLedger}
 use Rattle.ledger.specs.Fix.{callOf as fixingCallOf}
 use Rattle.ledger.specs.Settle.{callOf as settlementCallOf}
 use Rattle.ledger.specs.declared.book.Ledger.{Ledger}
@@ -201,8 +202,8 @@ module _ (text : List ℕ) (at : ℕ) (p : at < length text) (book : Ledger) (st
       (enough (length text - (at + 1)) (length text - step .next .at) text (step .next .at) (step .ledger) (omega arith) (omega arith))
 
 -- before any command the ledger is the all-zero one
-pub opened-none : openingOf 0 .ledger ≡ emptyLedger 0
-unfolding openingOf between
+pub opened-none : openingLedger 0 ≡ emptyLedger 0
+unfolding openingLedger openingVerdict openingChecks verdictOf between
 opened-none = refl
 
 -- a text that is not too long, and one that is

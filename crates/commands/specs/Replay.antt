@@ -16,10 +16,10 @@ use Rattle.journal.specs.Command.{fixSeriesFrom, fixLinesFrom, fixSectorsFrom, 
 use Rattle.journal.specs.declared.cursor.Cursor.{Cursor}
 use Rattle.journal.specs.declared.command.Command.{Command}
 use Rattle.journal.specs.declared.command.Command.the-variants.{Open, Fix, Settle, Save, Load, Unknown, End}
-use Rattle.ledger.specs.Ledger.{emptyLedger, openingOf}
+use Rattle.ledger.specs.Ledger.{emptyLedger, openingVerdict, openingLedger}
 use Rattle.ledger.specs.Fix.{FixingCall, fixingAnswer, fixingLedger, fixingList}
 use Rattle.ledger.specs.Fix.{callOf as fixingCallOf}
-use Rattle.ledger.specs.Settle.{SettlementCall, settlementAnswer, settlementLedger, settlementList}
+use Rattle.ledger.specs.Settle.{SettlementCall, settlementVerdict, settlementLedger, settlementList}
 use Rattle.ledger.specs.Settle.{callOf as settlementCallOf}
 use Rattle.ledger.specs.declared.book.Ledger.{Ledger}
 use Rattle.store.specs.Store.{loadedLedger}
@@ -73,7 +73,7 @@ commandNext End text cursor = cursor
 
 -- the ledger after a command. "A refused `open` leaves the all-zero ledger"
 abbrev pub commandLedger : Command → List ℕ → Cursor → Ledger → Ledger
-commandLedger Open text cursor book = openingOf (numberAfter text cursor mostWord .value) .ledger
+commandLedger Open text cursor book = openingLedger (numberAfter text cursor mostWord .value)
 commandLedger Fix text cursor book = fixingLedger book (fixingCall text cursor)
 commandLedger Settle text cursor book = settlementLedger book (settlementCall text cursor)
 commandLedger Save text cursor book = book
@@ -82,18 +82,18 @@ commandLedger Unknown text cursor book = book
 commandLedger End text cursor book = book
 
 -- what a fixing and a settlement answer
-unfoldable pub fixingAnswered : Ledger → FixingCall → List ℕ
-fixingAnswered book call = fixingText (fixingAnswer book call) (fixingList book call)
+unfoldable pub fixingPrinted : Ledger → FixingCall → List ℕ
+fixingPrinted book call = fixingText (fixingAnswer book call) (fixingList book call)
 
-unfoldable pub settlementAnswered : Ledger → SettlementCall → List ℕ
-settlementAnswered book call =
-    settlementText (settlementAnswer book call) (settlementList book call) (settlementLedger book call .balances)
+unfoldable pub settlementPrinted : Ledger → SettlementCall → List ℕ
+settlementPrinted book call =
+    settlementText (settlementVerdict book call) (settlementList book call) (settlementLedger book call .balances)
 
 -- what a command answers
 abbrev pub commandAnswer : Command → List ℕ → Cursor → Ledger → List ℕ
-commandAnswer Open text cursor book = openingText (openingOf (numberAfter text cursor mostWord .value) .answer)
-commandAnswer Fix text cursor book = fixingAnswered book (fixingCall text cursor)
-commandAnswer Settle text cursor book = settlementAnswered book (settlementCall text cursor)
+commandAnswer Open text cursor book = openingText (openingVerdict (numberAfter text cursor mostWord .value))
+commandAnswer Fix text cursor book = fixingPrinted book (fixingCall text cursor)
+commandAnswer Settle text cursor book = settlementPrinted book (settlementCall text cursor)
 commandAnswer Save text cursor book = savingText book
 commandAnswer Load text cursor book = loadingText
 commandAnswer Unknown text cursor book = []

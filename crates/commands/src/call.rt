@@ -5,7 +5,7 @@ ghost use Rattle.ledger.specs.Fix.{fixingLedger};
 ghost use Rattle.ledger.specs.Fix.{callOf as fixingCallOf};
 ghost use Rattle.ledger.specs.Settle.{settlementLedger};
 ghost use Rattle.ledger.specs.Settle.{callOf as settlementCallOf};
-ghost use Rattle.commands.specs.Replay.{unwritten, fixingAnswered, settlementAnswered, CallMade};
+ghost use Rattle.commands.specs.Replay.{unwritten, fixingPrinted, settlementPrinted, CallMade};
 use answers::outcome::UNWRITTEN;
 use answers::prices::write_fixing;
 use answers::transfers::write_settlement;
@@ -41,7 +41,7 @@ pub fn make_fixing(
     prices: &mut [i64],
     buffer: &mut [u8],
 ) -> Made
-    ensures { λ r. ⌜ (let call = fixingCallOf (read .month) (read .dollar) (read .factor) (read .first) (now (series .entry)) (now (lines .entry)) (now (sectors .entry)) (unwritten (length (now (prices .entry)))) in CallMade r (fixingLedger ledger call) (fixingAnswered ledger call) (now (buffer .entry)) (now (buffer .exit))) ⌝ }
+    ensures { λ r. ⌜ (let call = fixingCallOf (read .month) (read .dollar) (read .factor) (read .first) (now (series .entry)) (now (lines .entry)) (now (sectors .entry)) (unwritten (length (now (prices .entry)))) in CallMade r (fixingLedger ledger call) (fixingPrinted ledger call) (now (buffer .entry)) (now (buffer .exit))) ⌝ }
 {
     lend(prices);
     let outcome = fix(
@@ -70,13 +70,13 @@ pub fn make_settlement(
     transfers: &mut [i64],
     buffer: &mut [u8],
 ) -> Made
-    ensures { λ r. ⌜ (let call = settlementCallOf month (now (readings .entry)) (now (losses .entry)) (unwritten (length (now (transfers .entry)))) in CallMade r (settlementLedger ledger call) (settlementAnswered ledger call) (now (buffer .entry)) (now (buffer .exit))) ⌝ }
+    ensures { λ r. ⌜ (let call = settlementCallOf month (now (readings .entry)) (now (losses .entry)) (unwritten (length (now (transfers .entry)))) in CallMade r (settlementLedger ledger call) (settlementPrinted ledger call) (now (buffer .entry)) (now (buffer .exit))) ⌝ }
 {
     lend(transfers);
     let outcome = settle(ledger, month, readings, losses, transfers);
-    let answer = outcome.answer;
+    let verdict = outcome.verdict;
     let ledger = outcome.ledger;
     let balances = ledger.balances;
-    let count = write_settlement(buffer, 0, answer, transfers, balances);
+    let count = write_settlement(buffer, 0, verdict, transfers, balances);
     Made { ledger, count }
 }

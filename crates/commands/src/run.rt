@@ -72,9 +72,9 @@ fn run_open(text: &[u8], cursor: Cursor, ledger: Ledger, buffer: &mut [u8]) -> A
         return unanswered(ledger, next);
     }
     let opening = open(read.value as usize);
-    let answer = opening.answer;
+    let verdict = opening.verdict;
     let ledger = opening.ledger;
-    let count = write_opening(buffer, 0, answer);
+    let count = write_opening(buffer, 0, verdict);
     let step = Step { ledger, next };
     Answered { step, count }
 }

@@ -1,6 +1,7 @@
 // What a call that may be refused answers: that it passed, or one of the refusals of 01's table, "Refusals by cause".
 ghost use mathlib.Core.Path.{_≡_};
-ghost use Rattle.numbers.specs.Refusal.{refusalAnswered};
+ghost use mathlib.Core.List.{[]};
+ghost use Rattle.numbers.specs.Refusal.{refusalAnswered, verdictAnswered};
 
 // In the order of the table.
 pub enum Refusal {
@@ -42,5 +43,15 @@ pub fn number(refusal: Refusal) -> u64
         Refusal::OutOfBounds { line: _ } => 11,
         Refusal::WrongReading => 12,
         Refusal::PositionBeyond => 13,
+    }
+}
+
+// 01's number of a verdict: 0 where it is passed.
+pub fn verdict_number(verdict: Verdict) -> u64
+    ensures { λ r. ⌜ r ≡ verdictAnswered [] verdict .number ⌝ }
+{
+    match verdict {
+        Verdict::Passed => 0,
+        Verdict::Refused(refusal) => number(refusal),
     }
 }

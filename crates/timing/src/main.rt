@@ -5,8 +5,8 @@ use ledger::fix::FixingOutcome;
 use ledger::fix::fix;
 use ledger::fix::number as fixing_number;
 use ledger::open::open;
-use ledger::settle::number as settlement_number;
 use ledger::settle::settle;
+use numbers::refusal::verdict_number;
 use libc::STDOUT_FILENO;
 
 const LINES: usize = 256;
@@ -77,8 +77,8 @@ fn settle_once(book: Ledger) -> u64 {
     let losses = [10500u64; 80];
     let mut transfers = [0i64; 40];
     let outcome = settle(book, 20, &readings, &losses, &mut transfers);
-    let answer = outcome.answer;
-    if settlement_number(answer) == 0 { 1 } else { 0 }
+    let verdict = outcome.verdict;
+    if verdict_number(verdict) == 0 { 1 } else { 0 }
 }
 
 // How many of each were accepted up to the last.

@@ -8,7 +8,7 @@ returns : tie.Need-returns
 unfolding openingText
 returns c =
     let w = c .before .before in
-    rw (w .before .number .ensures) at (w .write-outcome-line .ensures)
+    rw (w .before .verdict-number .ensures) at (w .write-outcome-line .ensures)
 
 pub write-opening-spec : {M : Type 1} → statement M
 write-opening-spec =

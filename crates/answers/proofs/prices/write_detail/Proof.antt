@@ -1,13 +1,8 @@
-use mathlib.Core.Path.{refl}
-use Rattle.text.specs.Buffer.{written}
-use Rattle.answers.proofs.AnswerLaws.{detail-none}
 -- By the variant that was matched.
 use Rattle.answers.specs.Answer.{detailText}
 use borrow.Author.Needs.{needs}
 use Rattle.answers.proofs.prices.write_detail.Statement.{statement}
 use Rattle.answers.proofs.prices.write_detail.Tie as tie
-use Rattle.answers.proofs.prices.write_fixed.Reads as write-fixed-reads
-use Rattle.answers.proofs.prices.write_place.Reads as write-place-reads
 
 returns : tie.Need-returns
 unfolding detailText
@@ -21,10 +16,6 @@ returns-2 c =
     let w = c .before .before in
     rw (w .before .before .before .answer2 .given .1) (w .write-place .ensures)
 
-returns-3 : tie.Need-returns-3
-unfolding written
-returns-3 c = let s = c .before .before in rw (detail-none (s .args .answer) (c .match .keys3)) refl
-
 pub write-detail-spec : {M : Type 1} → statement M
 write-detail-spec =
     tie.close
@@ -32,5 +23,4 @@ write-detail-spec =
     (λ c. search needs) (λ c κs. search needs) (λ c. search needs) (λ c κs. search needs) (λ c. search needs)
     returns
     (λ c. search needs)
-    returns-2
-    returns-3)
+    returns-2)

@@ -14,17 +14,17 @@ unfolding placeText
 returns c =
     let w = c .before .before in
     let x = w .before .before .before .before .before in
-    rw (x .before .before .before .before .verdict .given .1) (written-after _ _ _ _ _ (x .write-named .ensures) (w .write-named2 .ensures))
+    rw (x .before .before .before .before .refusal .given .1) (written-after _ _ _ _ _ (x .write-named .ensures) (w .write-named2 .ensures))
 
 returns-2 : tie.Need-returns-2
 unfolding placeText
 returns-2 c =
     let w = c .before .before in
-    rw (w .before .before .before .before .verdict2 .given .1) (w .write-named3 .ensures)
+    rw (w .before .before .before .before .refusal2 .given .1) (w .write-named3 .ensures)
 
 returns-3 : tie.Need-returns-3
-unfolding written
-returns-3 c = let s = c .before .before in rw (place-none (s .args .verdict) (c .match .keys3)) refl
+unfolding written placeText
+returns-3 c = let s = c .before .before in rw (place-none (s .args .refusal) (c .match .keys3)) refl
 
 pub write-place-spec : {M : Type 1} → statement M
 write-place-spec =

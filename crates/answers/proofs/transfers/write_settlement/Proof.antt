@@ -1,5 +1,6 @@
 -- The line, then the rows under an accepted settlement.
-use borrow.Author.Tests.{eq-eqb, ne-eqb}
+use mathlib.Core.Path.{ap}
+use Rattle.numbers.specs.Refusal.{isPassed}
 use Rattle.text.proofs.BufferLaws.{written-after}
 use Rattle.answers.specs.Answer.{settlementText}
 use borrow.Author.Needs.{needs}
@@ -11,24 +12,23 @@ unfolding settlementText
 returns c =
     let v = c .before .before in
     let t = v .before .before in
-    let y = t .before .before .before in
-    let n = y .before .before .before in
-    rw (← n .number .ensures, eq-eqb _ 0 (t .if1 .taken)) (written-after _ _ _ _ _ (y .write-outcome-line .ensures) (v .write-transfer-rows .ensures))
+    let y = t .before .before .before .before in
+    rw (← y .before .verdict-number .ensures, ap isPassed (t .enum-told .given .1)) (written-after _ _ _ _ _ (y .write-outcome-line .ensures) (v .write-transfer-rows .ensures))
 
 returns-2 : tie.Need-returns-2
 unfolding settlementText
 returns-2 c =
     let v = c .before .before in
     let t = v .before .before in
-    let y = t .before .before .before in
-    let n = y .before .before .before in
-    rw (← n .number .ensures, ne-eqb _ 0 (t .if1 .left)) (written-after _ _ _ _ _ (y .write-outcome-line .ensures) (v .write-changed .ensures))
+    let y = t .before .before .before .before in
+    rw (← y .before .verdict-number .ensures, ap isPassed (t .enum-told2 .given .1)) (written-after _ _ _ _ _ (y .write-outcome-line .ensures) (v .write-changed .ensures))
 
 pub write-settlement-spec : {M : Type 1} → statement M
 write-settlement-spec =
     tie.close
     (tie.spec
-    (λ c κs. search needs) (λ c. search needs) (λ c κs. search needs) (λ c κs. search needs) (λ c. search needs)
+    (λ c. search needs) (λ c κs. search needs) (λ c κs. search needs) (λ c. search needs) (λ c κs. search needs) (λ c. search needs) (λ c κs. search needs)
+    (λ c. search needs)
     returns
-    (λ c κs. search needs) (λ c. search needs)
+    (λ c. search needs)
     returns-2)

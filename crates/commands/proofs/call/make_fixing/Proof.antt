@@ -1,12 +1,12 @@
 -- The ledger and the answer are those of the open call, with the list as lent.
 use mathlib.Core.Path.{_∙_}
-use Rattle.commands.specs.Replay.{fixingAnswered}
+use Rattle.commands.specs.Replay.{fixingPrinted}
 use borrow.Author.Needs.{needs}
 use Rattle.commands.proofs.call.make_fixing.Statement.{statement}
 use Rattle.commands.proofs.call.make_fixing.Tie as tie
 
 returns : tie.Need-returns
-unfolding fixingAnswered
+unfolding fixingPrinted
 returns c =
     let w = c .before .before in
     let f = w .before .before .before .before .before in

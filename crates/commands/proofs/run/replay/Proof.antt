@@ -1,7 +1,6 @@
 -- Of a text too long only its length is told; another is run.
 use mathlib.Core.Path.{_≡_, _∙_, ap}
 use mathlib.Core.Logic.{⊎-elim}
-use Rattle.ledger.specs.declared.open.Opening.{Opening}
 use Rattle.commands.specs.Replay.{replayed}
 use Rattle.commands.proofs.ReplayLaws.{opened-none, long}
 use borrow.Author.Needs.{needs}
@@ -11,7 +10,7 @@ use Rattle.commands.proofs.run.replay.Tie as tie
 told : (j : tie.Joined1) → j .if1 .step ≡ replayed (j .before .before .args .text .now)
 told j =
     ⊎-elim
-    (λ w. w .4 ∙ long (j .before .before .args .text .now) (w .0 .taken) _ _ (ap (λ (o : Opening). o .ledger) (w .1 .ensures) ∙ opened-none) (w .3 .ensures))
+    (λ w. w .4 ∙ long (j .before .before .args .text .now) (w .0 .taken) _ _ (w .1 .ensures .opened ∙ opened-none) (w .3 .ensures))
     (λ w. w .2 ∙ w .1 .ensures)
     (j .if1 .came)
 

@@ -6,7 +6,6 @@ use native.Mathlib.Omega.{arith}
 use lib.ListN.{length}
 use lib.Seq.{length-take-le}
 use Rattle.ledger.specs.Ledger.{emptyLedger}
-use Rattle.ledger.specs.declared.open.Opening.{Opening}
 use Rattle.commands.specs.Replay.{longestAnswer, stepAfter, replayFrom}
 use Rattle.commands.proofs.ReplayLaws.{stepBy, next-within, next-later, replay-none, replay-broken, replay-on, opened-none, short}
 use borrow.Author.Needs.{needs}
@@ -40,7 +39,7 @@ loop-holds c =
     let e : length text - 0 ≡ length text = omega arith in (
       omega arith,
       c .before .before .answer-buffer .ensures,
-      ap₂ (λ k book. replayFrom k text 0 book) e (ap (λ (o : Opening). o .ledger) (c .before .open .ensures) ∙ opened-none),
+      ap₂ (λ k book. replayFrom k text 0 book) e (c .before .open .ensures .opened ∙ opened-none),
     )
 
 slice-aggregate-run-command : tie.Need-slice-aggregate-run-command Inv-loop μ-loop

@@ -10,7 +10,7 @@ use Rattle.journal.specs.declared.command.Command.the-variants.{Fix}
 use Rattle.journal.specs.declared.command.FixRead.{FixRead}
 use Rattle.journal.proofs.ListLaws.{words-first}
 use Rattle.ledger.specs.Fix.{fixingLedger}
-use Rattle.commands.specs.Replay.{fixingAnswered}
+use Rattle.commands.specs.Replay.{fixingPrinted}
 use Rattle.commands.proofs.AnswerLaws.{command-broken, call-made}
 use Rattle.commands.proofs.ReplayLaws.{seriesWords, lineWords, sectorWords, prices-most, fixing-made}
 use borrow.Author.Needs.{needs}
@@ -75,7 +75,7 @@ returns-2 c =
     let made = fixing-made _ _ (read d) (d .read-fix .ensures .0) _ _ _ _ (seriesRead d .first) (linesRead d .first) (sectorsRead d .first) (length-take-le _ _ (pricesLong d)) in
     call-made Fix _ _ _ _ (ap (λ r. r .next) (d .read-fix .ensures .0)) (m .before .before .before .before .before .before .if1 .left) _ _ _ _ _ (m .make-fixing .ensures)
     (ap (fixingLedger (s d .args .ledger)) made)
-    (ap (fixingAnswered (s d .args .ledger)) made)
+    (ap (fixingPrinted (s d .args .ledger)) made)
 
 pub run-fix-spec : {M : Type 1} → statement M
 run-fix-spec =

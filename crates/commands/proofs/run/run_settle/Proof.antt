@@ -10,7 +10,7 @@ use Rattle.journal.specs.declared.command.Command.the-variants.{Settle}
 use Rattle.journal.specs.declared.command.SettleRead.{SettleRead}
 use Rattle.journal.proofs.ListLaws.{words-first}
 use Rattle.ledger.specs.Settle.{settlementLedger}
-use Rattle.commands.specs.Replay.{settlementAnswered}
+use Rattle.commands.specs.Replay.{settlementPrinted}
 use Rattle.commands.proofs.AnswerLaws.{command-broken, call-made}
 use Rattle.commands.proofs.ReplayLaws.{readingWords, lossWords, transfers-most, settlement-made}
 use borrow.Author.Needs.{needs}
@@ -65,7 +65,7 @@ returns-2 c =
     let made = settlement-made _ _ (read d) (d .read-settle .ensures .0) _ _ _ (readingsRead d .first) (lossesRead d .first) (length-take-le _ _ (transfersLong d)) in
     call-made Settle _ _ _ _ (ap (λ r. r .next) (d .read-settle .ensures .0)) (m .before .before .before .before .before .if1 .left) _ _ _ _ _ (m .make-settlement .ensures)
     (ap (settlementLedger (s d .args .ledger)) made)
-    (ap (settlementAnswered (s d .args .ledger)) made)
+    (ap (settlementPrinted (s d .args .ledger)) made)
 
 pub run-settle-spec : {M : Type 1} → statement M
 run-settle-spec =
