@@ -28,8 +28,8 @@ use Rattle.journal.proofs.CommandLaws.{command-within, onward-fix, onward-settl
 use Rattle.numbers.specs.Checks.{verdictOf}
 use Rattle.numbers.specs.Units.{between}
 use Rattle.ledger.specs.Ledger.{emptyLedger, openingChecks, openingVerdict, openingLedger}
-use Rattle.ledger.specs.Fix.{callOf as fixingCallOf}
-use Rattle.ledger.specs.Settle.{callOf as settlementCallOf}
+use Rattle.ledger.specs.Fix.{fixingCallOf}
+use Rattle.ledger.specs.Settle.{settlementCallOf}
 use Rattle.ledger.specs.declared.book.Ledger.{Ledger}
 use Rattle.store.specs.Store.{loadedLedger}
 use Rattle.commands.specs.Replay.{unwritten, fixingCall, settlementCall, keptLedger, commandNext, commandLedger, stepOf, stepAfter, readWith, replayFrom, longestText, replayed}

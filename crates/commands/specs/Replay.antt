@@ -17,10 +17,8 @@ use Rattle.journal.specs.declared.cursor.Cursor.{Cursor}
 use Rattle.journal.specs.declared.command.Command.{Command}
 use Rattle.journal.specs.declared.command.Command.the-variants.{Open, Fix, Settle, Save, Load, Unknown, End}
 use Rattle.ledger.specs.Ledger.{emptyLedger, openingVerdict, openingLedger}
-use Rattle.ledger.specs.Fix.{FixingCall, fixingAnswer, fixingLedger, fixingList}
-use Rattle.ledger.specs.Fix.{callOf as fixingCallOf}
-use Rattle.ledger.specs.Settle.{SettlementCall, settlementVerdict, settlementLedger, settlementList}
-use Rattle.ledger.specs.Settle.{callOf as settlementCallOf}
+use Rattle.ledger.specs.Fix.{FixingCall, fixingCallOf, fixingAnswer, fixingLedger, fixingList}
+use Rattle.ledger.specs.Settle.{SettlementCall, settlementCallOf, settlementVerdict, settlementLedger, settlementList}
 use Rattle.ledger.specs.declared.book.Ledger.{Ledger}
 use Rattle.store.specs.Store.{loadedLedger}
 use Rattle.text.specs.Buffer.{bufferOf, written}

@@ -1,10 +1,8 @@
 // The calls of the commands, and their answers.
 ghost use mathlib.Core.Path.{_≡_};
 ghost use lib.ListN.{length};
-ghost use Rattle.ledger.specs.Fix.{fixingLedger};
-ghost use Rattle.ledger.specs.Fix.{callOf as fixingCallOf};
-ghost use Rattle.ledger.specs.Settle.{settlementLedger};
-ghost use Rattle.ledger.specs.Settle.{callOf as settlementCallOf};
+ghost use Rattle.ledger.specs.Fix.{fixingCallOf, fixingLedger};
+ghost use Rattle.ledger.specs.Settle.{settlementCallOf, settlementLedger};
 ghost use Rattle.commands.specs.Replay.{unwritten, fixingPrinted, settlementPrinted, CallMade};
 use answers::outcome::UNWRITTEN;
 use answers::prices::write_fixing;

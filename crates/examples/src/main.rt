@@ -1,5 +1,10 @@
-// Outside vectors through the engine. The 33 prices that the commission printed in dollars and in pesos (source document
-// 000, table 4; vectors/node-prices.csv): each goes through the peso step, and the stored output is the print.
+// The class examples of document 01 as one statement; and outside vectors through the engine: the 33 prices that the
+// commission printed in dollars and in pesos (source document 000, table 4; vectors/node-prices.csv), each through the
+// peso step. The stored output is the print.
+ghost use mathlib.Core.Path.{_≡_};
+ghost use mathlib.Core.Bool.{true};
+ghost use Rattle.examples.specs.Table.{allHold};
+ghost use Rattle.examples.specs.ClassExamples.{classExamples};
 use libc::STDOUT_FILENO;
 use supply::price::peso_price;
 
@@ -54,7 +59,14 @@ fn print_price(price: u64) {
     }
 }
 
+// The twelve class examples of document 01, through the open calls' own definitions: every value is the printed one. The
+// function does nothing; its ensures is the statement.
+fn class_examples_hold()
+    ensures { λ r. ⌜ allHold classExamples ≡ true ⌝ }
+{}
+
 fn main() {
+    class_examples_hold();
     let mut i: usize = 0;
     while i < 33 {
         print_price(PRICES[i]);

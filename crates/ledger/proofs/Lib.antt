@@ -1,3 +1,4 @@
+pub mod ExampleLaws
 pub mod SoundLaws
 pub mod PassedLaws
 pub mod OpenLaws

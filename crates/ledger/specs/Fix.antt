@@ -36,8 +36,8 @@ pub record FixingCall : Type 0 where
   pub prices : List ℤ
 
 -- a call from its parts
-abbrev pub callOf : ℕ → ℕ → ℕ → ℕ → List ℕ → List ℕ → List ℕ → List ℤ → FixingCall
-callOf month dollar factor first series lines sectors prices =
+abbrev pub fixingCallOf : ℕ → ℕ → ℕ → ℕ → List ℕ → List ℕ → List ℕ → List ℤ → FixingCall
+fixingCallOf month dollar factor first series lines sectors prices =
     record { input = inputOf month dollar factor first series lines sectors; prices = prices }
 
 -- "a lent list of wrong length or line count": whole lines, 1 to 256 of them

@@ -3,3 +3,4 @@ pub mod Sound
 pub mod Turn
 pub mod Fix
 pub mod Settle
+pub mod Example

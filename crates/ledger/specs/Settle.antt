@@ -30,8 +30,8 @@ pub record SettlementCall : Type 0 where
   pub transfers : List ℤ
 
 -- a call from its parts
-abbrev pub callOf : ℕ → List ℕ → List ℕ → List ℤ → SettlementCall
-callOf month readings losses transfers =
+abbrev pub settlementCallOf : ℕ → List ℕ → List ℕ → List ℤ → SettlementCall
+settlementCallOf month readings losses transfers =
     record { month = month; readings = readings; losses = losses; transfers = transfers }
 
 -- "Readings: 32n words", "Loss factors .. 2n words", "Transfers, n signed words"

@@ -7,7 +7,7 @@ ghost use Rattle.numbers.specs.Bounded.{listBelow};
 ghost use Rattle.ledger.specs.Ledger.{fixedLedger};
 ghost use Rattle.ledger.specs.Turn.{fixingTurn};
 ghost use Rattle.ledger.specs.declared.fix.FixingAnswer.the-variants.{Refused};
-ghost use Rattle.ledger.specs.Fix.{callOf, linesWhole, fixingLengths, priceWord, PricesSmall, fixingAnswered, acceptedAnswer, FixingPromise};
+ghost use Rattle.ledger.specs.Fix.{fixingCallOf, linesWhole, fixingLengths, priceWord, PricesSmall, fixingAnswered, acceptedAnswer, FixingPromise};
 use crate::book::LAST_MONTH;
 use crate::book::Ledger;
 use crate::sound::sound;
@@ -61,7 +61,7 @@ fn lines_whole(lines: &[u64]) -> bool
 // Whether every lent list has its length.
 fn lengths_right(n: usize, series: &[u64], lines: &[u64], sectors: &[u64], prices: &[i64]) -> bool
     requires { ⌜ n ≤ 40 ⌝ }
-    ensures { λ r. ⌜ r ≡ fixingLengths n (callOf 0 0 0 0 (now (series .entry)) (now (lines .entry)) (now (sectors .entry)) (now (prices .entry))) ⌝ }
+    ensures { λ r. ⌜ r ≡ fixingLengths n (fixingCallOf 0 0 0 0 (now (series .entry)) (now (lines .entry)) (now (sectors .entry)) (now (prices .entry))) ⌝ }
 {
     series.len() == 240 && (lines_whole(lines) && (sectors.len() == n * 8 && prices.len() == n * 3))
 }
@@ -150,7 +150,7 @@ pub fn fix(
     sectors: &[u64],
     prices: &mut [i64],
 ) -> FixingOutcome
-    ensures { λ r. ⌜ FixingPromise ledger (callOf month dollar factor first (now (series .entry)) (now (lines .entry)) (now (sectors .entry)) (now (prices .entry))) (r .answer) (r .ledger) (now (prices .exit)) ⌝ }
+    ensures { λ r. ⌜ FixingPromise ledger (fixingCallOf month dollar factor first (now (series .entry)) (now (lines .entry)) (now (sectors .entry)) (now (prices .entry))) (r .answer) (r .ledger) (now (prices .exit)) ⌝ }
 {
     if !sound(ledger) {
         return refused(Refusal::Unsound, ledger);

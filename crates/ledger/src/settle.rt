@@ -8,7 +8,7 @@ ghost use Rattle.numbers.specs.declared.refusal.Verdict.the-variants.{Refused};
 ghost use Rattle.settlement.specs.Month.{moneyAt};
 ghost use Rattle.ledger.specs.Ledger.{settledLedger};
 ghost use Rattle.ledger.specs.Turn.{settlementTurn};
-ghost use Rattle.ledger.specs.Settle.{callOf, settlementLengths, Due, SettlementPromise};
+ghost use Rattle.ledger.specs.Settle.{settlementCallOf, settlementLengths, Due, SettlementPromise};
 use crate::book::LAST_MONTH;
 use crate::book::Ledger;
 use crate::sound::sound;
@@ -42,7 +42,7 @@ impl Ledger {
 // Whether every lent list has its length.
 fn lengths_right(n: usize, readings: &[u64], losses: &[u64], transfers: &[i64]) -> bool
     requires { ⌜ n ≤ 40 ⌝ }
-    ensures { λ r. ⌜ r ≡ settlementLengths n (callOf 0 (now (readings .entry)) (now (losses .entry)) (now (transfers .entry))) ⌝ }
+    ensures { λ r. ⌜ r ≡ settlementLengths n (settlementCallOf 0 (now (readings .entry)) (now (losses .entry)) (now (transfers .entry))) ⌝ }
 {
     readings.len() == n * 32 && (losses.len() == n * 2 && transfers.len() == n)
 }
@@ -94,8 +94,8 @@ fn settle_month(
     losses: &[u64],
     transfers: &mut [i64],
 ) -> SettlementOutcome
-    requires { ⌜ Due ledger (callOf month (now readings) (now losses) (now transfers)) ⌝ }
-    ensures { λ r. ⌜ SettlementPromise ledger (callOf month (now (readings .entry)) (now (losses .entry)) (now (transfers .entry))) (r .verdict) (r .ledger) (now (transfers .exit)) ⌝ }
+    requires { ⌜ Due ledger (settlementCallOf month (now readings) (now losses) (now transfers)) ⌝ }
+    ensures { λ r. ⌜ SettlementPromise ledger (settlementCallOf month (now (readings .entry)) (now (losses .entry)) (now (transfers .entry))) (r .verdict) (r .ledger) (now (transfers .exit)) ⌝ }
 {
     let n = ledger.n;
     let force = ledger.force;
@@ -129,7 +129,7 @@ pub fn settle(
     losses: &[u64],
     transfers: &mut [i64],
 ) -> SettlementOutcome
-    ensures { λ r. ⌜ SettlementPromise ledger (callOf month (now (readings .entry)) (now (losses .entry)) (now (transfers .entry))) (r .verdict) (r .ledger) (now (transfers .exit)) ⌝ }
+    ensures { λ r. ⌜ SettlementPromise ledger (settlementCallOf month (now (readings .entry)) (now (losses .entry)) (now (transfers .entry))) (r .verdict) (r .ledger) (now (transfers .exit)) ⌝ }
 {
     if !sound(ledger) {
         return refused(Refusal::Unsound, ledger);

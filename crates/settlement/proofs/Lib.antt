@@ -1,3 +1,4 @@
+pub mod ExampleLaws
 pub mod AmountLaws
 pub mod ShareLaws
 pub mod SettlementLaws

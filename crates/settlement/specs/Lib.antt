@@ -2,3 +2,4 @@ pub mod Amount
 pub mod Share
 pub mod Settlement
 pub mod Month
+pub mod Example

@@ -9,7 +9,7 @@ use Rattle.numbers.proofs.CheckLaws.{FirstPass, passes, refused-unless}
 use Rattle.fixing.specs.Input.{RightLengths}
 use Rattle.ledger.specs.Sound.{sound}
 use Rattle.ledger.specs.Turn.{fixingTurn}
-use Rattle.ledger.specs.Fix.{FixingCall, callOf, fixingLengths, fixingChecks, priceList}
+use Rattle.ledger.specs.Fix.{FixingCall, fixingCallOf, fixingLengths, fixingChecks, priceList}
 use Rattle.ledger.specs.declared.book.Ledger.{Ledger}
 use Rattle.ledger.proofs.SoundLaws.{sound-some, sound-few, sound-last}
 use Rattle.ledger.proofs.PassedLaws.{prices-small}
@@ -27,7 +27,7 @@ module _ (c : tie.Else1) where
   book = start .args .ledger
 
   abbrev call : FixingCall
-  call = callOf (start .args .month) (start .args .dollar) (start .args .factor) (start .args .first) (start .args .series .now) (start .args .lines .now) (start .args .sectors .now) (start .args .prices .now)
+  call = fixingCallOf (start .args .month) (start .args .dollar) (start .args .factor) (start .args .first) (start .args .series .now) (start .args .lines .now) (start .args .sectors .now) (start .args .prices .now)
 
   whole : sound book ≡ true
   whole = told-true (c .before .sound .ensures) (c .if1 .left)

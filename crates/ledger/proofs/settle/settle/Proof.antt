@@ -8,7 +8,7 @@ use Rattle.numbers.proofs.BoolLaws.{told-true, told-false}
 use Rattle.numbers.proofs.CheckLaws.{FirstPass, passes, refused-unless}
 use Rattle.ledger.specs.Sound.{sound}
 use Rattle.ledger.specs.Turn.{settlementTurn}
-use Rattle.ledger.specs.Settle.{SettlementCall, callOf, settlementLengths, settlementChecks}
+use Rattle.ledger.specs.Settle.{SettlementCall, settlementCallOf, settlementLengths, settlementChecks}
 use Rattle.ledger.specs.declared.book.Ledger.{Ledger}
 use Rattle.ledger.proofs.SoundLaws.{sound-few, sound-last}
 use Rattle.ledger.proofs.SettleLaws.{month-refused}
@@ -24,7 +24,7 @@ module _ (c : tie.Else1) where
   book = start .args .ledger
 
   abbrev call : SettlementCall
-  call = callOf (start .args .month) (start .args .readings .now) (start .args .losses .now) (start .args .transfers .now)
+  call = settlementCallOf (start .args .month) (start .args .readings .now) (start .args .losses .now) (start .args .transfers .now)
 
   whole : sound book ≡ true
   whole = told-true (c .before .sound .ensures) (c .if1 .left)

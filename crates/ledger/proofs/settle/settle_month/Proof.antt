@@ -9,7 +9,7 @@ use Rattle.settlement.specs.Amount.{billingInRange}
 use Rattle.settlement.specs.Settlement.{positionsInRange}
 use Rattle.settlement.specs.Month.{moneyAt}
 use Rattle.settlement.proofs.MonthLaws.{positions-within}
-use Rattle.ledger.specs.Settle.{SettlementCall, callOf, positionsOf, settlementChecks}
+use Rattle.ledger.specs.Settle.{SettlementCall, settlementCallOf, positionsOf, settlementChecks}
 use Rattle.ledger.specs.declared.book.Ledger.{Ledger}
 use Rattle.ledger.proofs.SoundLaws.{sound-few, sound-months, sound-balances}
 use Rattle.ledger.proofs.SettleLaws.{lists-due, transfers-length, first-due, billed-due, position-beyond, month-settled, month-refused}
@@ -23,7 +23,7 @@ module _ (s : tie.Start) where
   book = s .args .ledger
 
   abbrev call : SettlementCall
-  call = callOf (s .args .month) (s .args .readings .now) (s .args .losses .now) (s .args .transfers .now)
+  call = settlementCallOf (s .args .month) (s .args .readings .now) (s .args .losses .now) (s .args .transfers .now)
 
 abbrev start : tie.After-present2 → tie.Start
 start c = c .before .before .before .before .before .before
