@@ -1,15 +1,7 @@
 // Replays the journal on standard input: makes each call and prints each answer. docs/JOURNAL.md has the text form.
-ghost use mathlib.Core.Path.{_≡_};
-ghost use lib.ListN.{length};
+use commands::input::journal_buffer;
 use commands::run::replay;
 use libc::STDIN_FILENO;
-
-// One byte more than the longest journal, so that a longer one is told.
-fn journal_buffer() -> [u8; 524289]
-    ensures { λ r. ⌜ 524289 ≡ length r ⌝ }
-{
-    [0; 524289]
-}
 
 fn main() {
     let mut text = journal_buffer();

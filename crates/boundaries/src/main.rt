@@ -1,0 +1,11 @@
+// The given journal of document 01's calls, then a tie in each rounding, bounds met alone, neighbouring causes met at once
+// and words that are all different: the journal beside this program, replayed.
+use commands::input::journal_buffer;
+use commands::run::replay;
+use libc::STDIN_FILENO;
+
+fn main() {
+    let mut text = journal_buffer();
+    let count = io::read_full(STDIN_FILENO, &mut text);
+    replay(&text[..count]);
+}
