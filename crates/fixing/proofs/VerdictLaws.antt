@@ -1,7 +1,7 @@
 -- Laws of the verdict on an input: what each check that is passed lets the code go on with, what the fixing comes to where a
 -- check is met, and that its verdict has the number and values of the checks. Assumes nothing.
 use mathlib.Core.Path.{_≡_, refl, sym, _∙_, ap}
-use mathlib.Core.Bool.{Bool, true}
+use mathlib.Core.Bool.{true, false}
 use mathlib.Core.List.{List, [], _∷_}
 use mathlib.Core.Option.{none}
 use Prim.Native.Nat.{ℕ, _≤_, _<_}
@@ -15,7 +15,7 @@ use Rattle.numbers.specs.declared.refusal.Verdict.{Verdict}
 use Rattle.numbers.specs.declared.refusal.Verdict.the-variants.{Passed, Refused}
 use Rattle.numbers.specs.declared.units.PesoPrice.{PesoPrice}
 use Rattle.numbers.proofs.ListLaws.{filled-at}
-use Rattle.numbers.proofs.CheckLaws.{FirstPass, AllTold, passes, passed-test, verdict-from, refused-first, passed-alone, all-passed, check-told, judged}
+use Rattle.numbers.proofs.CheckLaws.{FirstPass, AllTold, passes, refused-unless, passed-test, verdict-from, refused-first, passed-alone, all-passed, check-told, judged}
 use Rattle.series.specs.Series.{valuesInRange, TableInRange}
 use Rattle.series.proofs.SeriesLaws.{table-in-range}
 use Rattle.supply.specs.Line.{mostLines}
@@ -33,6 +33,12 @@ use Rattle.fixing.specs.Input.{FixingInput, RightLengths, CheckedInput, 
 use Rattle.fixing.specs.Fixing.{refusedFixing, acceptedFixing, fixingBy, workedFixing, pricedFixing, fixingOf, InputPromise}
 use Rattle.fixing.specs.declared.fix.Fixing.{Fixing}
 use Rattle.fixing.proofs.InputLaws.{own-lines, accepted-range}
+
+-- lines are looked for before months: a distributor without line is 9, whatever months are missing
+pub no-line : (n : ℕ) (input : FixingInput) → ranged n input ≡ true → valuesInRange (input .series) ≡ true → sectorsAllowed n (input .sectors) ≡ true → supplied n input ≡ false → verdictOf (inputChecks n input) ≡ Refused NoLine
+unfolding FirstPass inputChecks
+no-line n input a b c =
+    refused-unless 3 (inputChecks n input) 9 _ NoLine _ (passes OutOfRange a, (passes ValueTooLarge b, (passes WrongSector c, tt))) refl
 
 abbrev referenceOf : FixingInput → ℕ → PesoPrice
 referenceOf input = referencePrice (indexTable input) (input .first) (input .month) (input .dollar) (input .factor) (input .lines)

@@ -1,4 +1,4 @@
-pub mod ExampleLaws
+pub mod AnswerLaws
 pub mod SoundLaws
 pub mod PassedLaws
 pub mod OpenLaws

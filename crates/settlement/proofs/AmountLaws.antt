@@ -1,6 +1,6 @@
--- Bounds of everything on the way to a collected amount, where readings and loss factors pass their test and each
--- charge is within ±10,500,000. Assumes nothing.
-use mathlib.Core.Path.{_≡_, ap}
+-- Class example 9 passes cause 12; and bounds of everything on the way to a collected amount, where readings and loss
+-- factors pass their test and each charge is within ±10,500,000. Assumes nothing.
+use mathlib.Core.Path.{_≡_, refl, ap}
 use mathlib.Core.Bool.{Bool, true, false, _&&_}
 use mathlib.Core.List.{List}
 use Prim.Native.Nat.{ℕ, _+_, _*_, _≤_, _<_}
@@ -20,6 +20,12 @@ use Rattle.numbers.proofs.UnitLaws.{between-low, between-high}
 use Rattle.numbers.proofs.RoundingLaws.{half-up-le, away-size, away-le}
 use Rattle.numbers.proofs.SignedLaws.{signed-sum-size, size-sub-le, size-add-le, size-mul-le}
 use Rattle.settlement.specs.Amount.{mostReading, readingOf, presentAt, chargeAt, highLossOf, lowLossOf, readingAllowed, readingsAllowed, lossesAllowed, billingInRange, highNet, lowNet, energyWithLosses, collectedAmount, BillingFacts}
+use Rattle.settlement.specs.Example.{inSectorZero, billed, billedReadings, evenLosses}
+
+-- the readings and loss factors of class example 9 pass cause 12, by computation
+pub example-billed : billingInRange 3 (inSectorZero false true true true) (billedReadings 1000 1000 1000) evenLosses ≡ true
+unfolding allBelow between readingAllowed readingsAllowed lossesAllowed billingInRange inSectorZero billed billedReadings evenLosses
+example-billed = refl
 
 -- the loss factor at high voltage is the first of its pair
 pub high-first : (losses : List ℕ) (i : ℕ) → getD losses (i * 2 + 0) 0 ≡ highLossOf losses i

@@ -1,4 +1,3 @@
-pub mod ExampleLaws
 pub mod AmountLaws
 pub mod ShareLaws
 pub mod SettlementLaws

@@ -82,29 +82,22 @@ module _ (n : ℕ) (position : ℕ → ℤ) where
       ∙ ap (λ (z : ℤ). signedSumBelow n position +ℤ z) transfers-zero
       ∙ +ℤ-idr (signedSumBelow n position)
 
-  -- the smaller side is transferred whole, so no balance is left on it
-  none-above : sideTotal n (owing position) ≤ sideTotal n (owed position) → anyBelow n (λ i. ltZ (pos 0) (newBalance n position i)) ≡ false
-  unfolding paid transferred
-  none-above h =
-      let whole = share-whole n (owing position) (transferred n position) (enough .0) (omega arith) in
-      any-never n (λ i. ltZ (pos 0) (newBalance n position i))
-      (λ i p. not-above (newBalance n position i) (omega (arith, parts-most i p, whole i p)))
-
-  none-below : sideTotal n (owed position) ≤ sideTotal n (owing position) → anyBelow n (λ i. isNegative (newBalance n position i)) ≡ false
-  unfolding received transferred
-  none-below h =
-      let whole = share-whole n (owed position) (transferred n position) (enough .1) (omega arith) in
-      any-never n (λ i. isNegative (newBalance n position i))
-      (λ i p. not-below (newBalance n position i) (omega (arith, parts-most i p, whole i p)))
-
-  -- afterwards never a balance above zero beside one below
+  -- afterwards never a balance above zero beside one below: the smaller side is transferred whole, and none is left on it
   pub balances-sign : oneSign n (newBalance n position) ≡ true
-  unfolding oneSign
+  unfolding oneSign paid received transferred
   balances-sign = go (decLe (sideTotal n (owing position)) (sideTotal n (owed position)))
     where
       go : Dec (sideTotal n (owing position) ≤ sideTotal n (owed position)) → oneSign n (newBalance n position) ≡ true
-      go (yes h) = rw (none-above h)
-      go (no h) = rw (none-below (omega arith), and-false)
+      go (yes h) =
+          let whole = share-whole n (owing position) (transferred n position) (enough .0) (omega arith) in
+          rw
+          (any-never n (λ i. ltZ (pos 0) (newBalance n position i))
+          (λ i p. not-above (newBalance n position i) (omega (arith, parts-most i p, whole i p))))
+      go (no h) =
+          let whole = share-whole n (owed position) (transferred n position) (enough .1) (omega arith) in
+          rw
+          (any-never n (λ i. isNegative (newBalance n position i))
+          (λ i p. not-below (newBalance n position i) (omega (arith, parts-most i p, whole i p))), and-false)
 
 -- so the new balances add up to the old ones plus the amounts
 pub balances-collected : (n : ℕ) (balance amount : ℕ → ℤ) → signedSumBelow n (newBalance n (positionOf balance amount)) ≡ signedSumBelow n balance +ℤ signedSumBelow n amount

@@ -8,7 +8,7 @@ use Rattle.series.specs.Series.{valuesInRange}
 use Rattle.fixing.specs.Average.{OwnLines}
 use Rattle.fixing.specs.Sector.{sectorsAllowed}
 use Rattle.fixing.specs.Input.{FixingInput, CheckedInput, inputOf, lineCount, ranged, inputChecks, inputEnergies}
-use Rattle.fixing.proofs.VerdictLaws.{ranged-own, worked-refused, worked-priced}
+use Rattle.fixing.proofs.VerdictLaws.{no-line, ranged-own, worked-refused, worked-priced}
 use borrow.Author.Needs.{needs}
 use Rattle.fixing.proofs.fix.fix_input.Statement.{statement}
 use Rattle.fixing.proofs.fix.fix_input.Tie as tie
@@ -88,14 +88,12 @@ everyone-supplied-requires : tie.Need-everyone-supplied-requires
 everyone-supplied-requires c κs = (own (c .before), c .energies .ensures)
 
 returns-4 : tie.Need-returns-4
-unfolding inputChecks FirstPass
 returns-4 c =
     let t = c .before in
     let e = t .before .before .before in
     let s = begun e in
     worked-refused (s .args .n) (input s) _ NoLine (c .refused4 .ensures)
-    (refused-unless 3 (inputChecks (s .args .n) (input s)) 9 _ NoLine _
-    (passes OutOfRange (passed-six (six (seven e))), (passes ValueTooLarge (passed-seven (seven e)), (passes WrongSector (passed-eight e), tt))) refl
+    (no-line (s .args .n) (input s) (passed-six (six (seven e))) (passed-seven (seven e)) (passed-eight e)
     (told-false (t .before .everyone-supplied .ensures) (t .if4 .taken)))
 
 price-lines-requires : tie.Need-price-lines-requires

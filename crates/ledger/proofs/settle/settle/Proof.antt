@@ -11,6 +11,7 @@ use Rattle.ledger.specs.Turn.{settlementTurn}
 use Rattle.ledger.specs.Settle.{SettlementCall, settlementCallOf, settlementLengths, settlementChecks}
 use Rattle.ledger.specs.declared.book.Ledger.{Ledger}
 use Rattle.ledger.proofs.SoundLaws.{sound-few, sound-last}
+use Rattle.ledger.proofs.AnswerLaws.{out-of-turn}
 use Rattle.ledger.proofs.SettleLaws.{month-refused}
 use Rattle.ledger.proofs.settle.settle.Statement.{statement}
 use Rattle.ledger.proofs.settle.settle.Tie as tie
@@ -66,14 +67,12 @@ returns-2 c =
     _ (c .refused2 .ensures)
 
 returns-3 : tie.Need-returns-3
-unfolding settlementChecks FirstPass
 returns-3 c =
     let t = c .before in
     let e = t .before .before in
     let s = two (e .before) in
     month-refused (book s) (call s) OutOfTurn
-    (refused-unless 2 (settlementChecks (book s) (call s)) 4 _ OutOfTurn _ (passes Unsound (whole s), (passes WrongLength (lengths e), tt)) refl
-    (told-false (t .before .in-turn .ensures) (t .if3 .taken))) _ (c .refused3 .ensures)
+    (out-of-turn (book s) (call s) (whole s) (lengths e) (told-false (t .before .in-turn .ensures) (t .if3 .taken))) _ (c .refused3 .ensures)
 
 returns-4 : tie.Need-returns-4
 unfolding settlementChecks FirstPass
