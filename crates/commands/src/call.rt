@@ -30,7 +30,7 @@ fn lend(list: &mut [i64])
 }
 
 // Makes a fixing, and writes its answer at the start of the buffer.
-pub fn make_fixing(
+pub(crate) fn make_fixing(
     ledger: Ledger,
     read: FixRead,
     series: &[u64],
@@ -60,7 +60,7 @@ pub fn make_fixing(
 }
 
 // Makes a settlement, and writes its answer at the start of the buffer.
-pub fn make_settlement(
+pub(crate) fn make_settlement(
     ledger: Ledger,
     month: u64,
     readings: &[u64],

@@ -36,7 +36,7 @@ pub struct Step {
 }
 
 // A command's step, and how many bytes its answer has.
-pub struct Answered {
+struct Answered {
     pub step: Step,
     pub count: usize,
 }

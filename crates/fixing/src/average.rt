@@ -86,7 +86,7 @@ fn no_energies() -> [Energy; 40]
 }
 
 // The energy of each distributor.
-pub fn energies(n: usize, lines: &[u64], count: usize) -> [Energy; 40]
+pub(crate) fn energies(n: usize, lines: &[u64], count: usize) -> [Energy; 40]
     requires { ⌜ OwnLines n (now lines) count ⌝ }
     ensures { λ r. ⌜ r ≡ energyList n count (now (lines .entry)) ⌝ }
 {
@@ -94,7 +94,12 @@ pub fn energies(n: usize, lines: &[u64], count: usize) -> [Energy; 40]
 }
 
 // Whether every distributor has a line: its energy is then not 0, since a line's is at least 1.
-pub fn everyone_supplied(n: usize, lines: &[u64], count: usize, energies: [Energy; 40]) -> bool
+pub(crate) fn everyone_supplied(
+    n: usize,
+    lines: &[u64],
+    count: usize,
+    energies: [Energy; 40],
+) -> bool
     requires { ⌜ OwnLines n (now lines) count ⌝ ∗ ⌜ energies ≡ energyList n count (now lines) ⌝ }
     ensures { λ r. ⌜ r ≡ everyoneSupplied n count (now (lines .entry)) ⌝ }
 {
@@ -124,7 +129,7 @@ fn divide_amounts(n: usize, amounts: [Pesos; 40], energies: [Energy; 40]) -> [Pe
 }
 
 // The average price of each distributor, weighted by the energy of its lines.
-pub fn averages(
+pub(crate) fn averages(
     n: usize,
     references: [PesoPrice; 256],
     lines: &[u64],

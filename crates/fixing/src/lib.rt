@@ -1,6 +1,6 @@
 // The fixing of document 01, by value and with no ledger in it: averages, limit, rounds, final prices, charges and
 // sector charges from checked lines, and the causes 6 to 11 in their order.
-pub mod average;
+mod average;
 pub mod fix;
 pub mod prices;
 pub mod sector;

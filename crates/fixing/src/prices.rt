@@ -133,7 +133,7 @@ fn last_round(
 }
 
 // An array of empty places, from a function so that no goal of the loop below writes the forty out.
-pub fn no_prices() -> [PesoPrice; 40]
+pub(crate) fn no_prices() -> [PesoPrice; 40]
     ensures { λ r. ⌜ r ≡ replicate mostDistributors noPrice ⌝ }
 {
     [PesoPrice(0); 40]
@@ -173,14 +173,14 @@ fn final_prices(
 }
 
 // The places of the charges, empty, for the same reason as those of the prices.
-pub fn no_charge_list() -> [i64; 40]
+pub(crate) fn no_charge_list() -> [i64; 40]
     ensures { λ r. ⌜ r ≡ replicate mostDistributors (pos 0) ⌝ }
 {
     [0i64; 40]
 }
 
 // The charge of each distributor: final price less average, signed, in 0.001 $/kWh.
-pub fn charges(n: usize, averages: [PesoPrice; 40], finals: [PesoPrice; 40]) -> [i64; 40]
+pub(crate) fn charges(n: usize, averages: [PesoPrice; 40], finals: [PesoPrice; 40]) -> [i64; 40]
     requires { ⌜ n ≤ mostDistributors ⌝ ∗ ⌜ ((i : ℕ) → i < n → getD averages i noPrice .0 ≤ 2000000) ⌝ ∗ ⌜ ((i : ℕ) → i < n → getD finals i noPrice .0 ≤ 2000000) ⌝ }
     ensures { λ r. ⌜ r ≡ filledBelow mostDistributors (pos 0) n (λ i. subℕ (getD finals i noPrice .0) (getD averages i noPrice .0)) ⌝ }
 {
@@ -196,7 +196,7 @@ pub fn charges(n: usize, averages: [PesoPrice; 40], finals: [PesoPrice; 40]) -> 
 }
 
 // The limit and the rounds of document 01.
-pub fn fix_prices(n: usize, averages: [PesoPrice; 40], energies: [Energy; 40]) -> FixedPrices
+pub(crate) fn fix_prices(n: usize, averages: [PesoPrice; 40], energies: [Energy; 40]) -> FixedPrices
     requires { ⌜ InRange (distributors n averages energies) ⌝ }
     ensures { λ r. ⌜ Fixed (distributors n averages energies) r ⌝ }
 {

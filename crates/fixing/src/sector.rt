@@ -67,7 +67,7 @@ fn all_have_sectors(n: usize, sectors: &[u64]) -> bool
 }
 
 // Whether no sector factor is too large and every distributor has a sector.
-pub fn sectors_allowed(n: usize, sectors: &[u64]) -> bool
+pub(crate) fn sectors_allowed(n: usize, sectors: &[u64]) -> bool
     requires { ⌜ n ≤ 40 ⌝ ∗ ⌜ length (now sectors) ≡ n * sectorCount ⌝ }
     ensures { λ r. ⌜ r ≡ sectorsAllowed n (now (sectors .entry)) ⌝ }
 {
@@ -93,7 +93,7 @@ pub fn no_charges() -> SectorCharges
 }
 
 // Presences and charges of the sectors of n distributors, from their charges.
-pub fn sector_charges(n: usize, charges: [i64; 40], sectors: &[u64]) -> SectorCharges
+pub(crate) fn sector_charges(n: usize, charges: [i64; 40], sectors: &[u64]) -> SectorCharges
     requires { ⌜ ChargedSectors n charges (now sectors) ⌝ }
     ensures { λ r. ⌜ r ≡ sectorCharges n (λ i. getD charges i (pos 0)) (now (sectors .entry)) ⌝ }
 {

@@ -20,7 +20,7 @@ use crate::token::token_start;
 use crate::word::is_word;
 
 // The longest list that a call is ever lent.
-pub const LONGEST_LIST: u64 = 8192;
+const LONGEST_LIST: u64 = 8192;
 
 // The largest number of 64 bits.
 pub const MOST_WORD: u64 = 18446744073709551615;

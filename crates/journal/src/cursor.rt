@@ -23,7 +23,7 @@ pub struct NumberRead {
     pub next: Cursor,
 }
 
-pub struct SignedRead {
+pub(crate) struct SignedRead {
     pub value: i64,
     pub next: Cursor,
 }
@@ -43,7 +43,7 @@ pub fn broken_at(at: usize) -> Cursor
 }
 
 // Reads the given word.
-pub fn next_word(text: &[u8], cursor: Cursor, word: &[u8]) -> Cursor
+pub(crate) fn next_word(text: &[u8], cursor: Cursor, word: &[u8]) -> Cursor
     requires { ⌜ cursor .at ≤ length (now text) ⌝ }
     ensures { λ r. ⌜ r ≡ wordAfter (now (text .entry)) cursor (now (word .entry)) ⌝ }
 {
@@ -111,7 +111,7 @@ fn signed_from(reading: SignedReading, start: usize, end: usize) -> SignedRead
 }
 
 // Reads a signed number.
-pub fn next_signed(text: &[u8], cursor: Cursor) -> SignedRead
+pub(crate) fn next_signed(text: &[u8], cursor: Cursor) -> SignedRead
     requires { ⌜ cursor .at ≤ length (now text) ⌝ }
     ensures { λ r. ⌜ r ≡ signedAfter (now (text .entry)) cursor ⌝ }
 {

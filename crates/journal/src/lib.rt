@@ -1,7 +1,7 @@
 // The text form of calls: tokens, words, numbers, lists and commands.
 pub mod command;
 pub mod cursor;
-pub mod list;
-pub mod number;
-pub mod token;
-pub mod word;
+mod list;
+mod number;
+mod token;
+mod word;

@@ -35,7 +35,13 @@ fn fill_numbers(text: &[u8], cursor: Cursor, most: u64, into: &mut [u64]) -> Cur
 }
 
 // Reads a list by its name, of at most as many numbers as the lent list has places, into its first places.
-pub fn read_list(text: &[u8], cursor: Cursor, name: &[u8], most: u64, into: &mut [u64]) -> ListRead
+pub(crate) fn read_list(
+    text: &[u8],
+    cursor: Cursor,
+    name: &[u8],
+    most: u64,
+    into: &mut [u64],
+) -> ListRead
     requires { ⌜ cursor .at ≤ length (now text) ⌝ }
     ensures { λ r. ⌜ r ≡ listAfter (now (text .entry)) cursor (now (name .entry)) (length (now (into .entry))) most ⌝ }
     ensures { λ r. ⌜ now (into .exit) ≡ listWords (now (text .entry)) cursor (now (name .entry)) (length (now (into .entry))) most ++ drop (r .count) (now (into .entry)) ⌝ }
@@ -66,7 +72,12 @@ fn fill_signed(text: &[u8], cursor: Cursor, into: &mut [i64]) -> Cursor
 }
 
 // Reads a list of signed numbers by its name, as read_list does.
-pub fn read_signed_list(text: &[u8], cursor: Cursor, name: &[u8], into: &mut [i64]) -> ListRead
+pub(crate) fn read_signed_list(
+    text: &[u8],
+    cursor: Cursor,
+    name: &[u8],
+    into: &mut [i64],
+) -> ListRead
     requires { ⌜ cursor .at ≤ length (now text) ⌝ }
     ensures { λ r. ⌜ r ≡ signedListAfter (now (text .entry)) cursor (now (name .entry)) (length (now (into .entry))) ⌝ }
     ensures { λ r. ⌜ now (into .exit) ≡ signedListWords (now (text .entry)) cursor (now (name .entry)) (length (now (into .entry))) ++ drop (r .count) (now (into .entry)) ⌝ }

@@ -33,7 +33,7 @@ fn fits_with(value: u64, digit: u64) -> bool
 }
 
 // The number in the bytes from start to before end.
-pub fn read_number(text: &[u8], start: usize, end: usize) -> Reading
+pub(crate) fn read_number(text: &[u8], start: usize, end: usize) -> Reading
     requires { ⌜ start ≤ end ⌝ ∗ ⌜ end ≤ length (now text) ⌝ }
     ensures { λ r. ⌜ r ≡ numberIn (now (text .entry)) start end ⌝ }
 {
@@ -100,7 +100,7 @@ fn below_zero(reading: Reading) -> SignedReading
 }
 
 // The signed number in the bytes from start to before end.
-pub fn read_signed(text: &[u8], start: usize, end: usize) -> SignedReading
+pub(crate) fn read_signed(text: &[u8], start: usize, end: usize) -> SignedReading
     requires { ⌜ start ≤ end ⌝ ∗ ⌜ end ≤ length (now text) ⌝ }
     ensures { λ r. ⌜ r ≡ signedIn (now (text .entry)) start end ⌝ }
 {

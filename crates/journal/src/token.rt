@@ -34,7 +34,7 @@ fn comment_after(comment: bool, byte: u8) -> bool
 }
 
 // Where the next token starts; the text's length where there is none.
-pub fn token_start(text: &[u8], from: usize) -> usize
+pub(crate) fn token_start(text: &[u8], from: usize) -> usize
     requires { ⌜ from ≤ length (now text) ⌝ }
     ensures { λ r. ⌜ r ≡ tokenStart (now (text .entry)) from ⌝ }
 {
@@ -52,7 +52,7 @@ pub fn token_start(text: &[u8], from: usize) -> usize
 }
 
 // Where the token that starts at a place ends.
-pub fn token_end(text: &[u8], start: usize) -> usize
+pub(crate) fn token_end(text: &[u8], start: usize) -> usize
     requires { ⌜ start ≤ length (now text) ⌝ }
     ensures { λ r. ⌜ r ≡ tokenEnd (now (text .entry)) start ⌝ }
 {

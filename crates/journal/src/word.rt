@@ -5,7 +5,7 @@ ghost use lib.ListN.{length};
 ghost use Rattle.journal.specs.Word.{isWord};
 
 // Whether the bytes from start to before end are the word's.
-pub fn is_word(text: &[u8], start: usize, end: usize, word: &[u8]) -> bool
+pub(crate) fn is_word(text: &[u8], start: usize, end: usize, word: &[u8]) -> bool
     requires { ⌜ start ≤ end ⌝ ∗ ⌜ end ≤ length (now text) ⌝ }
     ensures { λ r. ⌜ r ≡ isWord (now (text .entry)) start end (now (word .entry)) ⌝ }
 {

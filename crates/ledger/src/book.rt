@@ -3,7 +3,7 @@ use fixing::sector::SectorCharges;
 use numbers::units::Pesos;
 
 // The greatest month number.
-pub const LAST_MONTH: u64 = 1199;
+pub(crate) const LAST_MONTH: u64 = 1199;
 
 pub struct Ledger {
     // How many distributors: 1 to 40 in a sound ledger.

@@ -119,7 +119,7 @@ fn one_sign(balances: [Pesos; 40]) -> bool
 }
 
 // Whether the ledger is sound, for every bit pattern.
-pub fn sound(ledger: Ledger) -> bool
+pub(crate) fn sound(ledger: Ledger) -> bool
     ensures { λ r. ⌜ r ≡ soundLedger ledger ⌝ }
 {
     let n = ledger.n;

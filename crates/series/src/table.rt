@@ -6,9 +6,9 @@ ghost use Rattle.series.specs.Series.{wordCount, seriesRow, seriesTable,
 
 pub const SERIES: usize = 5;
 
-pub const MONTHS: usize = 48;
+pub(crate) const MONTHS: usize = 48;
 
-pub const WORDS: usize = 240;
+const WORDS: usize = 240;
 
 pub const MOST_VALUE: u64 = 99999999;
 

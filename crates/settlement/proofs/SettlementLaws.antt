@@ -95,9 +95,11 @@ module _ (n : ℕ) (position : ℕ → ℤ) where
           (λ i p. not-above (newBalance n position i) (omega (arith, parts-most i p, whole i p))))
       go (no h) =
           let whole = share-whole n (owed position) (transferred n position) (enough .1) (omega arith) in
-          rw
-          (any-never n (λ i. isNegative (newBalance n position i))
-          (λ i p. not-below (newBalance n position i) (omega (arith, parts-most i p, whole i p))), and-false)
+          rw (
+            any-never n (λ i. isNegative (newBalance n position i))
+                (λ i p. not-below (newBalance n position i) (omega (arith, parts-most i p, whole i p))),
+            and-false,
+          )
 
 -- so the new balances add up to the old ones plus the amounts
 pub balances-collected : (n : ℕ) (balance amount : ℕ → ℤ) → signedSumBelow n (newBalance n (positionOf balance amount)) ≡ signedSumBelow n balance +ℤ signedSumBelow n amount

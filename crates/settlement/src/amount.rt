@@ -124,7 +124,7 @@ fn energy_with_losses(
 }
 
 // The amount that distributor i collected: the sum of charge times energy over its sectors, rounded once.
-pub fn collected_amount(
+pub(crate) fn collected_amount(
     charges: &[i64; 320],
     readings: &[u64],
     losses: &[u64],

@@ -2,4 +2,4 @@
 // amounts, positions and their test (cause 13), shares, transfers and new balances.
 pub mod amount;
 pub mod month;
-pub mod share;
+mod share;

@@ -7,7 +7,7 @@ ghost use Rattle.settlement.specs.Month.{shareList, Side};
 use numbers::division::multiply_divide;
 
 // The total of a side.
-pub fn side_total(n: usize, sizes: &[u64; 40]) -> u64
+pub(crate) fn side_total(n: usize, sizes: &[u64; 40]) -> u64
     requires { ⌜ Side n (now sizes) ⌝ }
     ensures { λ r. ⌜ r ≡ sideTotal n (λ i. getD (now (sizes .entry)) i 0) ⌝ }
 {
@@ -22,7 +22,7 @@ pub fn side_total(n: usize, sizes: &[u64; 40]) -> u64
 
 // The shares of a side in the transferred total, in one pass: with each distributor's own size, less the same before
 // it.
-pub fn shares(n: usize, sizes: &[u64; 40], transferred: u64) -> [u64; 40]
+pub(crate) fn shares(n: usize, sizes: &[u64; 40], transferred: u64) -> [u64; 40]
     requires { ⌜ Side n (now sizes) ⌝ ∗ ⌜ transferred ≤ sideTotal n (λ i. getD (now sizes) i 0) ⌝ }
     ensures { λ r. ⌜ r ≡ shareList n (now (sizes .entry)) transferred ⌝ }
 {

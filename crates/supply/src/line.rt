@@ -5,37 +5,37 @@ ghost use Rattle.supply.specs.Line.{WholeLines, lineWord, termWord, line
 
 pub const LINE_WORDS: usize = 26;
 
-pub const MOST_LINES: usize = 256;
+const MOST_LINES: usize = 256;
 
-pub const MOST_TERMS: u64 = 4;
+pub(crate) const MOST_TERMS: u64 = 4;
 
-pub const TERM_WORDS: usize = 5;
+pub(crate) const TERM_WORDS: usize = 5;
 
 const TERMS_START: usize = 6;
 
 // The words of a line.
 pub const DISTRIBUTOR: usize = 0;
 
-pub const BASE_PRICE: usize = 1;
+pub(crate) const BASE_PRICE: usize = 1;
 
-pub const OFFER_FACTOR: usize = 2;
+pub(crate) const OFFER_FACTOR: usize = 2;
 
-pub const PURCHASE_FACTOR: usize = 3;
+pub(crate) const PURCHASE_FACTOR: usize = 3;
 
 pub const ENERGY: usize = 4;
 
-pub const TERM_COUNT: usize = 5;
+pub(crate) const TERM_COUNT: usize = 5;
 
 // The words of a term.
-pub const SERIES: usize = 0;
+pub(crate) const SERIES: usize = 0;
 
-pub const WEIGHT: usize = 1;
+pub(crate) const WEIGHT: usize = 1;
 
-pub const LAG: usize = 2;
+pub(crate) const LAG: usize = 2;
 
-pub const WINDOW: usize = 3;
+pub(crate) const WINDOW: usize = 3;
 
-pub const BASE_VALUE: usize = 4;
+pub(crate) const BASE_VALUE: usize = 4;
 
 // Word w of line j.
 pub fn line_word(lines: &[u64], count: usize, j: usize, w: usize) -> u64
@@ -46,7 +46,7 @@ pub fn line_word(lines: &[u64], count: usize, j: usize, w: usize) -> u64
 }
 
 // Word w of term k of line j.
-pub fn term_word(lines: &[u64], count: usize, j: usize, k: usize, w: usize) -> u64
+pub(crate) fn term_word(lines: &[u64], count: usize, j: usize, k: usize, w: usize) -> u64
     requires { ⌜ WholeLines (now lines) count ⌝ ∗ ⌜ j < count ⌝ ∗ ⌜ k < mostTerms ⌝ ∗ ⌜ w < termWords ⌝ }
     ensures { λ r. ⌜ r ≡ termWord (now (lines .entry)) j k w ⌝ }
 {

@@ -24,7 +24,7 @@ use numbers::units::is_between;
 use series::term::present_mean;
 
 // A line's indexed price, in 0.001 US$/MWh, or that its factor or the price is out of bounds.
-pub enum IndexedPrice {
+enum IndexedPrice {
     Indexed(u64),
     Beyond,
 }
@@ -87,7 +87,7 @@ fn factor(
 }
 
 // The indexed price of line j. The factor is tested before it is multiplied.
-pub fn indexed_price(
+fn indexed_price(
     table: [[u64; 48]; 5],
     first: u64,
     month: u64,
@@ -115,7 +115,7 @@ pub fn indexed_price(
 
 // The reference of line j from an indexed price: purchase, peso, reference. The bounds of a peso price are put to the
 // reference, not to the peso step.
-pub fn reference_price(
+fn reference_price(
     dollar: u64,
     factor: u64,
     lines: &[u64],

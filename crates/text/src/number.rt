@@ -18,7 +18,7 @@ pub fn write_decimal(buffer: &mut [u8], count: usize, x: u64) -> usize
 }
 
 // Writes x in decimal, with a minus sign where it is below zero. The least i64 has no size in an i64.
-pub fn write_signed_decimal(buffer: &mut [u8], count: usize, x: i64) -> usize
+fn write_signed_decimal(buffer: &mut [u8], count: usize, x: i64) -> usize
     ensures { λ r. ⌜ bufferOf (now (buffer .exit)) r ≡ written (signedDecimal x) (bufferOf (now (buffer .entry)) count) ⌝ }
 {
     if !within_size(x, 9223372036854775807) {

@@ -6,8 +6,8 @@ use ledger::fix::fix;
 use ledger::fix::number as fixing_number;
 use ledger::open::open;
 use ledger::settle::settle;
-use numbers::refusal::verdict_number;
 use libc::STDOUT_FILENO;
+use numbers::refusal::verdict_number;
 
 const LINES: usize = 256;
 
