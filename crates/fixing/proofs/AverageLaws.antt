@@ -3,27 +3,25 @@
 use mathlib.Core.Path.{_≡_, refl, sym, _∙_, ap}
 use mathlib.Core.Bool.{Bool, true, false, cond}
 use mathlib.Core.List.{List}
-use Prim.Native.Nat.{ℕ, zero, suc, _+_, _*_, _≤_, _<_}
+use Prim.Native.Nat.{ℕ, _+_, _*_, _≤_, _<_}
 use native.Mathlib.Omega.{arith}
 use native.Mathlib.Decide.{ℕ-discrete}
-use native.Mathlib.Nat.{mul-le-mul, one-mul}
+use native.Mathlib.Nat.{mul-le-mul}
 use lib.Dec.{eqb}
 use lib.ListN.{getD, set, length, length-set, replicate, getD-replicate}
 use lib.IntN.{ℤ, pos, _+ℤ_}
 use lib.Seq.{getD-set-same, getD-set-other, ext-getD}
 use borrow.Author.Tests.{eq-eqb, ne-eqb, eqb-true}
-use Rattle.numbers.specs.Bounded.{sumBelow, anyBelow, allBelow, listBelow}
+use Rattle.numbers.specs.Bounded.{sumBelow, listBelow}
 use Rattle.numbers.specs.Units.{noPrice, noEnergy, noMoney}
 use Rattle.numbers.specs.declared.units.PesoPrice.{PesoPrice}
 use Rattle.numbers.specs.declared.units.Pesos.{Pesos}
-use Rattle.numbers.proofs.SumLaws.{sum-step, sum-same, sum-le, sum-part, sum-add, sum-scale, sum-le-sum}
+use Rattle.numbers.proofs.SumLaws.{sum-step, sum-same, sum-le, sum-part}
 use Rattle.numbers.proofs.TestLaws.{any-none, all-at}
 use Rattle.numbers.proofs.ListLaws.{list-length, list-at, filled-at}
-use Rattle.numbers.proofs.RoundingLaws.{half-up-ge, half-up-le}
 use Rattle.supply.specs.Line.{distributorOf, energyOf}
-use Rattle.supply.specs.Range.{CheckedLines}
 use Rattle.fixing.proofs.SearchLaws.{any-where}
-use Rattle.fixing.specs.Average.{lineAmount, linesAmount, suppliedEnergy, averagePrice, hasLine, everyoneSupplied, energyList, averageList, OwnLines, PricedLines}
+use Rattle.fixing.specs.Average.{lineAmount, linesAmount, suppliedEnergy, hasLine, everyoneSupplied, energyList, OwnLines, PricedLines}
 
 module _ (price : ℕ → ℕ) (lines : List ℕ) (i j : ℕ) where
   pub amount-own : distributorOf lines j ≡ i → lineAmount price lines i j ≡ price j * energyOf lines j

@@ -1,11 +1,11 @@
 -- Checked lines give distributors in range of the limit: each average keeps the bounds of the references that it is a
 -- mean of, each energy is at least 1, and all energies together are those of at most 256 lines. Assumes nothing.
-use mathlib.Core.Path.{_≡_, refl, sym, _∙_, ap, ap₂}
+use mathlib.Core.Path.{_≡_, ap}
 use mathlib.Core.Bool.{Bool, true, false, cond}
 use mathlib.Core.List.{List}
 use Prim.Native.Nat.{ℕ, zero, suc, _+_, _*_, _≤_, _<_}
 use native.Mathlib.Omega.{arith}
-use native.Mathlib.Nat.{mul-le-mul-right, one-mul}
+use native.Mathlib.Nat.{mul-le-mul-right}
 use native.Mathlib.Decide.{ℕ-discrete}
 use lib.Dec.{eqb}
 use lib.ListN.{getD}
@@ -14,16 +14,16 @@ use Rattle.numbers.specs.Bounded.{sumBelow}
 use Rattle.numbers.specs.Units.{noPrice, noEnergy, leastPrice, mostPrice}
 use Rattle.numbers.specs.declared.units.PesoPrice.{PesoPrice}
 use Rattle.numbers.specs.declared.units.Energy.{Energy}
-use Rattle.numbers.proofs.SumLaws.{sum-step, sum-same, sum-le, sum-add, sum-scale, sum-le-sum}
+use Rattle.numbers.proofs.SumLaws.{sum-same, sum-le, sum-add, sum-scale, sum-le-sum}
 use Rattle.numbers.proofs.ListLaws.{filled-at}
 use Rattle.numbers.proofs.RoundingLaws.{half-up-ge, half-up-le}
 use Rattle.supply.specs.Line.{WholeLines, distributorOf, energyOf}
 use Rattle.supply.specs.Range.{linesInRange}
 use Rattle.supply.proofs.RangeLaws.{checked-lines, lines-distributor}
-use Rattle.fixing.specs.Limit.{Distributors, InRange, totalEnergy}
+use Rattle.fixing.specs.Limit.{InRange, totalEnergy}
 use Rattle.fixing.specs.Prices.{distributors}
 use Rattle.fixing.specs.Average.{lineAmount, linesAmount, suppliedEnergy, averagePrice, energyList, averageList, OwnLines, AcceptedLines}
-use Rattle.fixing.proofs.AverageLaws.{energy-at, energy-most, supplied-some}
+use Rattle.fixing.proofs.AverageLaws.{energy-at, supplied-some}
 
 pub own-lines : (n count : ℕ) (lines : List ℕ) → n ≤ 40 → WholeLines lines count → linesInRange n count lines ≡ true → OwnLines n lines count
 own-lines n count lines few w h =

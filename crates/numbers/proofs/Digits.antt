@@ -1,5 +1,5 @@
 -- Division of a * b by m, b taken in by digits of base 128 from the top. Assumes nothing.
-use mathlib.Core.Path.{_≡_, refl, sym, _∙_, ap}
+use mathlib.Core.Path.{_≡_, sym, _∙_, ap}
 use Prim.Native.Nat.{ℕ, zero, suc, _+_, _-_, _*_, _/_, _%_, _^_, _<_, _≤_}
 use native.Mathlib.Omega.{arith}
 use native.Mathlib.Nat.{mul-add, mul-assoc, mul-comm, div-add-mod, add-mul-div-left, add-mul-mod-self-left, div-le-of-le-mul, mul-le-mul-right, mul-le-mul, mod-lt, mul-zero, zero-div, zero-mod, div-le-self, pow-suc, div-div-eq-div-mul}

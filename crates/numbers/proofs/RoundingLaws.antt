@@ -1,11 +1,11 @@
 -- Laws of the roundings: a rounded quotient keeps whole bounds, and lies within a half of the quotient.
 -- Assumes nothing.
-use mathlib.Core.Path.{_≡_, refl, sym, _∙_, ap}
+use mathlib.Core.Path.{_≡_, refl}
 use mathlib.Core.Bool.{true, false, false≢true, true≢false}
-use Prim.Native.Nat.{ℕ, zero, suc, _+_, _-_, _*_, _/_, _<_, _≤_}
+use Prim.Native.Nat.{ℕ, suc, _+_, _-_, _*_, _/_, _<_, _≤_}
 use native.Mathlib.Omega.{arith}
 use native.Mathlib.Nat.{div-mul-le-self, lt-div-mul-add, le-div-iff-mul-le, div-lt-iff-lt-mul, mul-le-mul-left}
-use lib.IntN.{ℤ, pos, negsuc, negℤ, natAbs, subℕ}
+use lib.IntN.{ℤ, pos, negsuc, natAbs, subℕ}
 use Rattle.numbers.specs.Rounding.{halfUp, halfAway, divideUp}
 use Rattle.numbers.specs.Signed.{isNegative}
 use Rattle.numbers.proofs.SignedLaws.{neg-sub, pos-sub-zero, size-neg}

@@ -1,15 +1,15 @@
 -- What follows for a month from the three laws of the shares alone: no sign turns, transfers add up to zero, balances
 -- add up to the positions, no balance is above zero beside one below, no size grows. Assumes nothing.
-use mathlib.Core.Path.{_≡_, refl, _∙_, ap}
-use mathlib.Core.Bool.{true, false, and-false}
-use Prim.Native.Nat.{ℕ, zero, suc, _+_, _-_, _≤_, _<_}
+use mathlib.Core.Path.{_≡_, _∙_, ap}
+use mathlib.Core.Bool.{true, and-false}
+use Prim.Native.Nat.{ℕ, _+_, _-_, _≤_, _<_}
 use native.Mathlib.Omega.{arith}
 use native.Mathlib.Decide.{decLe}
 use lib.IntN.{ℤ, pos, subℕ, natAbs, _+ℤ_, +ℤ-idr}
 use lib.Signed.{ltZ}
-use Rattle.numbers.specs.Bounded.{sumBelow, anyBelow}
+use Rattle.numbers.specs.Bounded.{sumBelow}
 use Rattle.numbers.specs.Signed.{signedSumBelow, positivePart, negativePart, isNegative}
-use Rattle.numbers.proofs.SignedLaws.{sub-eq, signed-sum-sub, add-across, add-sub, sub-parts, size-parts, not-above, not-below, signed-sum-add}
+use Rattle.numbers.proofs.SignedLaws.{sub-eq, signed-sum-sub, add-sub, sub-parts, size-parts, not-above, not-below, signed-sum-add}
 use Rattle.settlement.specs.Share.{sideTotal}
 use Rattle.settlement.specs.Settlement.{positionOf, owing, owed, transferred, paid, received, transfer, newBalance, oneSign}
 use Rattle.settlement.proofs.ShareLaws.{shares-total, share-most, share-whole}

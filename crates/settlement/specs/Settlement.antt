@@ -1,7 +1,7 @@
 -- One month's settlement ("The ledger" of document 01): positions, the two sides, transfers, new balances, in $.
 -- Assumes nothing.
 use mathlib.Core.Bool.{Bool, cond, not, _&&_}
-use Prim.Native.Nat.{ℕ, _*_, _^_, min}
+use Prim.Native.Nat.{ℕ, _^_, min}
 use lib.IntN.{ℤ, pos, subℕ, _+ℤ_}
 use lib.Signed.{ltZ}
 use Rattle.numbers.specs.Bounded.{allBelow, anyBelow}

@@ -1,7 +1,7 @@
 // The shares of one side, by running totals. A side is a size for each distributor, 0 for those who are not on it.
 ghost use mathlib.Core.Path.{_≡_};
-ghost use Prim.Native.Nat.{_≤_, _<_, _^_};
-ghost use lib.ListN.{getD, replicate};
+ghost use Prim.Native.Nat.{_≤_, _<_};
+ghost use lib.ListN.{getD};
 ghost use Rattle.settlement.specs.Share.{sideTotal};
 ghost use Rattle.settlement.specs.Month.{shareList, Side};
 use numbers::division::multiply_divide;

@@ -1,12 +1,11 @@
 -- Laws of the search for a missing month: what a step of the walk adds, and what a walk that finds nothing says.
 -- Assumes nothing.
-use mathlib.Core.Path.{_≡_, refl, sym, _∙_}
+use mathlib.Core.Path.{_≡_, refl}
 use mathlib.Core.Bool.{Bool, true, false}
 use mathlib.Core.List.{List, [], _∷_}
 use mathlib.Core.Option.{Option, none, some}
 use Prim.Native.Nat.{ℕ, _<_}
 use native.Mathlib.Omega.{arith}
-use Rattle.numbers.specs.Bounded.{firstBelow}
 use Rattle.numbers.proofs.FirstLaws.{first-none}
 use Rattle.numbers.proofs.CheckLaws.{Told, AllTold, none-told, met-told, judged}
 use Rattle.numbers.specs.Checks.{verdictOf, Judged}

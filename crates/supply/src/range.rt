@@ -4,7 +4,7 @@ ghost use mathlib.Core.Bool.{true};
 ghost use Prim.Native.Nat.{_<_, _≤_};
 ghost use Rattle.numbers.specs.Bounded.{allBelow};
 ghost use Rattle.supply.specs.Line.{WholeLines, mostTerms, termCountOf};
-ghost use Rattle.supply.specs.Range.{headInRange, windowAllowed, termInRange, termUnused, termAllowed, weightTotal, weightsAllowed, lineInRange, linesInRange, marketInRange, inputInRange};
+ghost use Rattle.supply.specs.Range.{headInRange, windowAllowed, termInRange, termUnused, termAllowed, weightTotal, lineInRange, linesInRange, marketInRange, inputInRange};
 use crate::line::line_word;
 use crate::line::term_word;
 use crate::line::{self};

@@ -7,7 +7,6 @@ use Rattle.text.proofs.BufferLaws.{written-after}
 use borrow.Author.Needs.{needs}
 use Rattle.answers.proofs.prices.write_place.Statement.{statement}
 use Rattle.answers.proofs.prices.write_place.Tie as tie
-use Rattle.text.proofs.number.write_named.Reads as write-named-reads
 
 returns : tie.Need-returns
 unfolding placeText

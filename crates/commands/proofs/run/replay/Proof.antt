@@ -1,5 +1,5 @@
 -- Of a text too long only its length is told; another is run.
-use mathlib.Core.Path.{_≡_, _∙_, ap}
+use mathlib.Core.Path.{_≡_, _∙_}
 use mathlib.Core.Logic.{⊎-elim}
 use Rattle.commands.specs.Replay.{replayed}
 use Rattle.commands.proofs.ReplayLaws.{opened-none, long}

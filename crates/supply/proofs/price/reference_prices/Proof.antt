@@ -1,7 +1,7 @@
 -- The invariant: no line passed is out of bounds, and the references of the lines passed are filled in.
 use borrow.Author.Needs.{needs}
 use Rattle.supply.proofs.PriceLaws.{line-within, line-beyond, line-price, bounds-judged}
-use mathlib.Core.Path.{_≡_, refl, sym, _∙_, ap, ap₂}
+use mathlib.Core.Path.{_≡_, refl, sym, _∙_, ap₂}
 use mathlib.Core.Option.{none, some}
 use Prim.Native.Nat.{_-_, _≤_}
 use lib.ListN.{set}

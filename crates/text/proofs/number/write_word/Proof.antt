@@ -1,5 +1,5 @@
 -- A blank, then the number.
-use Rattle.text.specs.Text.{blank, word}
+use Rattle.text.specs.Text.{word}
 use Rattle.text.proofs.BufferLaws.{byte-after}
 use borrow.Author.Needs.{needs}
 use Rattle.text.proofs.number.write_word.Statement.{statement}
