@@ -4,7 +4,7 @@ use mathlib.Core.List.{List, [], _∷_, _++_}
 use Prim.Native.Nat.{ℕ, zero, suc, _+_, _/_, _%_}
 use Prim.Native.Char.{code}
 use Prim.Native.String.{String}
-use Prim.Native.String.{_∷_ as _String·∷_}
+use Prim.Native.String.{[] as String·[], _∷_ as _String·∷_}
 use lib.Dec.{ltb}
 use lib.IntN.{ℤ, natAbs}
 use Rattle.numbers.specs.Signed.{isNegative}
