@@ -1,4 +1,4 @@
--- The one statement about the table of class examples: every row's values are the printed ones, by computation.
+-- The one statement about the table of class examples: it has the twelve, each with the values printed, by computation.
 -- Assumes nothing.
 use mathlib.Core.Path.{_≡_, refl}
 use mathlib.Core.Bool.{true}
@@ -30,8 +30,8 @@ use Rattle.ledger.specs.Settle.{settlementLengths, positionsOf, settlementCheck
 use Rattle.ledger.specs.Sound.{isZero, placeTest, placeSound, forceSound, nothingPresent, unsetZero, monthsSound, balanceTest, balanceSound, balancesSound, sound}
 use Rattle.ledger.specs.Turn.{fixingTurn, settlementTurn}
 use Rattle.examples.specs.ClassExamples.{monthValue, rowOf, lentWords, indexedLine, plainNumber, pair, printAnswered, settledNumber, firstMoney, classExamples}
-use Rattle.examples.specs.Table.{sameNumber, sameNumbers, allHold, whole}
+use Rattle.examples.specs.Table.{sameNumber, sameNumbers, holdFrom, whole}
 
-pub class-examples : allHold classExamples ≡ true
-unfolding sumBelow allBelow anyBelow firstBelow listBelow filledBelow verdictOf halfUp halfAway divideUp isNegative withinSize signedSumBelow between checkedPrice seriesRow seriesTable valuesInRange valueIn termMonth termValue termMissing meanOf termMean lacksMonth missingTerm missingInLine firstMissing monthCheck ratioOf indexedOf purchaseOf pesoOf referenceOf termRatio factorOf lineIndexed linePurchase lineReference indexedAllowed indexedAnswer referenceAnswer priceAnswer beyondIn firstBeyond boundsCheck referencePrice referencePrices headInRange windowAllowed termInRange termUnused termAllowed weightTotal weightsAllowed lineInRange linesInRange marketInRange inputInRange lineAmount linesAmount suppliedEnergy averagePrice hasLine everyoneSupplied energyList averageList sectorCharge noPrices refusedFixing acceptedFixing workedFixing fixingOf tableChecks inputChecks inputVerdict inputReferences inputAverages inputEnergies contractTotal totalEnergy limit sumInside sumOutside roundSurcharge aboveLimit cappedAfter joinsAfter anyJoinsAfter anyAbove roundsBeforeLast rounds capped surcharge finalPrice charge collected residue finalPrices chargeList fixedPrices sectorPresent hasSector sectorsAllowed chargedPlaces sectorCharges noCharges readingAllowed readingsAllowed lossesAllowed billingInRange highNet lowNet energyWithLosses collectedAmount inSectorZero billed billedReadings evenLosses moneyBelow positionList settledMonth positionOf positionsInRange owing owed transferred paid received transfer newBalance oneSign sideTotal sharedBefore share plainLine plainCall printCall printLedger firstBilling secondBilling firstLedger linesWhole fixingLengths fixingChecks fixingVerdict acceptedAnswer fixingAnswer fixingLedger priceWord priceList fixingList noBalances emptyLedger anySettled fixedLedger settledLedger openingChecks openingVerdict openingLedger settlementLengths positionsOf settlementChecks settlementVerdict settlementLedger settlementList isZero placeTest placeSound forceSound nothingPresent unsetZero monthsSound balanceTest balanceSound balancesSound sound fixingTurn settlementTurn monthValue rowOf lentWords indexedLine plainNumber pair printAnswered settledNumber firstMoney classExamples sameNumber sameNumbers allHold whole
+pub class-examples : holdFrom 1 classExamples ≡ true
+unfolding sumBelow allBelow anyBelow firstBelow listBelow filledBelow verdictOf halfUp halfAway divideUp isNegative withinSize signedSumBelow between checkedPrice seriesRow seriesTable valuesInRange valueIn termMonth termValue termMissing meanOf termMean lacksMonth missingTerm missingInLine firstMissing monthCheck ratioOf indexedOf purchaseOf pesoOf referenceOf termRatio factorOf lineIndexed linePurchase lineReference indexedAllowed indexedAnswer referenceAnswer priceAnswer beyondIn firstBeyond boundsCheck referencePrice referencePrices headInRange windowAllowed termInRange termUnused termAllowed weightTotal weightsAllowed lineInRange linesInRange marketInRange inputInRange lineAmount linesAmount suppliedEnergy averagePrice hasLine everyoneSupplied energyList averageList sectorCharge noPrices refusedFixing acceptedFixing workedFixing fixingOf tableChecks inputChecks inputVerdict inputReferences inputAverages inputEnergies contractTotal totalEnergy limit sumInside sumOutside roundSurcharge aboveLimit cappedAfter joinsAfter anyJoinsAfter anyAbove roundsBeforeLast rounds capped surcharge finalPrice charge collected residue finalPrices chargeList fixedPrices sectorPresent hasSector sectorsAllowed chargedPlaces sectorCharges noCharges readingAllowed readingsAllowed lossesAllowed billingInRange highNet lowNet energyWithLosses collectedAmount inSectorZero billed billedReadings evenLosses moneyBelow positionList settledMonth positionOf positionsInRange owing owed transferred paid received transfer newBalance oneSign sideTotal sharedBefore share plainLine plainCall printCall printLedger firstBilling secondBilling firstLedger linesWhole fixingLengths fixingChecks fixingVerdict acceptedAnswer fixingAnswer fixingLedger priceWord priceList fixingList noBalances emptyLedger anySettled fixedLedger settledLedger openingChecks openingVerdict openingLedger settlementLengths positionsOf settlementChecks settlementVerdict settlementLedger settlementList isZero placeTest placeSound forceSound nothingPresent unsetZero monthsSound balanceTest balanceSound balancesSound sound fixingTurn settlementTurn monthValue rowOf lentWords indexedLine plainNumber pair printAnswered settledNumber firstMoney classExamples sameNumber sameNumbers holdFrom whole
 class-examples = refl

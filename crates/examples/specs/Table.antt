@@ -2,7 +2,7 @@
 -- Assumes nothing.
 use mathlib.Core.Bool.{Bool, true, false, _&&_}
 use mathlib.Core.List.{List, [], _∷_}
-use Prim.Native.Nat.{ℕ}
+use Prim.Native.Nat.{ℕ, _+_}
 use lib.Dec.{eqb}
 use lib.IntN.{ℤ, pos, negsuc}
 
@@ -24,10 +24,10 @@ sameNumbers [] (b ∷ rest) = false
 sameNumbers (a ∷ more) [] = false
 sameNumbers (a ∷ more) (b ∷ rest) = sameNumber a b && sameNumbers more rest
 
--- whether every example's values are the printed ones
-unfoldable pub allHold : List Example → Bool
-allHold [] = true
-allHold (e ∷ es) = sameNumbers (e .computed) (e .printed) && allHold es
+-- whether these are 01's examples from number k to the twelfth, in their order, each with the values that are printed
+unfoldable pub holdFrom : ℕ → List Example → Bool
+holdFrom k [] = eqb k 13
+holdFrom k (e ∷ es) = eqb (e .number) k && (sameNumbers (e .computed) (e .printed) && holdFrom (k + 1) es)
 
 -- unsigned numbers among the values
 unfoldable pub whole : List ℕ → List ℤ

@@ -3,7 +3,7 @@
 // peso step. The stored output is the print.
 ghost use mathlib.Core.Path.{_≡_};
 ghost use mathlib.Core.Bool.{true};
-ghost use Rattle.examples.specs.Table.{allHold};
+ghost use Rattle.examples.specs.Table.{holdFrom};
 ghost use Rattle.examples.specs.ClassExamples.{classExamples};
 use libc::STDOUT_FILENO;
 use supply::price::peso_price;
@@ -62,7 +62,7 @@ fn print_price(price: u64) {
 // The twelve class examples of document 01, through the open calls' own definitions: every value is the printed one. The
 // function does nothing; its ensures is the statement.
 fn class_examples_hold()
-    ensures { λ r. ⌜ allHold classExamples ≡ true ⌝ }
+    ensures { λ r. ⌜ holdFrom 1 classExamples ≡ true ⌝ }
 {}
 
 fn main() {
