@@ -54,7 +54,7 @@ ofTwo a b (suc k) = b
 unfoldable pub pair : ℕ → ℕ → Distributors
 pair a b = record { count = 2; average = ofTwo a b; energy = ofTwo 1 1 }
 
--- 01's number and values of the print's fixing, and what it wrote
+-- 01's number and values of the print's fixing
 unfoldable pub printAnswered : Answered
 printAnswered = fixingAnswered (fixingAnswer (openingLedger 3) printCall)
 

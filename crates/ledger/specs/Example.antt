@@ -14,9 +14,10 @@ use Rattle.ledger.specs.declared.book.Ledger.{Ledger}
 unfoldable pub plainLine : ℕ → ℕ → ℕ → List ℕ
 plainLine distributor base energy = (distributor ∷ base ∷ 10000 ∷ 10000 ∷ energy ∷ []) ++ replicate 21 0
 
--- a fixing in month 0 of plain lines at D 100,000 and F 10,000, whose references are their base prices
+-- a fixing in month 0 of plain lines at D 100,000 and F 10,000, whose references are their base prices; so many words are
+-- lent for the prices
 unfoldable pub plainCall : ℕ → List ℕ → List ℕ → FixingCall
-plainCall n lines sectors = fixingCallOf 0 100000 10000 0 (replicate 240 0) lines sectors (replicate n (pos 0))
+plainCall words lines sectors = fixingCallOf 0 100000 10000 0 (replicate 240 0) lines sectors (replicate words (pos 0))
 
 -- "the print": base prices 100,000, 83,000, 60,000 and energies 10, 10, 11, sector 0 alone present
 unfoldable pub printCall : FixingCall
