@@ -23,6 +23,15 @@ pub or-right : (a b : Bool) → (a || b) ≡ false → b ≡ false
 or-right true b h = absurd (true≢false h)
 or-right false b h = h
 
+-- the parts of a chain of tests, whose names the caller writes once
+pub and-five : (a b c d e : Bool) → (a && (b && (c && (d && e)))) ≡ true →
+    (a ≡ true) × (b ≡ true) × (c ≡ true) × (d ≡ true) × (e ≡ true)
+and-five true true true true e h = (refl, refl, refl, refl, h)
+and-five true true true false e h = absurd (false≢true h)
+and-five true true false d e h = absurd (false≢true h)
+and-five true false c d e h = absurd (false≢true h)
+and-five false b c d e h = absurd (false≢true h)
+
 -- a call's result r is the test b, and the code asks for `!r`
 pub told-true : {r b : Bool} → r ≡ b → not r ≡ false → b ≡ true
 told-true e h = sym e ∙ not-false _ h

@@ -1,5 +1,5 @@
 -- Laws of the first answer below a bound. Assumes nothing.
-use mathlib.Core.Path.{_≡_, refl, _∙_}
+use mathlib.Core.Path.{_≡_, refl, _∙_, ap₂}
 use mathlib.Core.Option.{Option, none, some}
 use Prim.Native.Nat.{ℕ, zero, suc, _+_, _-_, _<_, _≤_}
 use native.Mathlib.Numerals.{add-one}
@@ -40,6 +40,18 @@ first-none f zero h j p = absurd (omega arith)
 first-none f (suc k) h j p =
     let q = or-none (firstBelow k f) (f k) h in
     by-last k (λ i. f i ≡ none) (first-none f k (q .0)) (q .1) j p
+
+-- and the other way
+pub first-never : {A : Type 0} (f : ℕ → Option A) (k : ℕ) → ((j : ℕ) → j < k → f j ≡ none) → firstBelow k f ≡ none
+unfolding firstBelow
+first-never f zero h = refl
+first-never f (suc k) h = rw (first-never f k (λ j p. h j (omega arith))) (h k (omega arith))
+
+-- the same answers have the same first
+pub first-same : {A : Type 0} (f g : ℕ → Option A) (k : ℕ) → ((j : ℕ) → j < k → f j ≡ g j) → firstBelow k f ≡ firstBelow k g
+unfolding firstBelow
+first-same f g zero h = refl
+first-same f g (suc k) h = ap₂ orElse (first-same f g k (λ j p. h j (omega arith))) (h k (omega arith))
 
 -- an answer below the bound stands at an index
 pub record Found {A : Type 0} (f : ℕ → Option A) (k : ℕ) (a : A) : Type 0 where

@@ -9,6 +9,7 @@ use Rattle.numbers.specs.Refusal.{Answered, accepted, withoutValues}
 use Rattle.numbers.specs.declared.units.PesoPrice.{PesoPrice}
 use Rattle.numbers.specs.declared.units.Energy.{Energy}
 use Rattle.numbers.specs.declared.units.Pesos.{Pesos}
+use Rattle.numbers.specs.declared.units.UnsignedPesos.{UnsignedPesos}
 use Rattle.numbers.specs.declared.units.CheckedPrice.{CheckedPrice}
 use Rattle.numbers.specs.declared.units.CheckedPrice.the-variants.{Within, OutsideBounds}
 
@@ -22,6 +23,9 @@ noEnergy = record { 0 = 0 }
 -- no money
 abbrev pub noMoney : Pesos
 noMoney = record { 0 = pos 0 }
+
+abbrev pub noTotal : UnsignedPesos
+noTotal = record { 0 = 0 }
 
 -- the ends that a reference, and so an average, must keep, in 0.001 $/kWh
 abbrev pub leastPrice : ℕ

@@ -26,7 +26,7 @@ pub enum Verdict {
 }
 
 // 01's number of a refusal.
-pub fn number(refusal: Refusal) -> u64
+pub fn refusal_number(refusal: Refusal) -> u64
     ensures { λ r. ⌜ r ≡ refusalAnswered refusal .number ⌝ }
 {
     match refusal {
@@ -52,6 +52,6 @@ pub fn verdict_number(verdict: Verdict) -> u64
 {
     match verdict {
         Verdict::Passed => 0,
-        Verdict::Refused(refusal) => number(refusal),
+        Verdict::Refused(refusal) => refusal_number(refusal),
     }
 }

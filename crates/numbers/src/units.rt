@@ -14,6 +14,9 @@ pub struct Energy(pub u64);
 // Money, in whole $. A balance and an amount may be below zero.
 pub struct Pesos(pub i64);
 
+// Money that is never below zero, in whole $: what prices collect, the contract total, the residue.
+pub struct UnsignedPesos(pub u64);
+
 // What the checked constructor of a peso price answers.
 pub enum CheckedPrice {
     Within(PesoPrice),

@@ -1,1 +1,2 @@
 pub mod SeriesLaws
+pub mod MeanLaws

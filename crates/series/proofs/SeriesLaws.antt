@@ -1,26 +1,36 @@
 -- Laws of the series: values stay at most the top value, a sum of a window stays small, and a mean of present values
 -- lies between the least and the greatest value that may be published. Callers cite these and not the definitions.
 -- Assumes nothing.
-use mathlib.Core.Path.{_≡_, refl}
-use mathlib.Core.Bool.{Bool, true, false, cond, not, _&&_}
-use mathlib.Core.List.{List, [], _∷_}
+use mathlib.Core.Path.{_≡_, refl, sym, _∙_, ap}
+use mathlib.Core.Bool.{Bool, true, false, cond, _&&_, _||_, false≢true}
+use mathlib.Core.List.{List, []}
 use mathlib.Core.Option.{Option, none, some}
 use Prim.Native.Nat.{ℕ, _+_, _-_, _*_, _≤_, _<_}
 use native.Mathlib.Omega.{arith}
 use native.Mathlib.Decide.{decLt}
 use lib.ListN.{getD, List·getD-eq-default}
 use lib.Dec.{leb, ltb, eqb}
-use borrow.Author.Tests.{leb-true, eqb-false, le-leb, lt-leb, lt-ltb, le-ltb}
+use borrow.Author.Tests.{leb-true, eqb-true, eqb-false, eq-eqb, le-leb, lt-leb, lt-ltb, le-ltb}
 use Rattle.numbers.specs.Bounded.{sumBelow}
-use Rattle.numbers.specs.Checks.{Promised, acceptedWhere}
 use Rattle.numbers.proofs.SumLaws.{sum-le, sum-ge}
-use Rattle.numbers.proofs.TestLaws.{all-at, any-none}
+use Rattle.numbers.proofs.TestLaws.{all-at, any-none, any-holds}
 use Rattle.numbers.proofs.ListLaws.{list-at, list-length}
-use Rattle.numbers.proofs.CheckLaws.{promised}
 use Rattle.numbers.proofs.RoundingLaws.{half-up-ge, half-up-le}
-use Rattle.series.specs.Series.{mostValue, monthCount, seriesCount, seriesRow, seriesTable, valuesInRange, TableInRange, valueIn, termMonth, valueOf, termValue, termMissing, meanOf, termMean, meanAnswer, meanAnswered}
-use Rattle.series.specs.declared.term.Mean.{Mean}
-use Rattle.series.specs.declared.term.Mean.the-variants.{Published, Missing}
+use Rattle.series.specs.Series.{mostValue, monthCount, seriesCount, seriesRow, seriesTable, valuesInRange}
+use Rattle.series.specs.Series.{windowAllowed, valueIn, termMonth, valueOf, termValue, windowMissing, meanOf, windowMean}
+use Rattle.series.specs.Required.{ValuesWithin, TableInRange}
+
+-- a window of 1, 6 or 9 months has 1 to 9
+pub window-size : (w : ℕ) → windowAllowed w ≡ true → (1 ≤ w) × (w ≤ 9)
+unfolding windowAllowed
+window-size w h = go (eqb w 1) refl (eqb w 6) refl (eqb w 9) refl h
+  where
+    go : (a : Bool) → eqb w 1 ≡ a → (b : Bool) → eqb w 6 ≡ b → (d : Bool) → eqb w 9 ≡ d → (a || (b || d)) ≡ true →
+        (1 ≤ w) × (w ≤ 9)
+    go true p b q d r e = omega (arith, eqb-true w 1 p)
+    go false p true q d r e = omega (arith, eqb-true w 6 q)
+    go false p false q true r e = omega (arith, eqb-true w 9 r)
+    go false p false q false r e = absurd (false≢true e)
 
 pick-most : (b : Bool) (x m : ℕ) → x ≤ m → cond b x 0 ≤ m
 pick-most true x m h = h
@@ -43,7 +53,7 @@ at-table words s k (no p) h =
     rw (List·getD-eq-default (seriesTable words) [] {n = s} (omega (arith, list-length (seriesRow words) 5))) (omega arith)
 
 pub table-in-range : (words : List ℕ) → valuesInRange words ≡ true → TableInRange (seriesTable words)
-table-in-range words h = record { most = λ s k. at-table words s k (decLt s 5) h }
+table-in-range words h = record { row = λ s. record { most = λ k. at-table words s k (decLt s 5) h } }
 
 -- the value of a term in one month, by where the month lies: below 0, before the table, in it, past it
 module _ (row : List ℕ) (first t lag k : ℕ) where
@@ -63,71 +73,55 @@ module _ (row : List ℕ) (first t lag k : ℕ) where
   unfolding termValue termMonth valueIn
   value-past p q r = rw (le-leb (lag + k) t p, le-leb first (t - (lag + k)) q, le-ltb (t - (lag + k) - first) monthCount r)
 
-module _ (table : List (List ℕ)) (ok : TableInRange table) (first t s lag : ℕ) where
+-- a window that begins before month 0 or before the table lacks its oldest month; one that ends past the table its newest
+module _ (row : List ℕ) (first t lag window : ℕ) (some : 1 ≤ window) where
+  lacks : (k : ℕ) → k < window → termValue row first t lag k ≡ 0 → windowMissing row first t lag window ≡ true
+  unfolding windowMissing
+  lacks k p h = any-holds window (λ i. eqb (termValue row first t lag i) 0) k p (eq-eqb _ _ h)
+
+  pub window-before : t < first + lag + window - 1 → windowMissing row first t lag window ≡ true
+  window-before h = go (decLt t (lag + (window - 1)))
+    where
+      go : Dec (t < lag + (window - 1)) → windowMissing row first t lag window ≡ true
+      go (yes p) = lacks (window - 1) (omega arith) (value-below row first t lag (window - 1) p)
+      go (no p) = lacks (window - 1) (omega arith) (value-before row first t lag (window - 1) (omega arith) (omega arith))
+
+  -- a window that lies whole in the table
+  pub window-inside : (k : ℕ) → k < window → first + lag + window - 1 ≤ t → t - lag - first < monthCount →
+      getD row (t - lag - first - k) 0 ≡ termValue row first t lag k
+  window-inside k p q r =
+      let e : t - lag - first - k ≡ t - (lag + k) - first = omega arith in
+      ap (λ x. getD row x 0) e ∙ sym (value-inside row first t lag k (omega arith) (omega arith) (omega arith))
+
+  pub window-past : lag ≤ t → first ≤ t - lag → monthCount ≤ t - lag - first → windowMissing row first t lag window ≡ true
+  window-past p q r = lacks 0 (omega arith) (value-past row first t lag 0 (omega arith) (omega arith) (omega arith))
+
+module _ (row : List ℕ) (ok : ValuesWithin row) (first t lag : ℕ) where
   -- a value of a term, present or not
-  pub value-most : (k : ℕ) → termValue (getD table s []) first t lag k ≤ mostValue
+  pub value-most : (k : ℕ) → termValue row first t lag k ≤ mostValue
   unfolding termValue valueIn
   value-most k = go (termMonth t lag k)
     where
-      go : (m : Option ℕ) → valueOf (getD table s []) first m ≤ mostValue
+      go : (m : Option ℕ) → valueOf row first m ≤ mostValue
       go none = omega arith
-      go (some m) = pick-most (leb first m && ltb (m - first) monthCount) _ _ (ok .most s (m - first))
+      go (some m) = pick-most (leb first m && ltb (m - first) monthCount) _ _ (ok .most (m - first))
 
-  pub values-most : (k : ℕ) → sumBelow k (termValue (getD table s []) first t lag) ≤ k * mostValue
-  values-most k = sum-le k mostValue (termValue (getD table s []) first t lag) (λ j p. value-most j)
+  pub values-most : (k : ℕ) → sumBelow k (termValue row first t lag) ≤ k * mostValue
+  values-most k = sum-le k mostValue (termValue row first t lag) (λ j p. value-most j)
 
-  -- where no month is missing each value is at least 1, so the mean of the window lies in 1 to the top value
-  pub mean-least : (window : ℕ) → 1 ≤ window → termMissing table first t s lag window ≡ false → 1 ≤ termMean table first t s lag window
-  unfolding termMissing termMean meanOf
-  mean-least window p h =
-      half-up-ge _ window p 1
-      (omega (arith, sum-ge window 1 (termValue (getD table s []) first t lag) (λ j q. present j (any-none window (λ k. eqb (termValue (getD table s []) first t lag k) 0) h j q))))
-    where
-      present : (j : ℕ) → eqb (termValue (getD table s []) first t lag j) 0 ≡ false → 1 ≤ termValue (getD table s []) first t lag j
-      present j e =
-          let no-zero : termValue (getD table s []) first t lag j ≡ 0 → ⊥ = eqb-false _ _ e in
-          omega arith
-
-  pub mean-most : (window : ℕ) → 1 ≤ window → termMean table first t s lag window ≤ mostValue
-  unfolding termMean meanOf
+  pub mean-most : (window : ℕ) → 1 ≤ window → windowMean row first t lag window ≤ mostValue
+  unfolding windowMean meanOf
   mean-most window p = half-up-le _ window p mostValue (omega (arith, values-most window))
 
--- the answer where no month is missing, and where one is
-module _ (table : List (List ℕ)) (first t s lag window : ℕ) where
-  pub mean-published : termMissing table first t s lag window ≡ false → meanAnswer table first t s lag window ≡ Published (termMean table first t s lag window)
-  unfolding meanAnswer
-  mean-published h = rw h
-
-  pub mean-missing : termMissing table first t s lag window ≡ true → meanAnswer table first t s lag window ≡ Missing
-  unfolding meanAnswer
-  mean-missing h = rw h
-
-  -- its number and values
-  mean-told : meanAnswered (meanAnswer table first t s lag window) ≡ acceptedWhere (not (termMissing table first t s lag window)) (termMean table first t s lag window ∷ []) 10
-  unfolding meanAnswer
-  mean-told = go (termMissing table first t s lag window)
-    where
-      go : (b : Bool) → meanAnswered (cond b Missing (Published (termMean table first t s lag window))) ≡ acceptedWhere (not b) (termMean table first t s lag window ∷ []) 10
-      go true = refl
-      go false = refl
-
-  pub mean-promised : (x : Mean) → x ≡ meanAnswer table first t s lag window → Promised meanAnswered x (meanAnswer table first t s lag window) (acceptedWhere (not (termMissing table first t s lag window)) (termMean table first t s lag window ∷ []) 10)
-  mean-promised x e = promised meanAnswered x _ _ e mean-told
-
-  -- what an answer at hand says
-  pub answered-mean : (x : Mean) (m : ℕ) → x ≡ meanAnswer table first t s lag window → termMissing table first t s lag window ≡ false → x ≡ Published m → m ≡ termMean table first t s lag window
-  answered-mean x m e h p = let q = mean-published h in cc
-
-  pub answered-present : (x : Mean) (m : ℕ) → x ≡ meanAnswer table first t s lag window → x ≡ Published m → termMissing table first t s lag window ≡ false
-  answered-present x m e p = go (termMissing table first t s lag window) refl
-    where
-      go : (b : Bool) → termMissing table first t s lag window ≡ b → b ≡ false
-      go true h = let q = mean-missing h in cc
-      go false h = refl
-
-  pub answered-missing : (x : Mean) → x ≡ meanAnswer table first t s lag window → x ≡ Missing → termMissing table first t s lag window ≡ true
-  answered-missing x e p = go (termMissing table first t s lag window) refl
-    where
-      go : (b : Bool) → termMissing table first t s lag window ≡ b → b ≡ true
-      go false h = let q = mean-published h in cc
-      go true h = refl
+-- where no month is missing each value is at least 1, and so is the mean
+pub mean-least : (row : List ℕ) (first t lag window : ℕ) → 1 ≤ window → windowMissing row first t lag window ≡ false →
+    1 ≤ windowMean row first t lag window
+unfolding windowMissing windowMean meanOf
+mean-least row first t lag window p h =
+    half-up-ge _ window p 1
+    (omega (arith, sum-ge window 1 (termValue row first t lag) (λ j q. present j (any-none window (λ k. eqb (termValue row first t lag k) 0) h j q))))
+  where
+    present : (j : ℕ) → eqb (termValue row first t lag j) 0 ≡ false → 1 ≤ termValue row first t lag j
+    present j e =
+        let no-zero : termValue row first t lag j ≡ 0 → ⊥ = eqb-false _ _ e in
+        omega arith

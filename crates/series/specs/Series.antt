@@ -1,17 +1,14 @@
 -- "Index months" of document 01: the table of series, the months that a term takes, a missing month, the mean.
 -- Series: 0 diesel, 1 coal, 2 gas, 3 CPI, 4 Brent, in ten-thousandths; months count from January 2000, month 0.
 -- Assumes nothing.
-use mathlib.Core.Bool.{Bool, cond, _&&_}
-use mathlib.Core.List.{List, [], _∷_}
+use mathlib.Core.Bool.{Bool, cond, _&&_, _||_}
+use mathlib.Core.List.{List}
 use mathlib.Core.Option.{Option, none, some}
-use Prim.Native.Nat.{ℕ, _+_, _-_, _*_, _≤_, _<_}
+use Prim.Native.Nat.{ℕ, _+_, _-_, _*_}
 use lib.ListN.{getD}
 use lib.Dec.{leb, ltb, eqb}
 use Rattle.numbers.specs.Bounded.{sumBelow, allBelow, anyBelow, listBelow}
 use Rattle.numbers.specs.Rounding.{halfUp}
-use Rattle.numbers.specs.Refusal.{Answered, accepted, withoutValues}
-use Rattle.series.specs.declared.term.Mean.{Mean}
-use Rattle.series.specs.declared.term.Mean.the-variants.{Published, Missing}
 
 -- "a table of 5 rows of 48 months, lent as 240 words, row by row"
 abbrev pub seriesCount : ℕ
@@ -31,6 +28,10 @@ mostValue = 99999999
 abbrev pub lastMonth : ℕ
 lastMonth = 1199
 
+-- "window W (1, 6 or 9)"
+unfoldable pub windowAllowed : ℕ → Bool
+windowAllowed window = eqb window 1 || (eqb window 6 || eqb window 9)
+
 -- row s of the lent words
 unfoldable pub seriesRow : List ℕ → ℕ → List ℕ
 seriesRow words s = listBelow monthCount (λ k. getD words (s * monthCount + k) 0)
@@ -42,18 +43,6 @@ seriesTable words = listBelow seriesCount (seriesRow words)
 -- no value of the 240 is too large, used or not (cause 7)
 unfoldable pub valuesInRange : List ℕ → Bool
 valuesInRange words = allBelow wordCount (λ j. leb (getD words j 0) mostValue)
-
--- the same of a table: every value that stands in it is at most the top value
-pub record TableInRange (table : List (List ℕ)) : Type 0 where
-  pub most : (s k : ℕ) → getD (getD table s []) k 0 ≤ mostValue
-
--- a term's words, and the table's first month, as the test of the lines leaves them
-pub record TermInRange (first s lag window : ℕ) : Type 0 where
-  pub start : first ≤ lastMonth
-  pub series : s < seriesCount
-  pub lagged : lag ≤ 12
-  pub some : 1 ≤ window
-  pub few : window ≤ 9
 
 -- the value of a series, given by its row, in a month: 0, as for "not published", where the table does not reach it
 unfoldable pub valueIn : List ℕ → ℕ → ℕ → ℕ
@@ -73,22 +62,12 @@ unfoldable pub termValue : List ℕ → ℕ → ℕ → ℕ → ℕ → ℕ
 termValue row first t lag k = valueOf row first (termMonth t lag k)
 
 -- "Zero means not published"; "A month below 0 or outside the table is missing too"
-unfoldable pub termMissing : List (List ℕ) → ℕ → ℕ → ℕ → ℕ → ℕ → Bool
-termMissing table first t s lag window = anyBelow window (λ k. eqb (termValue (getD table s []) first t lag k) 0)
+unfoldable pub windowMissing : List ℕ → ℕ → ℕ → ℕ → ℕ → Bool
+windowMissing row first t lag window = anyBelow window (λ k. eqb (termValue row first t lag k) 0)
 
 -- "Its mean is sum/W half up"
 unfoldable pub meanOf : ℕ → ℕ → ℕ
 meanOf sum window = halfUp sum window
 
-unfoldable pub termMean : List (List ℕ) → ℕ → ℕ → ℕ → ℕ → ℕ → ℕ
-termMean table first t s lag window = meanOf (sumBelow window (termValue (getD table s []) first t lag)) window
-
--- the mean of a term, or that a month of it is missing
-unfoldable pub meanAnswer : List (List ℕ) → ℕ → ℕ → ℕ → ℕ → ℕ → Mean
-meanAnswer table first t s lag window =
-    cond (termMissing table first t s lag window) Missing (Published (termMean table first t s lag window))
-
--- 01's number for each answer (0: accepted), and the values returned with it
-abbrev pub meanAnswered : Mean → Answered
-meanAnswered (Published mean) = accepted (mean ∷ [])
-meanAnswered Missing = withoutValues 10
+unfoldable pub windowMean : List ℕ → ℕ → ℕ → ℕ → ℕ → ℕ
+windowMean row first t lag window = meanOf (sumBelow window (termValue row first t lag)) window

@@ -1,4 +1,4 @@
 // The index series of document 01: the table by value, filled from the lent words, the test of its values, and the
-// mean that a term takes from it.
+// means that terms take from it.
+pub mod mean;
 pub mod table;
-pub mod term;

@@ -2,22 +2,25 @@
 ghost use mathlib.Core.Path.{_≡_};
 ghost use Prim.Native.Nat.{_<_};
 ghost use lib.ListN.{length};
-ghost use Rattle.series.specs.Series.{wordCount, seriesRow, seriesTable, valuesInRange};
+ghost use Rattle.series.specs.Series.{seriesCount, wordCount, seriesRow, seriesTable, valuesInRange};
+
+// The greatest month number.
+pub const LAST_MONTH: u64 = 1199;
 
 pub const SERIES: usize = 5;
 
-pub(crate) const MONTHS: usize = 48;
+pub const MONTHS: usize = 48;
 
-const WORDS: usize = 240;
+pub const WORDS: usize = SERIES * MONTHS;
 
 pub const MOST_VALUE: u64 = 99999999;
 
 // Row `series` of the lent words.
-fn row(words: &[u64], series: usize) -> [u64; 48]
-    requires { ⌜ length (now words) ≡ wordCount ⌝ ∗ ⌜ series < 5 ⌝ }
+fn row(words: &[u64], series: usize) -> [u64; MONTHS]
+    requires { ⌜ length (now words) ≡ wordCount ⌝ ∗ ⌜ series < seriesCount ⌝ }
     ensures { λ r. ⌜ r ≡ seriesRow (now (words .entry)) series ⌝ }
 {
-    let mut row = [0u64; 48];
+    let mut row = [0u64; MONTHS];
     let mut k: usize = 0;
     while k < MONTHS {
         row[k] = words[series * MONTHS + k];
@@ -27,11 +30,11 @@ fn row(words: &[u64], series: usize) -> [u64; 48]
 }
 
 // The table: word 48 * series + k of the lent words stands in row `series` at month k.
-pub fn fill(words: &[u64]) -> [[u64; 48]; 5]
+pub fn fill(words: &[u64]) -> [[u64; MONTHS]; SERIES]
     requires { ⌜ length (now words) ≡ wordCount ⌝ }
     ensures { λ r. ⌜ r ≡ seriesTable (now (words .entry)) ⌝ }
 {
-    let mut table = [[0u64; 48]; 5];
+    let mut table = [[0u64; MONTHS]; SERIES];
     let mut series: usize = 0;
     while series < SERIES {
         table[series] = row(words, series);

@@ -1,3 +1,5 @@
 pub mod RangeLaws
 pub mod MonthLaws
 pub mod PriceLaws
+pub mod ListedLaws
+pub mod ReferenceLaws

@@ -1,62 +1,77 @@
--- Laws of the search for a missing month: what a step of the walk adds, and what a walk that finds nothing says.
--- Assumes nothing.
-use mathlib.Core.Path.{_≡_, refl}
-use mathlib.Core.Bool.{Bool, true, false}
-use mathlib.Core.List.{List, [], _∷_}
+-- Laws of the search for a missing month: what a step of the walk adds, that the same tests have the same first, and that
+-- its check has its number and its place. Assumes nothing.
+use mathlib.Core.Path.{_≡_, refl, ap}
+use mathlib.Core.Bool.{Bool, true, false, cond}
+use mathlib.Core.List.{List}
 use mathlib.Core.Option.{Option, none, some}
 use Prim.Native.Nat.{ℕ, _<_}
 use native.Mathlib.Omega.{arith}
-use Rattle.numbers.proofs.FirstLaws.{first-none}
-use Rattle.numbers.proofs.CheckLaws.{Told, AllTold, none-told, met-told, judged}
-use Rattle.numbers.specs.Checks.{verdictOf, Judged}
-use Rattle.numbers.specs.declared.refusal.Verdict.{Verdict}
-use Rattle.supply.specs.Line.{termCountOf}
-use Rattle.supply.specs.Months.{lacksMonth, missingTerm, missingInLine, Place, missingAt, firstMissing, monthCheck}
+use Rattle.numbers.proofs.FirstLaws.{first-none, first-never, first-same}
+use Rattle.numbers.proofs.CheckLaws.{Told, none-told, met-told}
+use Rattle.supply.specs.Line.{lineCount, lineOf, termOf}
+use Rattle.supply.specs.Months.{missingTerm, missingInLine, Place, missingAt, firstMissing, monthCheck}
+use Rattle.supply.specs.declared.line.Term.{Term}
+use Rattle.supply.specs.declared.line.Line.{Line}
 
-module _ (table : List (List ℕ)) (first t : ℕ) (lines : List ℕ) (j k : ℕ) where
-  pub term-missing : lacksMonth table first t lines j k ≡ true → missingTerm table first t lines j k ≡ some (record { line = j; term = k })
+module _ (lacks : Term → Bool) (line : Line) (j k : ℕ) where
+  pub term-missing : lacks (termOf line k) ≡ true → missingTerm lacks line j k ≡ some (record { line = j; term = k })
   unfolding missingTerm
   term-missing h = rw h
 
-  pub term-published : lacksMonth table first t lines j k ≡ false → missingTerm table first t lines j k ≡ none
+  pub term-published : lacks (termOf line k) ≡ false → missingTerm lacks line j k ≡ none
   unfolding missingTerm
   term-published h = rw h
 
-  -- a term of a line in which nothing is missing lacks no month
-  pub line-published : missingInLine table first t lines j ≡ none → k < termCountOf lines j → lacksMonth table first t lines j k ≡ false
-  unfolding missingInLine missingTerm
-  line-published h p = go (lacksMonth table first t lines j k) refl
+module _ (lacks : Term → Bool) (lines : List ℕ) where
+  -- a walk that no term stops
+  pub never-missing : ((j : ℕ) → j < lineCount lines → (k : ℕ) → k < lineOf lines j .«term_count» → lacks (termOf (lineOf lines j) k) ≡ false) →
+      firstMissing lacks lines ≡ none
+  unfolding firstMissing missingInLine
+  never-missing h =
+      first-never (λ j. missingInLine lacks (lineOf lines j) j) (lineCount lines)
+      (λ j p. first-never (missingTerm lacks (lineOf lines j) j) (lineOf lines j .«term_count»)
+      (λ k q. term-published lacks (lineOf lines j) j k (h j p k q)))
+
+  -- and what a walk that none stopped says of every term
+  pub none-missing : firstMissing lacks lines ≡ none →
+      (j : ℕ) → j < lineCount lines → (k : ℕ) → k < lineOf lines j .«term_count» → lacks (termOf (lineOf lines j) k) ≡ false
+  unfolding firstMissing missingInLine
+  none-missing h j p k q = go (lacks (termOf (lineOf lines j) k)) refl
     where
-      go : (b : Bool) → lacksMonth table first t lines j k ≡ b → b ≡ false
+      go : (b : Bool) → lacks (termOf (lineOf lines j) k) ≡ b → b ≡ false
       go false e = refl
       go true e =
-          let q = first-none (missingTerm table first t lines j) (termCountOf lines j) h k p in
-          let r = term-missing e in
+          let a =
+          first-none (missingTerm lacks (lineOf lines j) j) (lineOf lines j .«term_count»)
+          (first-none (λ i. missingInLine lacks (lineOf lines i) i) (lineCount lines) h j p) k q in
+          let b = term-missing lacks (lineOf lines j) j k e in
           cc
 
--- a search that is done has found nothing in any line
-pub search-published : (table : List (List ℕ)) (first t count : ℕ) (lines : List ℕ) → firstMissing table first t count lines ≡ none → (j : ℕ) → j < count → missingInLine table first t lines j ≡ none
-unfolding firstMissing
-search-published table first t count lines h = first-none (missingInLine table first t lines) count h
+-- the same tests have the same first
+pub missing-same : (one other : Term → Bool) (lines : List ℕ) →
+    ((j : ℕ) → j < lineCount lines → (k : ℕ) → k < lineOf lines j .«term_count» → one (termOf (lineOf lines j) k) ≡ other (termOf (lineOf lines j) k)) →
+    firstMissing one lines ≡ firstMissing other lines
+unfolding firstMissing missingInLine missingTerm
+missing-same one other lines h =
+    first-same (λ j. missingInLine one (lineOf lines j) j) (λ j. missingInLine other (lineOf lines j) j) (lineCount lines)
+    (λ j p. first-same (missingTerm one (lineOf lines j) j) (missingTerm other (lineOf lines j) j) (lineOf lines j .«term_count»)
+    (λ k q. ap {A = Bool} {B = Option Place} (λ b. cond b (some (record { line = j; term = k })) none) (h j p k q)))
 
--- cause 10 has its number and its place
-pub month-told : (table : List (List ℕ)) (first t count : ℕ) (lines : List ℕ) → Told (monthCheck table first t count lines)
-unfolding monthCheck
-month-told table first t count lines = go (firstMissing table first t count lines)
-  where
-    go : (o : Option Place) → Told (record { number = 10; met = missingAt o })
-    go none = none-told 10
-    go (some place) = met-told 10 _ refl
+module _ (lacks : Term → Bool) (lines : List ℕ) where
+  -- cause 10 has its number and its place
+  pub month-told : Told (monthCheck lacks lines)
+  unfolding monthCheck
+  month-told = go (firstMissing lacks lines)
+    where
+      go : (o : Option Place) → Told (record { number = 10; met = missingAt o })
+      go none = none-told 10
+      go (some place) = met-told 10 _ refl
 
--- where cause 10 is not met, the search finds nothing
-pub months-passed : (table : List (List ℕ)) (first t count : ℕ) (lines : List ℕ) → monthCheck table first t count lines .met ≡ none → firstMissing table first t count lines ≡ none
-unfolding monthCheck
-months-passed table first t count lines = go (firstMissing table first t count lines)
-  where
-    go : (o : Option Place) → missingAt o ≡ none → o ≡ none
-    go none h = refl
-    go (some place) h = absurd (let z : _≡_ {A = ℕ} 0 1 = cc in omega arith)
-
-pub months-judged : (table : List (List ℕ)) (first t count : ℕ) (lines : List ℕ) (verdict : Verdict) → verdict ≡ verdictOf (monthCheck table first t count lines ∷ []) → Judged verdict (monthCheck table first t count lines ∷ [])
-unfolding AllTold
-months-judged table first t count lines = judged (monthCheck table first t count lines ∷ []) (month-told table first t count lines, tt)
+  -- where cause 10 is not met, the search finds nothing
+  pub months-passed : monthCheck lacks lines .met ≡ none → firstMissing lacks lines ≡ none
+  unfolding monthCheck
+  months-passed = go (firstMissing lacks lines)
+    where
+      go : (o : Option Place) → missingAt o ≡ none → o ≡ none
+      go none h = refl
+      go (some place) h = absurd (let z : _≡_ {A = ℕ} 0 1 = cc in omega arith)

@@ -1,81 +1,86 @@
 -- What a line that passes the test of its ranges has: each word within its bounds, as plain facts. Callers cite these
 -- and not the test. Assumes nothing.
 use mathlib.Core.Path.{_≡_, refl}
-use mathlib.Core.Bool.{Bool, true, false, _&&_, _||_, false≢true}
+use mathlib.Core.Bool.{Bool, true, false, cond, _&&_}
 use mathlib.Core.List.{List}
 use Prim.Native.Nat.{ℕ, _≤_, _<_}
 use native.Mathlib.Omega.{arith}
 use lib.Dec.{leb, ltb, eqb}
 use borrow.Author.Tests.{leb-true, ltb-true, eqb-true, lt-ltb}
-use Rattle.numbers.specs.Bounded.{allBelow}
 use Rattle.numbers.specs.Units.{between}
-use Rattle.numbers.proofs.BoolLaws.{and-left, and-right}
+use Rattle.numbers.proofs.BoolLaws.{and-left, and-right, and-five}
 use Rattle.numbers.proofs.TestLaws.{all-at}
 use Rattle.numbers.proofs.UnitLaws.{between-low, between-high}
-use Rattle.series.specs.Series.{seriesCount, mostValue, lastMonth, TermInRange}
-use Rattle.supply.specs.Line.{WholeLines, mostTerms, distributorOf, basePriceOf, offerFactorOf, purchaseFactorOf, energyOf, termCountOf, seriesOf, weightOf, lagOf, windowOf, baseValueOf}
-use Rattle.supply.specs.Range.{headInRange, windowAllowed, termInRange, termAllowed, weightsAllowed, lineInRange, linesInRange, marketInRange, inputInRange, TermFacts, LineFacts, MarketFacts, CheckedLines}
+use Rattle.series.specs.Series.{seriesCount, mostValue, lastMonth, windowAllowed}
+use Rattle.supply.specs.Line.{mostLines, mostTerms, lineCount, lineOf, termOf}
+use Rattle.supply.specs.Range.{headInRange, termInRange, termUnused, termAllowed, termsAllowed, weightsAllowed}
+use Rattle.supply.specs.Range.{lineInRange, linesInRange, numbersInRange, inputInRange}
+use Rattle.supply.specs.Required.{TermFacts, LineFacts, NumbersFacts, CheckedLines}
+use Rattle.supply.specs.declared.line.Term.{Term}
+use Rattle.supply.specs.declared.line.Line.{Line}
+use Rattle.supply.specs.declared.market.FixingNumbers.{FixingNumbers}
 
--- a window of 1, 6 or 9 months has 1 to 9
-window-facts : (w : ℕ) → windowAllowed w ≡ true → (1 ≤ w) × (w ≤ 9)
-unfolding windowAllowed
-window-facts w h = go (eqb w 1) refl (eqb w 6) refl (eqb w 9) refl h
-  where
-    go : (a : Bool) → eqb w 1 ≡ a → (b : Bool) → eqb w 6 ≡ b → (d : Bool) → eqb w 9 ≡ d → (a || (b || d)) ≡ true → (1 ≤ w) × (w ≤ 9)
-    go true p b q d r e = omega (arith, eqb-true w 1 p)
-    go false p true q d r e = omega (arith, eqb-true w 6 q)
-    go false p false q true r e = omega (arith, eqb-true w 9 r)
-    go false p false q false r e = absurd (false≢true e)
-
--- the parts of a chain of tests, whose names the caller writes once
-and-five : (a b c d e : Bool) → (a && (b && (c && (d && e)))) ≡ true → (a ≡ true) × (b ≡ true) × (c ≡ true) × (d ≡ true) × (e ≡ true)
-and-five true true true true e h = (refl, refl, refl, refl, h)
-and-five true true true false e h = absurd (false≢true h)
-and-five true true false d e h = absurd (false≢true h)
-and-five true false c d e h = absurd (false≢true h)
-and-five false b c d e h = absurd (false≢true h)
-
-term-facts : (lines : List ℕ) (j k : ℕ) → termInRange lines j k ≡ true → TermFacts lines j k
+term-facts : (term : Term) → termInRange term ≡ true → TermFacts term
 unfolding termInRange
-term-facts lines j k h =
+term-facts term h =
     let p =
-    and-five (ltb (seriesOf lines j k) seriesCount) (between 1 10000 (weightOf lines j k)) (between 1 12 (lagOf lines j k)) (windowAllowed (windowOf lines j k)) (between 1 mostValue (baseValueOf lines j k)) h in
-    let w = window-facts (windowOf lines j k) (p .3) in
+    and-five (ltb (term .series) seriesCount) (between 1 10000 (term .weight)) (between 1 12 (term .lag))
+    (windowAllowed (term .window)) (between 1 mostValue (term .«base_value»)) h in
     record {
       series = ltb-true _ _ (p .0);
       weight = between-high 1 10000 _ (p .1);
-      lag = between-high 1 12 _ (p .2);
-      some = w .0;
-      few = w .1;
+      lag = between-low 1 12 _ (p .2);
+      lagMost = between-high 1 12 _ (p .2);
+      window = p .3;
       base = between-low 1 mostValue _ (p .4);
       baseMost = between-high 1 mostValue _ (p .4);
     }
 
--- a term below the count, of terms that are all allowed
-pub allowed-term : (lines : List ℕ) (j k : ℕ) → termCountOf lines j ≤ mostTerms → allBelow mostTerms (termAllowed lines j) ≡ true → k < termCountOf lines j → TermFacts lines j k
-unfolding termAllowed
-allowed-term lines j k few h p =
-    term-facts lines j k
-    (rw (lt-ltb k (termCountOf lines j) p) at (all-at mostTerms (termAllowed lines j) h k (omega arith)))
+module _ (line : Line) (h : termsAllowed line ≡ true) where
+  -- a term below the count, of terms that are all allowed
+  allowed-term : (k : ℕ) → k < mostTerms → k < line .«term_count» → TermFacts (termOf line k)
+  unfolding termsAllowed termAllowed
+  allowed-term k few p =
+      term-facts (termOf line k)
+      (rw (lt-ltb k (line .«term_count») p) at (all-at mostTerms (λ i. termAllowed (termOf line i) (ltb i (line .«term_count»))) h k few))
+
+  -- no weight is above 10,000, used or not
+  pub allowed-weight : (k : ℕ) → k < mostTerms → termOf line k .weight ≤ 10000
+  unfolding termsAllowed termAllowed termUnused
+  allowed-weight k few =
+      go (ltb k (line .«term_count»)) (all-at mostTerms (λ i. termAllowed (termOf line i) (ltb i (line .«term_count»))) h k few)
+    where
+      term : Term
+      term = termOf line k
+
+      go : (used : Bool) → cond used (termInRange term) (termUnused term) ≡ true → term .weight ≤ 10000
+      go true e = term-facts term e .weight
+      go false e =
+          omega (
+            arith,
+            eqb-true (term .weight) 0 (and-five (eqb (term .series) 0) (eqb (term .weight) 0) (eqb (term .lag) 0) (eqb (term .window) 0) (eqb (term .«base_value») 0) e .1),
+          )
 
 -- the words before the terms
-head-facts : (n : ℕ) (lines : List ℕ) (j : ℕ) → headInRange n lines j ≡ true → (ltb (distributorOf lines j) n ≡ true) × (between 1 1000000 (basePriceOf lines j) ≡ true) × (between 5000 20000 (offerFactorOf lines j) ≡ true) × (between 5000 20000 (purchaseFactorOf lines j) ≡ true) × ((between 1 10000000 (energyOf lines j) && leb (termCountOf lines j) mostTerms) ≡ true)
+head-facts : (n : ℕ) (line : Line) → headInRange n line ≡ true →
+    (ltb (line .distributor) n ≡ true)
+    × (between 1 1000000 (line .«base_price») ≡ true)
+    × (between 5000 20000 (line .«offer_factor») ≡ true)
+    × (between 5000 20000 (line .«purchase_factor») ≡ true)
+    × ((between 1 10000000 (line .energy) && leb (line .«term_count») mostTerms) ≡ true)
 unfolding headInRange
-head-facts n lines j h =
-    and-five (ltb (distributorOf lines j) n) (between 1 1000000 (basePriceOf lines j)) (between 5000 20000 (offerFactorOf lines j)) (between 5000 20000 (purchaseFactorOf lines j)) (between 1 10000000 (energyOf lines j) && leb (termCountOf lines j) mostTerms) h
+head-facts n line h =
+    and-five (ltb (line .distributor) n) (between 1 1000000 (line .«base_price»)) (between 5000 20000 (line .«offer_factor»))
+    (between 5000 20000 (line .«purchase_factor»)) (between 1 10000000 (line .energy) && leb (line .«term_count») mostTerms) h
 
-pub head-terms : (n : ℕ) (lines : List ℕ) (j : ℕ) → headInRange n lines j ≡ true → termCountOf lines j ≤ mostTerms
-head-terms n lines j h =
-    leb-true _ _ (and-right (between 1 10000000 (energyOf lines j)) (leb (termCountOf lines j) mostTerms) (head-facts n lines j h .4))
-
-pub line-facts : (n : ℕ) (lines : List ℕ) (j : ℕ) → lineInRange n lines j ≡ true → LineFacts lines j
+line-facts : (n : ℕ) (line : Line) → lineInRange n line ≡ true → LineFacts line
 unfolding lineInRange
-line-facts n lines j h =
-    let head = and-left (headInRange n lines j) (allBelow mostTerms (termAllowed lines j) && weightsAllowed lines j) h in
-    let rest = and-right (headInRange n lines j) (allBelow mostTerms (termAllowed lines j) && weightsAllowed lines j) h in
-    let p = head-facts n lines j head in
-    let few = head-terms n lines j head in
-    let energy = and-left (between 1 10000000 (energyOf lines j)) (leb (termCountOf lines j) mostTerms) (p .4) in
+line-facts n line h =
+    let head = and-left (headInRange n line) (termsAllowed line && weightsAllowed line) h in
+    let rest = and-right (headInRange n line) (termsAllowed line && weightsAllowed line) h in
+    let p = head-facts n line head in
+    let energy = and-left (between 1 10000000 (line .energy)) (leb (line .«term_count») mostTerms) (p .4) in
+    let few : line .«term_count» ≤ mostTerms = leb-true _ _ (and-right (between 1 10000000 (line .energy)) (leb (line .«term_count») mostTerms) (p .4)) in
     record {
       base = between-low 1 1000000 _ (p .1);
       baseMost = between-high 1 1000000 _ (p .1);
@@ -86,28 +91,35 @@ line-facts n lines j h =
       energy = between-low 1 10000000 _ energy;
       energyMost = between-high 1 10000000 _ energy;
       terms = few;
-      term = λ k q. allowed-term lines j k few (and-left (allBelow mostTerms (termAllowed lines j)) (weightsAllowed lines j) rest) q;
+      term = λ k q. allowed-term line (and-left (termsAllowed line) (weightsAllowed line) rest) k (omega arith) q;
     }
 
-pub checked-lines : (n count : ℕ) (lines : List ℕ) → WholeLines lines count → linesInRange n count lines ≡ true → CheckedLines lines count
+pub checked-lines : (n : ℕ) (lines : List ℕ) → lineCount lines ≤ mostLines → linesInRange n lines ≡ true → CheckedLines lines
 unfolding linesInRange
-checked-lines n count lines w h =
-    record { lent = w; facts = λ j p. line-facts n lines j (all-at count (lineInRange n lines) h j p) }
+checked-lines n lines few h =
+    record {
+      few = few;
+      facts = λ j p. line-facts n (lineOf lines j) (all-at (lineCount lines) (λ i. lineInRange n (lineOf lines i)) h j p);
+    }
 
 -- every line's distributor is one of the n
-pub lines-distributor : (n count : ℕ) (lines : List ℕ) → linesInRange n count lines ≡ true → (j : ℕ) → j < count → distributorOf lines j < n
+pub lines-distributor : (n : ℕ) (lines : List ℕ) → linesInRange n lines ≡ true → (j : ℕ) → j < lineCount lines →
+    lineOf lines j .distributor < n
 unfolding linesInRange lineInRange
-lines-distributor n count lines h j p =
+lines-distributor n lines h j p =
+    let line = lineOf lines j in
     ltb-true _ _
-    (head-facts n lines j
-    (and-left (headInRange n lines j) (allBelow mostTerms (termAllowed lines j) && weightsAllowed lines j) (all-at count (lineInRange n lines) h j p))
+    (head-facts n line
+    (and-left (headInRange n line) (termsAllowed line && weightsAllowed line) (all-at (lineCount lines) (λ i. lineInRange n (lineOf lines i)) h j p))
     .0)
 
-pub market-facts : (dollar factor first : ℕ) → marketInRange dollar factor first ≡ true → MarketFacts dollar factor first
-unfolding marketInRange
-market-facts dollar factor first h =
-    let d = and-left (between 1 200000 dollar) (between 5000 20000 factor && leb first lastMonth) h in
-    let r = and-right (between 1 200000 dollar) (between 5000 20000 factor && leb first lastMonth) h in
+numbers-facts : (numbers : FixingNumbers) → numbersInRange numbers ≡ true → NumbersFacts numbers
+unfolding numbersInRange
+numbers-facts numbers h =
+    let factor = numbers .«reference_factor» in
+    let first = numbers .«first_month» in
+    let d = and-left (between 1 200000 (numbers .dollar)) (between 5000 20000 factor && leb first lastMonth) h in
+    let r = and-right (between 1 200000 (numbers .dollar)) (between 5000 20000 factor && leb first lastMonth) h in
     let f = and-left (between 5000 20000 factor) (leb first lastMonth) r in
     record {
       dollarLeast = between-low 1 200000 _ d;
@@ -118,16 +130,11 @@ market-facts dollar factor first h =
     }
 
 -- the two halves of the test of the input
-module _ (n dollar factor first count : ℕ) (lines : List ℕ) (h : inputInRange n dollar factor first count lines ≡ true) where
-  pub input-market : MarketFacts dollar factor first
+module _ (n : ℕ) (numbers : FixingNumbers) (lines : List ℕ) (h : inputInRange n numbers lines ≡ true) where
+  pub input-numbers : NumbersFacts numbers
   unfolding inputInRange
-  input-market = market-facts dollar factor first (and-left (marketInRange dollar factor first) (linesInRange n count lines) h)
+  input-numbers = numbers-facts numbers (and-left (numbersInRange numbers) (linesInRange n lines) h)
 
-  pub input-lines : linesInRange n count lines ≡ true
+  pub input-lines : linesInRange n lines ≡ true
   unfolding inputInRange
-  input-lines = and-right (marketInRange dollar factor first) (linesInRange n count lines) h
-
--- a used term as the series crate takes it
-pub term-taken : (first : ℕ) (lines : List ℕ) (j k : ℕ) → first ≤ lastMonth → TermFacts lines j k → TermInRange first (seriesOf lines j k) (lagOf lines j k) (windowOf lines j k)
-term-taken first lines j k p f =
-    record { start = p; series = f .series; lagged = f .lag; some = f .some; few = f .few }
+  input-lines = and-right (numbersInRange numbers) (linesInRange n lines) h

@@ -1,8 +1,9 @@
 -- A supply line of document 01 ("Supply lines"): 26 words, of which these are the places. Assumes nothing.
-use mathlib.Core.List.{List}
-use mathlib.Core.Path.{_≡_}
-use Prim.Native.Nat.{ℕ, _+_, _*_, _≤_}
+use mathlib.Core.List.{List, [], _∷_}
+use Prim.Native.Nat.{ℕ, _+_, _*_, _/_}
 use lib.ListN.{getD, length}
+use Rattle.supply.specs.declared.line.Term.{Term}
+use Rattle.supply.specs.declared.line.Line.{Line}
 
 -- "1 to 256 lines, 26 words each"
 abbrev pub lineWords : ℕ
@@ -12,59 +13,53 @@ abbrev pub mostLines : ℕ
 mostLines = 256
 
 -- "From word 6, five words a term", four terms at most
-abbrev pub termsStart : ℕ
-termsStart = 6
-
 abbrev pub termWords : ℕ
 termWords = 5
 
 abbrev pub mostTerms : ℕ
 mostTerms = 4
 
--- word w of line j
-abbrev pub lineWord : List ℕ → ℕ → ℕ → ℕ
-lineWord lines j w = getD lines (j * lineWords + w) 0
+-- how many whole lines the lent words hold
+abbrev pub lineCount : List ℕ → ℕ
+lineCount words = length words / lineWords
 
--- word w of term k of line j
-abbrev pub termWord : List ℕ → ℕ → ℕ → ℕ → ℕ
-termWord lines j k w = lineWord lines j (termsStart + k * termWords + w)
+-- the word at a place of the lent ones
+abbrev pub wordAt : List ℕ → ℕ → ℕ
+wordAt words at = getD words at 0
 
--- the words of line j by name
-abbrev pub distributorOf : List ℕ → ℕ → ℕ
-distributorOf lines j = lineWord lines j 0
+-- a term: "series, weight, lag, window, base value"
+unfoldable pub termFrom : List ℕ → ℕ → Term
+termFrom words at =
+    record {
+      series = wordAt words at;
+      weight = wordAt words (at + 1);
+      lag = wordAt words (at + 2);
+      window = wordAt words (at + 3);
+      «base_value» = wordAt words (at + 4);
+    }
 
-abbrev pub basePriceOf : List ℕ → ℕ → ℕ
-basePriceOf lines j = lineWord lines j 1
+-- line j: "0 distributor; 1 base price; 2 offer factor and 3 purchase factor; 4 energy; 5 term count", then its terms
+unfoldable pub lineOf : List ℕ → ℕ → Line
+lineOf words j =
+    let at = j * lineWords in
+    record {
+      distributor = wordAt words at;
+      «base_price» = wordAt words (at + 1);
+      «offer_factor» = wordAt words (at + 2);
+      «purchase_factor» = wordAt words (at + 3);
+      energy = wordAt words (at + 4);
+      «term_count» = wordAt words (at + 5);
+      terms =
+          termFrom words (at + 6)
+          ∷ termFrom words (at + 6 + termWords)
+          ∷ termFrom words (at + 6 + 2 * termWords)
+          ∷ termFrom words (at + 6 + 3 * termWords)
+          ∷ [];
+    }
 
-abbrev pub offerFactorOf : List ℕ → ℕ → ℕ
-offerFactorOf lines j = lineWord lines j 2
+-- term k of a line, and a term of zeros
+abbrev pub noTerm : Term
+noTerm = record { series = 0; weight = 0; lag = 0; window = 0; «base_value» = 0 }
 
-abbrev pub purchaseFactorOf : List ℕ → ℕ → ℕ
-purchaseFactorOf lines j = lineWord lines j 3
-
-abbrev pub energyOf : List ℕ → ℕ → ℕ
-energyOf lines j = lineWord lines j 4
-
-abbrev pub termCountOf : List ℕ → ℕ → ℕ
-termCountOf lines j = lineWord lines j 5
-
--- the words of term k of line j by name
-abbrev pub seriesOf : List ℕ → ℕ → ℕ → ℕ
-seriesOf lines j k = termWord lines j k 0
-
-abbrev pub weightOf : List ℕ → ℕ → ℕ → ℕ
-weightOf lines j k = termWord lines j k 1
-
-abbrev pub lagOf : List ℕ → ℕ → ℕ → ℕ
-lagOf lines j k = termWord lines j k 2
-
-abbrev pub windowOf : List ℕ → ℕ → ℕ → ℕ
-windowOf lines j k = termWord lines j k 3
-
-abbrev pub baseValueOf : List ℕ → ℕ → ℕ → ℕ
-baseValueOf lines j k = termWord lines j k 4
-
--- the lent words are `count` whole lines
-pub record WholeLines (lines : List ℕ) (count : ℕ) : Type 0 where
-  pub whole : length lines ≡ count * lineWords
-  pub few : count ≤ mostLines
+abbrev pub termOf : Line → ℕ → Term
+termOf line k = getD (line .terms) k noTerm

@@ -4,29 +4,35 @@ use mathlib.Core.Bool.{Bool, cond}
 use mathlib.Core.List.{List, [], _∷_}
 use mathlib.Core.Option.{Option, none, some}
 use Prim.Native.Nat.{ℕ}
+use lib.ListN.{getD}
 use Rattle.numbers.specs.Bounded.{firstBelow}
 use Rattle.numbers.specs.Checks.{Met, Check}
 use Rattle.numbers.specs.declared.refusal.Refusal.the-variants.{MonthMissing}
-use Rattle.series.specs.Series.{termMissing}
-use Rattle.supply.specs.Line.{termCountOf, seriesOf, lagOf, windowOf}
+use Rattle.series.specs.Series.{windowMissing}
+use Rattle.supply.specs.Line.{lineCount, lineOf, termOf}
+use Rattle.supply.specs.declared.line.Term.{Term}
+use Rattle.supply.specs.declared.line.Line.{Line}
+use Rattle.supply.specs.declared.market.FixingNumbers.{FixingNumbers}
 
--- whether a month of term k of line j is missing in the table, in the fixing's month t
-unfoldable pub lacksMonth : List (List ℕ) → ℕ → ℕ → List ℕ → ℕ → ℕ → Bool
-lacksMonth table first t lines j k = termMissing table first t (seriesOf lines j k) (lagOf lines j k) (windowOf lines j k)
+-- whether a month of a term is missing in the table, in the fixing's month
+unfoldable pub lacksMonth : List (List ℕ) → FixingNumbers → Term → Bool
+lacksMonth table numbers term =
+    windowMissing (getD table (term .series) []) (numbers .«first_month») (numbers .month) (term .lag) (term .window)
 
 -- a place: the line, and the term in it
 pub record Place : Type 0 where
   pub line : ℕ
   pub term : ℕ
 
-unfoldable pub missingTerm : List (List ℕ) → ℕ → ℕ → List ℕ → ℕ → ℕ → Option Place
-missingTerm table first t lines j k = cond (lacksMonth table first t lines j k) (some (record { line = j; term = k })) none
+-- term k of line j, the first such term of line j, the first of all lines; `lacks` says of a term whether a month is missing
+unfoldable pub missingTerm : (Term → Bool) → Line → ℕ → ℕ → Option Place
+missingTerm lacks line j k = cond (lacks (termOf line k)) (some (record { line = j; term = k })) none
 
-unfoldable pub missingInLine : List (List ℕ) → ℕ → ℕ → List ℕ → ℕ → Option Place
-missingInLine table first t lines j = firstBelow (termCountOf lines j) (missingTerm table first t lines j)
+unfoldable pub missingInLine : (Term → Bool) → Line → ℕ → Option Place
+missingInLine lacks line j = firstBelow (line .«term_count») (missingTerm lacks line j)
 
-unfoldable pub firstMissing : List (List ℕ) → ℕ → ℕ → ℕ → List ℕ → Option Place
-firstMissing table first t count lines = firstBelow count (missingInLine table first t lines)
+unfoldable pub firstMissing : (Term → Bool) → List ℕ → Option Place
+firstMissing lacks lines = firstBelow (lineCount lines) (λ j. missingInLine lacks (lineOf lines j) j)
 
 -- 10: "month missing", with "line, term"
 abbrev pub missingAt : Option Place → Option Met
@@ -34,6 +40,5 @@ missingAt none = none
 missingAt (some place) =
     some (record { refusal = MonthMissing (place .line) (place .term); values = place .line ∷ place .term ∷ [] })
 
-unfoldable pub monthCheck : List (List ℕ) → ℕ → ℕ → ℕ → List ℕ → Check
-monthCheck table first t count lines =
-    record { number = 10; met = missingAt (firstMissing table first t count lines) }
+unfoldable pub monthCheck : (Term → Bool) → List ℕ → Check
+monthCheck lacks lines = record { number = 10; met = missingAt (firstMissing lacks lines) }

@@ -1,21 +1,31 @@
--- "Steps for a line" of document 01, each half up, and the bounds of cause 11. The steps are cut at the indexed price:
--- all later ones take an indexed price as their argument. Assumes nothing.
+-- "Steps for a line" of document 01, each half up, and the bounds of cause 11. The steps up to the indexed price take the
+-- mean of each term as given; all later ones take the price that the line takes. Assumes nothing.
+use mathlib.Core.Path.{_≡_}
 use mathlib.Core.Bool.{Bool, cond, _&&_}
 use mathlib.Core.List.{List, [], _∷_}
 use mathlib.Core.Option.{Option, none, some}
 use Prim.Native.Nat.{ℕ, _*_}
-use lib.Dec.{leb, eqb}
+use lib.Dec.{leb, ltb, eqb}
+use lib.ListN.{getD}
 use Rattle.numbers.specs.Bounded.{sumBelow, firstBelow, filledBelow}
 use Rattle.numbers.specs.Rounding.{halfUp}
 use Rattle.numbers.specs.Refusal.{Answered, accepted, withoutValues}
-use Rattle.numbers.specs.Checks.{Met, Check}
+use Rattle.numbers.specs.Checks.{Met, Check, verdictOf, Judged}
+use Rattle.numbers.specs.declared.refusal.Refusal.{Refusal}
 use Rattle.numbers.specs.declared.refusal.Refusal.the-variants.{OutOfBounds}
+use Rattle.numbers.specs.declared.refusal.Verdict.{Verdict}
+use Rattle.numbers.specs.declared.refusal.Verdict.the-variants.{Passed, Refused}
 use Rattle.numbers.specs.Units.{between, checkedPrice, noPrice}
 use Rattle.numbers.specs.declared.units.CheckedPrice.{CheckedPrice}
 use Rattle.numbers.specs.declared.units.CheckedPrice.the-variants.{Within, OutsideBounds}
 use Rattle.numbers.specs.declared.units.PesoPrice.{PesoPrice}
-use Rattle.series.specs.Series.{termMean}
-use Rattle.supply.specs.Line.{mostLines, basePriceOf, offerFactorOf, purchaseFactorOf, termCountOf, seriesOf, weightOf, lagOf, windowOf, baseValueOf}
+use Rattle.series.specs.Series.{windowMean}
+use Rattle.supply.specs.Line.{mostLines, mostTerms, lineCount, lineOf, termOf}
+use Rattle.supply.specs.Months.{lacksMonth, monthCheck}
+use Rattle.supply.specs.declared.line.Term.{Term}
+use Rattle.supply.specs.declared.line.Line.{Line}
+use Rattle.supply.specs.declared.market.FixingNumbers.{FixingNumbers}
+use Rattle.supply.specs.declared.price.References.{References}
 use Rattle.supply.specs.declared.price.IndexedPrice.{IndexedPrice}
 use Rattle.supply.specs.declared.price.IndexedPrice.the-variants.{Indexed, Beyond}
 
@@ -29,7 +39,7 @@ indexedOf base factor = halfUp (base * factor) 1000000
 
 -- "Purchase = indexed * purchase factor / offer factor"
 unfoldable pub purchaseOf : ℕ → ℕ → ℕ → ℕ
-purchaseOf indexed purchaseFactor offerFactor = halfUp (indexed * purchaseFactor) offerFactor
+purchaseOf taken purchaseFactor offerFactor = halfUp (taken * purchaseFactor) offerFactor
 
 -- "Peso = purchase * D / 100,000", in 0.001 $/kWh
 unfoldable pub pesoOf : ℕ → ℕ → ℕ
@@ -37,97 +47,124 @@ pesoOf purchase dollar = halfUp (purchase * dollar) 100000
 
 -- "Reference = peso * F / purchase factor"
 unfoldable pub referenceOf : ℕ → ℕ → ℕ → ℕ
-referenceOf peso factor purchaseFactor = halfUp (peso * factor) purchaseFactor
+referenceOf peso referenceFactor purchaseFactor = halfUp (peso * referenceFactor) purchaseFactor
 
--- the ratio of term k of line j
-unfoldable pub termRatio : List (List ℕ) → ℕ → ℕ → List ℕ → ℕ → ℕ → ℕ
-termRatio table first t lines j k =
-    ratioOf (termMean table first t (seriesOf lines j k) (lagOf lines j k) (windowOf lines j k)) (baseValueOf lines j k)
+-- the mean of a term in the table, in the fixing's month
+unfoldable pub termMean : List (List ℕ) → FixingNumbers → Term → ℕ
+termMean table numbers term =
+    windowMean (getD table (term .series) []) (numbers .«first_month») (numbers .month) (term .lag) (term .window)
+
+-- the ratio of a term, `mean` being that of each term
+unfoldable pub termRatio : (Term → ℕ) → Term → ℕ
+termRatio mean term = ratioOf (mean term) (term .«base_value»)
+
+-- what a term adds to the index factor: nothing where it is not used
+unfoldable pub weightedRatio : (Term → ℕ) → Term → Bool → ℕ
+weightedRatio mean term used = cond used (term .weight * termRatio mean term) 0
 
 -- "Factor = sum of weight * ratio / 10,000, half up (1,000,000 for count 0)"
-unfoldable pub factorOf : List (List ℕ) → ℕ → ℕ → List ℕ → ℕ → ℕ
-factorOf table first t lines j =
-    cond (eqb (termCountOf lines j) 0)
+unfoldable pub indexFactor : (Term → ℕ) → Line → ℕ
+indexFactor mean line =
+    cond (eqb (line .«term_count») 0)
     1000000
-    (halfUp (sumBelow (termCountOf lines j) (λ k. weightOf lines j k * termRatio table first t lines j k)) 10000)
+    (halfUp (sumBelow mostTerms (λ k. weightedRatio mean (termOf line k) (ltb k (line .«term_count»)))) 10000)
 
--- the line's own indexed price
-unfoldable pub lineIndexed : List (List ℕ) → ℕ → ℕ → List ℕ → ℕ → ℕ
-lineIndexed table first t lines j = indexedOf (basePriceOf lines j) (factorOf table first t lines j)
-
--- the later steps, from an indexed price
-unfoldable pub linePurchase : List ℕ → ℕ → ℕ → ℕ
-linePurchase lines j indexed = purchaseOf indexed (purchaseFactorOf lines j) (offerFactorOf lines j)
-
-unfoldable pub lineReference : ℕ → ℕ → List ℕ → ℕ → ℕ → ℕ
-lineReference dollar factor lines j indexed =
-    referenceOf (pesoOf (linePurchase lines j indexed) dollar) factor (purchaseFactorOf lines j)
+-- the line's new indexed price
+unfoldable pub lineIndexed : (Term → ℕ) → Line → ℕ
+lineIndexed mean line = indexedOf (line .«base_price») (indexFactor mean line)
 
 -- "Factor .. at most 100,000,000"; "Indexed .. must lie in 1 to 1,000,000"
-unfoldable pub indexedAllowed : List (List ℕ) → ℕ → ℕ → List ℕ → ℕ → Bool
-indexedAllowed table first t lines j =
-    leb (factorOf table first t lines j) 100000000 && between 1 1000000 (lineIndexed table first t lines j)
+unfoldable pub indexedAllowed : (Term → ℕ) → Line → Bool
+indexedAllowed mean line = leb (indexFactor mean line) 100000000 && between 1 1000000 (lineIndexed mean line)
 
-unfoldable pub indexedAnswer : List (List ℕ) → ℕ → ℕ → List ℕ → ℕ → IndexedPrice
-indexedAnswer table first t lines j =
-    cond (indexedAllowed table first t lines j) (Indexed (lineIndexed table first t lines j)) Beyond
-
--- "purchase must lie in 1 to 1,000,000, reference in 1,000 to 2,000,000"
-unfoldable pub referenceAnswer : ℕ → ℕ → List ℕ → ℕ → ℕ → CheckedPrice
-referenceAnswer dollar factor lines j indexed =
-    cond (between 1 1000000 (linePurchase lines j indexed))
-    (checkedPrice (lineReference dollar factor lines j indexed))
-    OutsideBounds
-
-abbrev pub fromIndexed : ℕ → ℕ → List ℕ → ℕ → IndexedPrice → CheckedPrice
-fromIndexed dollar factor lines j (Indexed indexed) = referenceAnswer dollar factor lines j indexed
-fromIndexed dollar factor lines j Beyond = OutsideBounds
-
--- the line's reference, or that its factor or a price of it is out of bounds
-unfoldable pub priceAnswer : List (List ℕ) → ℕ → ℕ → ℕ → ℕ → List ℕ → ℕ → CheckedPrice
-priceAnswer table first t dollar factor lines j =
-    fromIndexed dollar factor lines j (indexedAnswer table first t lines j)
-
--- the "first such line" of cause 11
-abbrev pub beyondAt : ℕ → CheckedPrice → Option ℕ
-beyondAt j (Within p) = none
-beyondAt j OutsideBounds = some j
-
-unfoldable pub beyondIn : List (List ℕ) → ℕ → ℕ → ℕ → ℕ → List ℕ → ℕ → Option ℕ
-beyondIn table first t dollar factor lines j = beyondAt j (priceAnswer table first t dollar factor lines j)
-
-unfoldable pub firstBeyond : List (List ℕ) → ℕ → ℕ → ℕ → ℕ → ℕ → List ℕ → Option ℕ
-firstBeyond table first t dollar factor count lines = firstBelow count (beyondIn table first t dollar factor lines)
-
--- 11: "factor or price out of bounds", with the "first such line"
-abbrev pub outOfBoundsAt : Option ℕ → Option Met
-outOfBoundsAt none = none
-outOfBoundsAt (some line) = some (record { refusal = OutOfBounds line; values = line ∷ [] })
-
-unfoldable pub boundsCheck : List (List ℕ) → ℕ → ℕ → ℕ → ℕ → ℕ → List ℕ → Check
-boundsCheck table first t dollar factor count lines =
-    record { number = 11; met = outOfBoundsAt (firstBeyond table first t dollar factor count lines) }
+unfoldable pub indexedAnswer : (Term → ℕ) → Line → IndexedPrice
+indexedAnswer mean line = cond (indexedAllowed mean line) (Indexed (lineIndexed mean line)) Beyond
 
 -- 01's number for an indexed price (0: accepted), and the values returned with it
 abbrev pub indexedAnswered : IndexedPrice → Answered
 indexedAnswered (Indexed price) = accepted (price ∷ [])
 indexedAnswered Beyond = withoutValues 11
 
--- the references of the lines before the first that is out of bounds: of all lines where there is none
-abbrev pub pricedLines : ℕ → Option ℕ → ℕ
-pricedLines count none = count
-pricedLines count (some line) = line
+-- the price that a line takes: its new indexed price
+unfoldable pub priceTaken : ℕ → ℕ
+priceTaken indexed = indexed
 
+-- the later steps, from the price taken
+unfoldable pub linePurchase : Line → ℕ → ℕ
+linePurchase line taken = purchaseOf taken (line .«purchase_factor») (line .«offer_factor»)
+
+unfoldable pub lineReference : FixingNumbers → Line → ℕ → ℕ
+lineReference numbers line taken =
+    referenceOf (pesoOf (linePurchase line taken) (numbers .dollar)) (numbers .«reference_factor») (line .«purchase_factor»)
+
+-- "purchase must lie in 1 to 1,000,000, reference in 1,000 to 2,000,000"
+unfoldable pub referenceAnswer : FixingNumbers → Line → ℕ → CheckedPrice
+referenceAnswer numbers line taken =
+    cond (between 1 1000000 (linePurchase line taken)) (checkedPrice (lineReference numbers line taken)) OutsideBounds
+
+abbrev pub fromIndexed : FixingNumbers → Line → IndexedPrice → CheckedPrice
+fromIndexed numbers line (Indexed indexed) = referenceAnswer numbers line (priceTaken indexed)
+fromIndexed numbers line Beyond = OutsideBounds
+
+-- the line's reference, or that its index factor or a price of it is out of bounds
+unfoldable pub priceAnswer : (Term → ℕ) → FixingNumbers → Line → CheckedPrice
+priceAnswer mean numbers line = fromIndexed numbers line (indexedAnswer mean line)
+
+-- the "first such line" of cause 11
+abbrev pub beyondAt : ℕ → CheckedPrice → Option ℕ
+beyondAt j (Within p) = none
+beyondAt j OutsideBounds = some j
+
+unfoldable pub beyondIn : (Term → ℕ) → FixingNumbers → List ℕ → ℕ → Option ℕ
+beyondIn mean numbers lines j = beyondAt j (priceAnswer mean numbers (lineOf lines j))
+
+unfoldable pub firstBeyond : (Term → ℕ) → FixingNumbers → List ℕ → Option ℕ
+firstBeyond mean numbers lines = firstBelow (lineCount lines) (beyondIn mean numbers lines)
+
+-- 11: "factor or price out of bounds", with the "first such line"
+abbrev pub outOfBoundsAt : Option ℕ → Option Met
+outOfBoundsAt none = none
+outOfBoundsAt (some line) = some (record { refusal = OutOfBounds line; values = line ∷ [] })
+
+unfoldable pub boundsCheck : (Term → ℕ) → FixingNumbers → List ℕ → Check
+boundsCheck mean numbers lines = record { number = 11; met = outOfBoundsAt (firstBeyond mean numbers lines) }
+
+-- the reference of a line that has one
 abbrev pub priceOr : CheckedPrice → PesoPrice
 priceOr (Within p) = p
 priceOr OutsideBounds = noPrice
 
--- the reference of line j
-unfoldable pub referencePrice : List (List ℕ) → ℕ → ℕ → ℕ → ℕ → List ℕ → ℕ → PesoPrice
-referencePrice table first t dollar factor lines j = priceOr (priceAnswer table first t dollar factor lines j)
+unfoldable pub referencePrice : (Term → ℕ) → FixingNumbers → List ℕ → ℕ → PesoPrice
+referencePrice mean numbers lines j = priceOr (priceAnswer mean numbers (lineOf lines j))
 
-unfoldable pub referencePrices : List (List ℕ) → ℕ → ℕ → ℕ → ℕ → ℕ → List ℕ → List PesoPrice
-referencePrices table first t dollar factor count lines =
-    filledBelow mostLines noPrice
-    (pricedLines count (firstBeyond table first t dollar factor count lines))
-    (referencePrice table first t dollar factor lines)
+-- the references of all lines; the places past them are empty
+unfoldable pub referenceList : (Term → ℕ) → FixingNumbers → List ℕ → List PesoPrice
+referenceList mean numbers lines =
+    filledBelow mostLines noPrice (lineCount lines) (referencePrice mean numbers lines)
+
+-- what the references come to by a verdict: the list where it is passed, none where it is refused
+unfoldable pub refusedReferences : Refusal → References
+refusedReferences refusal =
+    record { prices = filledBelow mostLines noPrice 0 (λ j. noPrice); verdict = Refused refusal }
+
+abbrev pub referencesBy : Verdict → List PesoPrice → References
+referencesBy Passed prices = record { prices = prices; verdict = Passed }
+referencesBy (Refused refusal) prices = refusedReferences refusal
+
+unfoldable pub boundedReferences : (Term → ℕ) → FixingNumbers → List ℕ → References
+boundedReferences mean numbers lines =
+    referencesBy (verdictOf (boundsCheck mean numbers lines ∷ [])) (referenceList mean numbers lines)
+
+-- the checks that need the index table: month missing; factor or price out of bounds
+unfoldable pub tableChecks : List (List ℕ) → FixingNumbers → List ℕ → List Check
+tableChecks table numbers lines =
+    monthCheck (lacksMonth table numbers) lines ∷ boundsCheck (termMean table numbers) numbers lines ∷ []
+
+unfoldable pub linesReferences : List (List ℕ) → FixingNumbers → List ℕ → References
+linesReferences table numbers lines =
+    referencesBy (verdictOf (tableChecks table numbers lines)) (referenceList (termMean table numbers) numbers lines)
+
+-- what pricing promises: it is the definition's, and its verdict has the number and values of the checks
+pub record ReferencesPromise (table : List (List ℕ)) (numbers : FixingNumbers) (lines : List ℕ) (given : References) : Type 0 where
+  pub worked : given ≡ linesReferences table numbers lines
+  pub judged : Judged (given .verdict) (tableChecks table numbers lines)

@@ -1,6 +1,7 @@
-// The supply lines of document 01: where each word stands, the test of their ranges (cause 6), the search for a
+// The supply lines of document 01: a line and its terms by value, the test of their ranges (cause 6), the search for a
 // missing month (cause 10), and the steps from the base price to the reference with their bounds (cause 11).
 pub mod line;
-pub mod months;
+pub mod market;
+mod months;
 pub mod price;
 pub mod range;

@@ -1,60 +1,65 @@
-// The search for a missing month (cause 10): line by line, in each its terms, left at the first.
+// The means that terms take from the list of all, and the search for a missing month (cause 10): line by line, in each its
+// terms, left at the first.
 ghost use mathlib.Core.Path.{_≡_};
 ghost use mathlib.Core.List.{[], _∷_};
-ghost use Prim.Native.Nat.{_≤_, _<_};
-ghost use Rattle.numbers.specs.Checks.{Judged};
-ghost use Rattle.series.specs.Series.{TableInRange, lastMonth};
-ghost use Rattle.supply.specs.Line.{termCountOf};
-ghost use Rattle.supply.specs.Range.{CheckedLines};
-ghost use Rattle.supply.specs.Months.{lacksMonth, monthCheck};
-use crate::line::line_word;
-use crate::line::term_word;
-use crate::line::{self};
+ghost use lib.Dec.{eqb};
+ghost use lib.ListN.{getD};
+ghost use Rattle.numbers.specs.Bounded.{anyBelow};
+ghost use Rattle.numbers.specs.Checks.{verdictOf};
+ghost use Rattle.series.specs.Means.{meanCount};
+ghost use Rattle.supply.specs.Months.{monthCheck};
+ghost use Rattle.supply.specs.Listed.{listedMean, listedLacks};
+ghost use Rattle.supply.specs.Required.{TermFacts, CheckedLines};
+use crate::line::Term;
+use crate::line::line_at;
+use crate::line::line_count;
 use numbers::refusal::Refusal;
 use numbers::refusal::Verdict;
-use series::term::Mean;
-use series::term::term_mean;
+use series::mean::MEANS;
+use series::mean::mean_place;
 
-// Whether a month of term k of line j is missing.
-fn lacks_month(
-    table: [[u64; 48]; 5],
-    first: u64,
-    month: u64,
-    lines: &[u64],
-    count: usize,
-    j: usize,
-    k: usize,
-) -> bool
-    requires { ⌜ CheckedLines (now lines) count ⌝ ∗ ⌜ TableInRange table ⌝ ∗ ⌜ first ≤ lastMonth ⌝ ∗ ⌜ j < count ⌝ ∗ ⌜ k < termCountOf (now lines) j ⌝ }
-    ensures { λ r. ⌜ r ≡ lacksMonth table first month (now (lines .entry)) j k ⌝ }
+// The mean of a term, 0 where a month of it is missing.
+pub(crate) fn term_mean(means: &[u64; MEANS], term: Term) -> u64
+    requires { ⌜ TermFacts term ⌝ }
+    ensures { λ r. ⌜ r ≡ listedMean (now (means .entry)) term ⌝ }
 {
-    let series = term_word(lines, count, j, k, line::SERIES);
-    let lag = term_word(lines, count, j, k, line::LAG);
-    let window = term_word(lines, count, j, k, line::WINDOW);
-    match term_mean(table, first, month, series, lag, window) {
-        Mean::Published(_) => false,
-        Mean::Missing => true,
-    }
+    let place = mean_place(term.series, term.lag, term.window);
+    means[place]
 }
 
-// The walk over lines and terms, left at the first missing month with its place.
-pub fn search_months(
-    table: [[u64; 48]; 5],
-    first: u64,
-    month: u64,
-    lines: &[u64],
-    count: usize,
-) -> Verdict
-    requires { ⌜ CheckedLines (now lines) count ⌝ ∗ ⌜ TableInRange table ⌝ ∗ ⌜ first ≤ lastMonth ⌝ }
-    ensures { λ r. ⌜ Judged r (monthCheck table first month count (now (lines .entry)) ∷ []) ⌝ }
+// Whether a month is missing for any series, lag and window.
+fn any_missing(means: &[u64; MEANS]) -> bool
+    ensures { λ r. ⌜ r ≡ anyBelow meanCount (λ k. eqb (getD (now (means .entry)) k 0) 0) ⌝ }
+{
+    let mut k: usize = 0;
+    while k < MEANS {
+        if means[k] == 0 {
+            return true;
+        }
+        k += 1;
+    }
+    false
+}
+
+// The walk over lines and terms, left at the first missing month with its place. Where no mean at all is missing it need
+// not be made.
+pub(crate) fn search_months(means: &[u64; MEANS], lines: &[u64]) -> Verdict
+    requires { ⌜ CheckedLines (now lines) ⌝ }
+    ensures { λ r. ⌜ r ≡ verdictOf (monthCheck (listedLacks (now (means .entry))) (now (lines .entry)) ∷ []) ⌝ }
 {
     let mut found = Verdict::Passed;
+    if !any_missing(means) {
+        return found;
+    }
+    let count = line_count(lines);
     let mut j: usize = 0;
     'lines: while j < count {
-        let terms = line_word(lines, count, j, line::TERM_COUNT);
+        let line = line_at(lines, j);
+        let terms = line.term_count as usize;
         let mut k: usize = 0;
-        while (k as u64) < terms {
-            if lacks_month(table, first, month, lines, count, j, k) {
+        while k < terms {
+            let term = line.terms[k];
+            if term_mean(means, term) == 0 {
                 found = Verdict::Refused(Refusal::MonthMissing { line: j, term: k });
                 break 'lines;
             }

@@ -1,29 +1,39 @@
 // The steps from a line's base price to its reference, and the first line out of bounds (cause 11).
 ghost use mathlib.Core.Path.{_≡_};
-ghost use mathlib.Core.Bool.{false};
+ghost use mathlib.Core.Bool.{true};
 ghost use mathlib.Core.List.{[], _∷_};
-ghost use mathlib.Core.Option.{none};
-ghost use Prim.Native.Nat.{_≤_, _<_};
+ghost use Prim.Native.Nat.{_≤_};
 ghost use lib.ListN.{replicate};
-ghost use Rattle.numbers.specs.Checks.{Promised, Judged, acceptedWhere};
+ghost use Rattle.numbers.specs.Checks.{Promised, acceptedWhere, verdictOf};
 ghost use Rattle.numbers.specs.Units.{noPrice};
-ghost use Rattle.series.specs.Series.{TableInRange, lastMonth};
-ghost use Rattle.supply.specs.Line.{mostLines, termCountOf};
-ghost use Rattle.supply.specs.Range.{CheckedLines, MarketFacts};
-ghost use Rattle.supply.specs.Months.{lacksMonth, missingInLine, firstMissing};
-ghost use Rattle.supply.specs.Price.{pesoOf, termRatio, factorOf, indexedAnswer, referenceAnswer, priceAnswer, boundsCheck, referencePrices, lineIndexed, indexedAllowed, indexedAnswered};
-use crate::line::line_word;
-use crate::line::term_word;
-use crate::line::{self};
+ghost use Rattle.series.specs.Required.{ValuesWithin, TableInRange};
+ghost use Rattle.supply.specs.Line.{mostLines};
+ghost use Rattle.supply.specs.Price.{pesoOf, priceTaken, termRatio, weightedRatio, indexFactor, indexedAnswer, referenceAnswer};
+ghost use Rattle.supply.specs.Price.{priceAnswer, lineIndexed, indexedAllowed, indexedAnswered};
+ghost use Rattle.supply.specs.Price.{refusedReferences, boundedReferences, ReferencesPromise};
+ghost use Rattle.supply.specs.Listed.{listedMean};
+ghost use Rattle.supply.specs.Required.{TermFacts, LineFacts, CheckedLines, NumbersFacts};
+use crate::line::Line;
+use crate::line::MOST_LINES;
+use crate::line::MOST_TERMS;
+use crate::line::Term;
+use crate::line::line_at;
+use crate::line::line_count;
+use crate::market::FixingNumbers;
+use crate::months::search_months;
+use crate::months::term_mean;
 use numbers::refusal::Refusal;
 use numbers::refusal::Verdict;
 use numbers::rounding::half_up;
 use numbers::units::CheckedPrice;
 use numbers::units::PesoPrice;
 use numbers::units::is_between;
-use series::term::present_mean;
+use series::mean::MEANS;
+use series::mean::means;
+use series::table::MONTHS;
+use series::table::SERIES;
 
-// A line's indexed price, in 0.001 US$/MWh, or that its factor or the price is out of bounds.
+// A line's indexed price, in 0.001 US$/MWh, or that its index factor or the price is out of bounds.
 enum IndexedPrice {
     Indexed(u64),
     Beyond,
@@ -37,75 +47,57 @@ pub fn peso_price(purchase: u64, dollar: u64) -> PesoPrice
     PesoPrice(half_up(purchase * dollar, 100000))
 }
 
-// The ratio of term k of line j, of which no month is missing.
-fn term_ratio(
-    table: [[u64; 48]; 5],
-    first: u64,
-    month: u64,
-    lines: &[u64],
-    count: usize,
-    j: usize,
-    k: usize,
-) -> u64
-    requires { ⌜ CheckedLines (now lines) count ⌝ ∗ ⌜ TableInRange table ⌝ ∗ ⌜ first ≤ lastMonth ⌝ ∗ ⌜ (j < count) × (k < termCountOf (now lines) j) ⌝ ∗ ⌜ lacksMonth table first month (now lines) j k ≡ false ⌝ }
-    ensures { λ r. ⌜ r ≡ termRatio table first month (now (lines .entry)) j k ⌝ }
+// The ratio of a term.
+fn term_ratio(means: &[u64; MEANS], term: Term) -> u64
+    requires { ⌜ ValuesWithin (now means) ⌝ ∗ ⌜ TermFacts term ⌝ }
+    ensures { λ r. ⌜ r ≡ termRatio (listedMean (now (means .entry))) term ⌝ }
 {
-    let series = term_word(lines, count, j, k, line::SERIES);
-    let lag = term_word(lines, count, j, k, line::LAG);
-    let window = term_word(lines, count, j, k, line::WINDOW);
-    let mean = present_mean(table, first, month, series, lag, window);
-    half_up(
-        mean * 1000000,
-        term_word(lines, count, j, k, line::BASE_VALUE),
-    )
+    half_up(term_mean(means, term) * 1000000, term.base_value)
 }
 
-// The factor of line j, of which no month is missing.
-fn factor(
-    table: [[u64; 48]; 5],
-    first: u64,
-    month: u64,
-    lines: &[u64],
-    count: usize,
-    j: usize,
-) -> u64
-    requires { ⌜ CheckedLines (now lines) count ⌝ ∗ ⌜ TableInRange table ⌝ ∗ ⌜ first ≤ lastMonth ⌝ ∗ ⌜ j < count ⌝ ∗ ⌜ missingInLine table first month (now lines) j ≡ none ⌝ }
-    ensures { λ r. ⌜ r ≡ factorOf table first month (now (lines .entry)) j ⌝ }
+// What a term adds to the index factor: its weight times its ratio, nothing where it is not used.
+fn weighted_ratio(means: &[u64; MEANS], term: Term, used: bool) -> u64
+    requires { ⌜ ValuesWithin (now means) ⌝ ∗ ⌜ (used ≡ true → TermFacts term) ⌝ }
+    ensures { λ r. ⌜ r ≡ weightedRatio (listedMean (now (means .entry))) term used ⌝ }
 {
-    let terms = line_word(lines, count, j, line::TERM_COUNT);
-    if terms == 0 {
+    if used {
+        term.weight * term_ratio(means, term)
+    } else {
+        0
+    }
+}
+
+// The index factor of a line.
+fn index_factor(means: &[u64; MEANS], line: Line) -> u64
+    requires { ⌜ ValuesWithin (now means) ⌝ ∗ ⌜ LineFacts line ⌝ }
+    ensures { λ r. ⌜ r ≡ indexFactor (listedMean (now (means .entry))) line ⌝ }
+{
+    let count = line.term_count;
+    if count == 0 {
         return 1000000;
     }
     let mut sum: u64 = 0;
     let mut k: usize = 0;
-    while (k as u64) < terms {
-        let weight = term_word(lines, count, j, k, line::WEIGHT);
-        sum += weight * term_ratio(table, first, month, lines, count, j, k);
+    while k < MOST_TERMS {
+        let term = line.terms[k];
+        sum += weighted_ratio(means, term, (k as u64) < count);
         k += 1;
     }
     half_up(sum, 10000)
 }
 
-// The indexed price of line j. The factor is tested before it is multiplied.
-fn indexed_price(
-    table: [[u64; 48]; 5],
-    first: u64,
-    month: u64,
-    lines: &[u64],
-    count: usize,
-    j: usize,
-) -> IndexedPrice
-    requires { ⌜ CheckedLines (now lines) count ⌝ ∗ ⌜ TableInRange table ⌝ ∗ ⌜ first ≤ lastMonth ⌝ ∗ ⌜ j < count ⌝ ∗ ⌜ missingInLine table first month (now lines) j ≡ none ⌝ }
-    ensures { λ r. ⌜ Promised indexedAnswered r (indexedAnswer table first month (now (lines .entry)) j) (acceptedWhere (indexedAllowed table first month (now (lines .entry)) j) (lineIndexed table first month (now (lines .entry)) j ∷ []) 11) ⌝ }
+// The indexed price of a line. The index factor is tested before it is multiplied.
+fn indexed_price(means: &[u64; MEANS], line: Line) -> IndexedPrice
+    requires { ⌜ ValuesWithin (now means) ⌝ ∗ ⌜ LineFacts line ⌝ }
+    ensures { λ r. ⌜ Promised indexedAnswered r (indexedAnswer (listedMean (now (means .entry))) line)
+        (acceptedWhere (indexedAllowed (listedMean (now (means .entry))) line)
+        (lineIndexed (listedMean (now (means .entry))) line ∷ []) 11) ⌝ }
 {
-    let factor = factor(table, first, month, lines, count, j);
+    let factor = index_factor(means, line);
     if factor > 100000000 {
         return IndexedPrice::Beyond;
     }
-    let indexed = half_up(
-        line_word(lines, count, j, line::BASE_PRICE) * factor,
-        1000000,
-    );
+    let indexed = half_up(line.base_price * factor, 1000000);
     if is_between(1, 1000000, indexed) {
         IndexedPrice::Indexed(indexed)
     } else {
@@ -113,89 +105,78 @@ fn indexed_price(
     }
 }
 
-// The reference of line j from an indexed price: purchase, peso, reference. The bounds of a peso price are put to the
-// reference, not to the peso step.
-fn reference_price(
-    dollar: u64,
-    factor: u64,
-    lines: &[u64],
-    count: usize,
-    j: usize,
-    indexed: u64,
-) -> CheckedPrice
-    requires { ⌜ CheckedLines (now lines) count ⌝ ∗ ⌜ (dollar ≤ 200000) × (factor ≤ 20000) ⌝ ∗ ⌜ j < count ⌝ ∗ ⌜ indexed ≤ 1000000 ⌝ }
-    ensures { λ r. ⌜ r ≡ referenceAnswer dollar factor (now (lines .entry)) j indexed ⌝ }
+// The price that a line takes: its new indexed price.
+fn price_taken(indexed: u64) -> u64
+    ensures { λ r. ⌜ r ≡ priceTaken indexed ⌝ }
 {
-    let purchase_factor = line_word(lines, count, j, line::PURCHASE_FACTOR);
-    let offer_factor = line_word(lines, count, j, line::OFFER_FACTOR);
-    let purchase = half_up(indexed * purchase_factor, offer_factor);
+    indexed
+}
+
+// The reference of a line from the price taken: purchase, peso, reference. The bounds of a peso price are put to the
+// reference, not to the peso step.
+fn reference_price(numbers: FixingNumbers, line: Line, taken: u64) -> CheckedPrice
+    requires { ⌜ NumbersFacts numbers ⌝ ∗ ⌜ LineFacts line ⌝ ∗ ⌜ taken ≤ 1000000 ⌝ }
+    ensures { λ r. ⌜ r ≡ referenceAnswer numbers line taken ⌝ }
+{
+    let purchase = half_up(taken * line.purchase_factor, line.offer_factor);
     if !is_between(1, 1000000, purchase) {
         return CheckedPrice::OutsideBounds;
     }
-    let peso = peso_price(purchase, dollar);
-    let reference = half_up(peso.0 * factor, purchase_factor);
+    let peso = peso_price(purchase, numbers.dollar);
+    let reference = half_up(peso.0 * numbers.reference_factor, line.purchase_factor);
     PesoPrice::checked(reference)
 }
 
-// The reference of line j, of which no month is missing, or that its factor or a price of it is out of bounds.
-fn price_line(
-    table: [[u64; 48]; 5],
-    first: u64,
-    month: u64,
-    dollar: u64,
-    factor: u64,
-    lines: &[u64],
-    count: usize,
-    j: usize,
-) -> CheckedPrice
-    requires { ⌜ CheckedLines (now lines) count ⌝ ∗ ⌜ TableInRange table ⌝ ∗ ⌜ MarketFacts dollar factor first ⌝ ∗ ⌜ j < count ⌝ ∗ ⌜ missingInLine table first month (now lines) j ≡ none ⌝ }
-    ensures { λ r. ⌜ r ≡ priceAnswer table first month dollar factor (now (lines .entry)) j ⌝ }
+// The reference of a line, or that its index factor or a price of it is out of bounds.
+fn price_line(means: &[u64; MEANS], numbers: FixingNumbers, line: Line) -> CheckedPrice
+    requires { ⌜ ValuesWithin (now means) ⌝ ∗ ⌜ NumbersFacts numbers ⌝ ∗ ⌜ LineFacts line ⌝ }
+    ensures { λ r. ⌜ r ≡ priceAnswer (listedMean (now (means .entry))) numbers line ⌝ }
 {
-    match indexed_price(table, first, month, lines, count, j) {
-        IndexedPrice::Indexed(indexed) => reference_price(dollar, factor, lines, count, j, indexed),
+    match indexed_price(means, line) {
+        IndexedPrice::Indexed(indexed) => reference_price(numbers, line, price_taken(indexed)),
         IndexedPrice::Beyond => CheckedPrice::OutsideBounds,
     }
 }
 
-// The references of the lines, and the refusal of the first line that has none.
+// The references of all lines, or why there are none.
 pub struct References {
-    pub prices: [PesoPrice; 256],
+    pub prices: [PesoPrice; MOST_LINES],
     pub verdict: Verdict,
 }
 
 // No reference yet.
-fn no_references() -> [PesoPrice; 256]
+fn no_references() -> [PesoPrice; MOST_LINES]
     ensures { λ r. ⌜ r ≡ replicate mostLines noPrice ⌝ }
 {
     let none = PesoPrice(0);
-    [none; 256]
+    [none; MOST_LINES]
 }
 
-// The references of all lines, up to the first line that is out of bounds.
-pub fn reference_prices(
-    table: [[u64; 48]; 5],
-    first: u64,
-    month: u64,
-    dollar: u64,
-    factor: u64,
-    lines: &[u64],
-    count: usize,
-) -> References
-    requires { ⌜ CheckedLines (now lines) count ⌝ ∗ ⌜ TableInRange table ⌝ ∗ ⌜ MarketFacts dollar factor first ⌝ ∗ ⌜ firstMissing table first month count (now lines) ≡ none ⌝ }
-    ensures { λ r. ⌜ r .prices ≡ referencePrices table first month dollar factor count (now (lines .entry)) ⌝ ∗ ⌜ Judged (r .verdict) (boundsCheck table first month dollar factor count (now (lines .entry)) ∷ []) ⌝ }
+// A refusal, with no reference.
+fn refused(refusal: Refusal) -> References
+    ensures { λ r. ⌜ r ≡ refusedReferences refusal ⌝ }
 {
+    References {
+        prices: no_references(),
+        verdict: Verdict::Refused(refusal),
+    }
+}
+
+// The references of all lines, or the first line that is out of bounds.
+fn reference_prices(means: &[u64; MEANS], numbers: FixingNumbers, lines: &[u64]) -> References
+    requires { ⌜ ValuesWithin (now means) ⌝ ∗ ⌜ NumbersFacts numbers ⌝ ∗ ⌜ CheckedLines (now lines) ⌝ }
+    ensures { λ r. ⌜ r ≡ boundedReferences (listedMean (now (means .entry))) numbers (now (lines .entry)) ⌝ }
+{
+    let count = line_count(lines);
     let mut prices = no_references();
     let mut j: usize = 0;
     while j < count {
-        match price_line(table, first, month, dollar, factor, lines, count, j) {
+        match price_line(means, numbers, line_at(lines, j)) {
             CheckedPrice::Within(price) => {
                 prices[j] = price;
             }
             CheckedPrice::OutsideBounds => {
-                return References {
-                    prices,
-                    verdict: Verdict::Refused(Refusal::OutOfBounds { line: j }),
-                };
+                return refused(Refusal::OutOfBounds { line: j });
             }
         }
         j += 1;
@@ -203,5 +184,22 @@ pub fn reference_prices(
     References {
         prices,
         verdict: Verdict::Passed,
+    }
+}
+
+// The references of all lines from the index table: the first missing month (cause 10), then the first line out of bounds
+// (cause 11), then the prices.
+pub fn price_lines(
+    table: [[u64; MONTHS]; SERIES],
+    numbers: FixingNumbers,
+    lines: &[u64],
+) -> References
+    requires { ⌜ TableInRange table ⌝ ∗ ⌜ NumbersFacts numbers ⌝ ∗ ⌜ CheckedLines (now lines) ⌝ }
+    ensures { λ r. ⌜ ReferencesPromise table numbers (now (lines .entry)) r ⌝ }
+{
+    let means = means(table, numbers.first_month, numbers.month);
+    match search_months(&means, lines) {
+        Verdict::Refused(refusal) => refused(refusal),
+        Verdict::Passed => reference_prices(&means, numbers, lines),
     }
 }

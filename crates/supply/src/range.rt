@@ -1,90 +1,71 @@
 // The ranges of document 01 for D, F, the first month and every word of every line (cause 6).
 ghost use mathlib.Core.Path.{_≡_};
 ghost use mathlib.Core.Bool.{true};
-ghost use Prim.Native.Nat.{_<_, _≤_};
-ghost use Rattle.numbers.specs.Bounded.{allBelow};
-ghost use Rattle.supply.specs.Line.{WholeLines, mostTerms, termCountOf};
-ghost use Rattle.supply.specs.Range.{headInRange, windowAllowed, termInRange, termUnused, termAllowed, weightTotal, lineInRange, linesInRange, marketInRange, inputInRange};
-use crate::line::line_word;
-use crate::line::term_word;
-use crate::line::{self};
+ghost use Rattle.supply.specs.Range.{headInRange, termInRange, termUnused, termAllowed, termsAllowed, weightTotal};
+ghost use Rattle.supply.specs.Range.{lineInRange, linesInRange, numbersInRange, inputInRange};
+use crate::line::Line;
+use crate::line::MOST_TERMS;
+use crate::line::Term;
+use crate::line::line_at;
+use crate::line::line_count;
+use crate::market::FixingNumbers;
 use numbers::units::is_between;
+use series::mean::window_allowed;
+use series::table::LAST_MONTH;
+use series::table::MOST_VALUE;
+use series::table::SERIES;
 
-// The six words before the terms, of line j of the ledger's n distributors.
-fn head_in_range(lines: &[u64], count: usize, n: u64, j: usize) -> bool
-    requires { ⌜ WholeLines (now lines) count ⌝ ∗ ⌜ j < count ⌝ }
-    ensures { λ r. ⌜ r ≡ headInRange n (now (lines .entry)) j ⌝ }
+// The six words before the terms, in a ledger of n distributors.
+fn head_in_range(n: usize, line: Line) -> bool
+    ensures { λ r. ⌜ r ≡ headInRange n line ⌝ }
 {
-    line_word(lines, count, j, line::DISTRIBUTOR) < n
-        && (is_between(1, 1000000, line_word(lines, count, j, line::BASE_PRICE))
-            && (is_between(5000, 20000, line_word(lines, count, j, line::OFFER_FACTOR))
-                && (is_between(
-                    5000,
-                    20000,
-                    line_word(lines, count, j, line::PURCHASE_FACTOR),
-                )
-                    && (is_between(1, 10000000, line_word(lines, count, j, line::ENERGY))
-                        && line_word(lines, count, j, line::TERM_COUNT) <= line::MOST_TERMS))))
-}
-
-// A window of 1, 6 or 9 months.
-fn window_allowed(window: u64) -> bool
-    ensures { λ r. ⌜ r ≡ windowAllowed window ⌝ }
-{
-    window == 1 || (window == 6 || window == 9)
+    line.distributor < n as u64
+        && (is_between(1, 1000000, line.base_price)
+            && (is_between(5000, 20000, line.offer_factor)
+                && (is_between(5000, 20000, line.purchase_factor)
+                    && (is_between(1, 10000000, line.energy)
+                        && line.term_count <= MOST_TERMS as u64))))
 }
 
 // The five words of a used term.
-fn term_in_range(lines: &[u64], count: usize, j: usize, k: usize) -> bool
-    requires { ⌜ WholeLines (now lines) count ⌝ ∗ ⌜ j < count ⌝ ∗ ⌜ k < mostTerms ⌝ }
-    ensures { λ r. ⌜ r ≡ termInRange (now (lines .entry)) j k ⌝ }
+fn term_in_range(term: Term) -> bool
+    ensures { λ r. ⌜ r ≡ termInRange term ⌝ }
 {
-    term_word(lines, count, j, k, line::SERIES) < series::table::SERIES as u64
-        && (is_between(1, 10000, term_word(lines, count, j, k, line::WEIGHT))
-            && (is_between(1, 12, term_word(lines, count, j, k, line::LAG))
-                && (window_allowed(term_word(lines, count, j, k, line::WINDOW))
-                    && is_between(
-                        1,
-                        series::table::MOST_VALUE,
-                        term_word(lines, count, j, k, line::BASE_VALUE),
-                    ))))
+    term.series < SERIES as u64
+        && (is_between(1, 10000, term.weight)
+            && (is_between(1, 12, term.lag)
+                && (window_allowed(term.window) && is_between(1, MOST_VALUE, term.base_value))))
 }
 
 // The five words of an unused term: all zero.
-fn term_unused(lines: &[u64], count: usize, j: usize, k: usize) -> bool
-    requires { ⌜ WholeLines (now lines) count ⌝ ∗ ⌜ j < count ⌝ ∗ ⌜ k < mostTerms ⌝ }
-    ensures { λ r. ⌜ r ≡ termUnused (now (lines .entry)) j k ⌝ }
+fn term_unused(term: Term) -> bool
+    ensures { λ r. ⌜ r ≡ termUnused term ⌝ }
 {
-    let mut w: usize = 0;
-    while w < line::TERM_WORDS {
-        if term_word(lines, count, j, k, w) != 0 {
-            return false;
-        }
-        w += 1;
-    }
-    true
+    term.series == 0
+        && (term.weight == 0
+            && (term.lag == 0 && (term.window == 0 && term.base_value == 0)))
 }
 
 // A term below the line's count is in range, one past it unused.
-fn term_allowed(lines: &[u64], count: usize, j: usize, k: usize) -> bool
-    requires { ⌜ WholeLines (now lines) count ⌝ ∗ ⌜ j < count ⌝ ∗ ⌜ k < mostTerms ⌝ }
-    ensures { λ r. ⌜ r ≡ termAllowed (now (lines .entry)) j k ⌝ }
+fn term_allowed(term: Term, used: bool) -> bool
+    ensures { λ r. ⌜ r ≡ termAllowed term used ⌝ }
 {
-    if (k as u64) < line_word(lines, count, j, line::TERM_COUNT) {
-        term_in_range(lines, count, j, k)
+    if used {
+        term_in_range(term)
     } else {
-        term_unused(lines, count, j, k)
+        term_unused(term)
     }
 }
 
 // All four terms.
-fn terms_allowed(lines: &[u64], count: usize, j: usize) -> bool
-    requires { ⌜ WholeLines (now lines) count ⌝ ∗ ⌜ j < count ⌝ }
-    ensures { λ r. ⌜ r ≡ allBelow mostTerms (termAllowed (now (lines .entry)) j) ⌝ }
+fn terms_allowed(line: Line) -> bool
+    ensures { λ r. ⌜ r ≡ termsAllowed line ⌝ }
 {
+    let count = line.term_count;
     let mut k: usize = 0;
-    while k < line::MOST_TERMS as usize {
-        if !term_allowed(lines, count, j, k) {
+    while k < MOST_TERMS {
+        let term = line.terms[k];
+        if !term_allowed(term, (k as u64) < count) {
             return false;
         }
         k += 1;
@@ -92,43 +73,42 @@ fn terms_allowed(lines: &[u64], count: usize, j: usize) -> bool
     true
 }
 
-// The sum of the weights of the line's terms, of which all four are in range or unused.
-fn weight_total(lines: &[u64], count: usize, j: usize) -> u64
-    requires { ⌜ WholeLines (now lines) count ⌝ ∗ ⌜ j < count ⌝ ∗ ⌜ termCountOf (now lines) j ≤ mostTerms ⌝ ∗ ⌜ allBelow mostTerms (termAllowed (now lines) j) ≡ true ⌝ }
-    ensures { λ r. ⌜ r ≡ weightTotal (now (lines .entry)) j ⌝ }
+// The sum of the weights, of terms that are all in range or unused.
+fn weight_total(line: Line) -> u64
+    requires { ⌜ termsAllowed line ≡ true ⌝ }
+    ensures { λ r. ⌜ r ≡ weightTotal line ⌝ }
 {
-    let terms = line_word(lines, count, j, line::TERM_COUNT);
     let mut total: u64 = 0;
-    let mut k: u64 = 0;
-    while k < terms {
-        total += term_word(lines, count, j, k as usize, line::WEIGHT);
+    let mut k: usize = 0;
+    while k < MOST_TERMS {
+        let term = line.terms[k];
+        total += term.weight;
         k += 1;
     }
     total
 }
 
-// Every word of line j.
-fn line_in_range(lines: &[u64], count: usize, n: u64, j: usize) -> bool
-    requires { ⌜ WholeLines (now lines) count ⌝ ∗ ⌜ j < count ⌝ }
-    ensures { λ r. ⌜ r ≡ lineInRange n (now (lines .entry)) j ⌝ }
+// Every word of a line.
+fn line_in_range(n: usize, line: Line) -> bool
+    ensures { λ r. ⌜ r ≡ lineInRange n line ⌝ }
 {
-    if !head_in_range(lines, count, n, j) {
+    if !head_in_range(n, line) {
         return false;
     }
-    if !terms_allowed(lines, count, j) {
+    if !terms_allowed(line) {
         return false;
     }
-    line_word(lines, count, j, line::TERM_COUNT) == 0 || weight_total(lines, count, j) == 10000
+    line.term_count == 0 || weight_total(line) == 10000
 }
 
 // Every word of every line.
-fn lines_in_range(lines: &[u64], count: usize, n: u64) -> bool
-    requires { ⌜ WholeLines (now lines) count ⌝ }
-    ensures { λ r. ⌜ r ≡ linesInRange n count (now (lines .entry)) ⌝ }
+fn lines_in_range(n: usize, lines: &[u64]) -> bool
+    ensures { λ r. ⌜ r ≡ linesInRange n (now (lines .entry)) ⌝ }
 {
+    let count = line_count(lines);
     let mut j: usize = 0;
     while j < count {
-        if !line_in_range(lines, count, n, j) {
+        if !line_in_range(n, line_at(lines, j)) {
             return false;
         }
         j += 1;
@@ -137,23 +117,17 @@ fn lines_in_range(lines: &[u64], count: usize, n: u64) -> bool
 }
 
 // The dollar, the reference factor and the table's first month.
-fn market_in_range(dollar: u64, factor: u64, first: u64) -> bool
-    ensures { λ r. ⌜ r ≡ marketInRange dollar factor first ⌝ }
+fn numbers_in_range(numbers: FixingNumbers) -> bool
+    ensures { λ r. ⌜ r ≡ numbersInRange numbers ⌝ }
 {
-    is_between(1, 200000, dollar) && (is_between(5000, 20000, factor) && first <= 1199)
+    is_between(1, 200000, numbers.dollar)
+        && (is_between(5000, 20000, numbers.reference_factor)
+            && numbers.first_month <= LAST_MONTH)
 }
 
 // Whether the dollar, the reference factor, the first month and every word of every line are in their ranges.
-pub fn input_in_range(
-    n: u64,
-    dollar: u64,
-    factor: u64,
-    first: u64,
-    count: usize,
-    lines: &[u64],
-) -> bool
-    requires { ⌜ WholeLines (now lines) count ⌝ }
-    ensures { λ r. ⌜ r ≡ inputInRange n dollar factor first count (now (lines .entry)) ⌝ }
+pub fn input_in_range(n: usize, numbers: FixingNumbers, lines: &[u64]) -> bool
+    ensures { λ r. ⌜ r ≡ inputInRange n numbers (now (lines .entry)) ⌝ }
 {
-    market_in_range(dollar, factor, first) && lines_in_range(lines, count, n)
+    numbers_in_range(numbers) && lines_in_range(n, lines)
 }

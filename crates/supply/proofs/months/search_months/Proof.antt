@@ -1,90 +1,128 @@
--- The invariants: nothing is missing in the lines passed, nor in the terms passed of the line at hand.
-use mathlib.Core.Path.{_≡_, refl, sym, _∙_}
-use mathlib.Core.Option.{none}
-use Prim.Native.Nat.{_≤_, _-_}
+-- Where no mean is 0 nothing is missing. The walk's invariants: nothing is missing in the lines passed, nor in the terms
+-- passed of the line at hand.
+use mathlib.Core.Path.{_≡_, refl, sym, _∙_, ap}
+use mathlib.Core.Option.{none, some}
+use Prim.Native.Nat.{ℕ, _≤_, _<_, _-_}
+use native.Mathlib.Omega.{arith}
+use lib.Dec.{eqb}
+use borrow.Author.Tests.{eq-eqb, ne-eqb, not-true}
+use borrow.Author.Needs.{needs}
 use Rattle.numbers.specs.Bounded.{firstBelow}
-use Rattle.numbers.proofs.FirstLaws.{first-step, first-is}
-use Rattle.supply.specs.Line.{termCountOf}
-use Rattle.supply.specs.Months.{missingTerm, missingInLine, firstMissing, monthCheck}
 use Rattle.numbers.specs.Checks.{verdictOf}
-use Rattle.numbers.specs.declared.refusal.Verdict.the-variants.{Passed, Refused}
-use Rattle.numbers.specs.declared.refusal.Refusal.the-variants.{MonthMissing}
-use Rattle.supply.proofs.MonthLaws.{term-missing, term-published, months-judged}
+use Rattle.numbers.specs.declared.refusal.Verdict.the-variants.{Passed}
+use Rattle.numbers.proofs.BoolLaws.{told-false}
+use Rattle.numbers.proofs.FirstLaws.{first-step, first-is}
+use Rattle.supply.specs.Line.{lineCount, lineOf, termOf}
+use Rattle.supply.specs.Listed.{listedLacks}
+use Rattle.supply.specs.Months.{Place, missingTerm, missingInLine, firstMissing, monthCheck}
+use Rattle.supply.specs.Required.{LineFacts}
+use Rattle.supply.proofs.ListedLaws.{none-listed}
+use Rattle.supply.proofs.MonthLaws.{term-missing, term-published}
 use Rattle.supply.proofs.months.search_months.Statement.{statement}
 use Rattle.supply.proofs.months.search_months.Tie as tie
-use native.Mathlib.Omega.{arith}
 
 abbrev Inv-loop : tie.InvT-loop
-Inv-loop table first month lines count found₀ j terms k₀ found k = (k ≤ terms) × (found ≡ Passed) × (firstBelow k (missingTerm table first month lines j) ≡ none)
+Inv-loop means lines found₀ count j line terms k₀ found k =
+    (k ≤ terms) × (found ≡ Passed) × (firstBelow k (missingTerm (listedLacks means) line j) ≡ none)
 
 abbrev μ-loop : tie.MeasureT-loop
-μ-loop table first month lines count found₀ j terms k₀ found k = terms - k
+μ-loop means lines found₀ count j line terms k₀ found k = terms - k
 
 abbrev Inv-lines : tie.InvT-lines
-Inv-lines table first month lines count found₀ j₀ found j = (j ≤ count) × (found ≡ Passed) × (firstBelow j (missingInLine table first month lines) ≡ none)
+Inv-lines means lines found₀ count j₀ found j =
+    (j ≤ count) × (found ≡ Passed) × (firstBelow j (λ i. missingInLine (listedLacks means) (lineOf lines i) i) ≡ none)
 
 abbrev μ-lines : tie.MeasureT-lines
-μ-lines table first month lines count found₀ j₀ found j = count - j
+μ-lines means lines found₀ count j₀ found j = count - j
+
+-- the line at hand
+module _ (c : tie.After-line-at Inv-loop μ-loop Inv-lines μ-lines) where
+  abbrev s : tie.Start Inv-loop μ-loop Inv-lines μ-lines
+  s = c .before .before .before .before .before .before .before
+
+  abbrev j : ℕ
+  j = c .before .before .lines .j
+
+  below : j < lineCount (s .args .lines .now)
+  below = omega (arith, c .before .before .before .line-count .ensures)
+
+  facts : LineFacts (c .line-at .result)
+  facts = rw (c .line-at .ensures) (s .pre .facts j below)
+
+-- what the mean of a term says
+module _ (c : tie.After-term-mean Inv-loop μ-loop Inv-lines μ-lines) where
+  abbrev at : tie.After-line-at Inv-loop μ-loop Inv-lines μ-lines
+  at = c .before .before .before .before
+
+  lacks : eqb (c .term-mean .result) 0 ≡ listedLacks (s at .args .means .now) (termOf (at .line-at .result) (c .before .before .before .loop .k))
+  unfolding listedLacks
+  lacks = ap (λ m. eqb m 0) (c .term-mean .ensures)
+
+returns : tie.Need-returns Inv-loop μ-loop Inv-lines μ-lines
+unfolding verdictOf monthCheck
+returns c =
+    let s = c .before .before .before in
+    rw (none-listed (s .args .means .now) (s .args .lines .now) (s .pre) (told-false (c .before .any-missing .ensures) (c .if1 .taken)))
 
 lines-holds : tie.Need-lines-holds Inv-loop μ-loop Inv-lines μ-lines
 unfolding firstBelow
 lines-holds c = (omega arith, refl, refl)
 
-line-word-requires : tie.Need-line-word-requires Inv-loop μ-loop Inv-lines μ-lines
-line-word-requires c κs = let s = c .before .before .before in (s .pre .0 .lent, (omega arith, omega arith))
+line-at-requires : tie.Need-line-at-requires Inv-loop μ-loop Inv-lines μ-lines
+line-at-requires c κs = omega (arith, c .before .before .line-count .ensures)
 
 loop-holds : tie.Need-loop-holds Inv-loop μ-loop Inv-lines μ-lines
 unfolding firstBelow
 loop-holds c = (omega arith, c .before .before .lines .inv .1, refl)
 
-lacks-month-requires : tie.Need-lacks-month-requires Inv-loop μ-loop Inv-lines μ-lines
-lacks-month-requires c κs =
-    let o = c .before .before .before .before in
-    let s = o .before .before in
-    (s .pre .0, (s .pre .1 .0, (s .pre .1 .1, (omega arith, omega (arith, c .before .before .line-word .ensures)))))
+term-mean-requires : tie.Need-term-mean-requires Inv-loop μ-loop Inv-lines μ-lines
+term-mean-requires c κs = facts (c .before .before .before) .term (c .before .before .loop .k) (omega arith)
 
 loop-again : tie.Need-loop-again Inv-loop μ-loop Inv-lines μ-lines
 loop-again c =
-    let l = c .before .before .before in
-    let o = l .before .before .before in
-    let s = o .before .before in (
+    let l = c .before .before .before .before in
+    let a = l .before in (
       omega arith,
       l .loop .inv .1,
-      first-step (missingTerm (s .args .table) (s .args .first) (s .args .month) (s .args .lines .now) (o .lines .j)) (l .loop .k) (l .loop .inv .2)
-          ∙ term-published (s .args .table) (s .args .first) (s .args .month) (s .args .lines .now) (o .lines .j) (l .loop .k) (sym (c .before .lacks-month .ensures) ∙ c .if1 .left),
+      first-step (missingTerm (listedLacks (s a .args .means .now)) (a .line-at .result) (j a)) (l .loop .k) (l .loop .inv .2)
+          ∙ term-published (listedLacks (s a .args .means .now)) (a .line-at .result) (j a) (l .loop .k) (sym (lacks (c .before)) ∙ ne-eqb _ _ (c .if2 .left)),
     )
 
 lines-again : tie.Need-lines-again Inv-loop μ-loop Inv-lines μ-lines
 unfolding missingInLine
 lines-again c =
     let l = c .before in
-    let o = l .before .before .before in
-    let s = o .before .before in
-    let e : l .loop .k ≡ termCountOf (s .args .lines .now) (o .lines .j) = omega (arith, l .before .line-word .ensures) in (
+    let a = l .before in
+    let o = a .before .before in
+    let t = listedLacks (s a .args .means .now) in
+    let e : l .loop .k ≡ a .line-at .result .«term_count» = omega arith in (
       omega arith,
       l .loop .inv .1,
-      first-step (missingInLine (s .args .table) (s .args .first) (s .args .month) (s .args .lines .now)) (o .lines .j) (o .lines .inv .2) ∙ rw e at (l .loop .inv .2),
+      first-step (λ i. missingInLine t (lineOf (s a .args .lines .now) i) i) (j a) (o .lines .inv .2)
+          ∙ ap (λ line. missingInLine t line (j a)) (sym (a .line-at .ensures))
+          ∙ rw e at (l .loop .inv .2),
     )
 
-returns : tie.Need-returns Inv-loop μ-loop Inv-lines μ-lines
-unfolding verdictOf monthCheck firstMissing
-returns c =
-    let o = c .before in
-    let e : o .lines .j ≡ o .before .before .args .count = omega arith in
-    months-judged _ _ _ _ _ _ (rw (← e, o .lines .inv .2) (o .lines .inv .1))
-
 returns-2 : tie.Need-returns-2 Inv-loop μ-loop Inv-lines μ-lines
-unfolding verdictOf monthCheck firstMissing missingInLine
+unfolding verdictOf monthCheck firstMissing
 returns-2 c =
-    let l = c .before .before .before in
-    let o = l .before .before .before in
-    let s = o .before .before in
-    months-judged (s .args .table) (s .args .first) (s .args .month) (s .args .count) (s .args .lines .now) (Refused (MonthMissing (o .lines .j) (l .loop .k)))
-    (rw
-    (first-is (missingInLine (s .args .table) (s .args .first) (s .args .month) (s .args .lines .now)) (o .lines .j) (s .args .count) (record { line = o .lines .j; term = l .loop .k }) (omega arith) (o .lines .inv .2)
-    (first-is (missingTerm (s .args .table) (s .args .first) (s .args .month) (s .args .lines .now) (o .lines .j)) (l .loop .k) (termCountOf (s .args .lines .now) (o .lines .j)) _
-    (omega (arith, l .before .line-word .ensures)) (l .loop .inv .2)
-    (term-missing (s .args .table) (s .args .first) (s .args .month) (s .args .lines .now) (o .lines .j) (l .loop .k) (sym (c .before .lacks-month .ensures) ∙ c .if1 .taken)))))
+    let o = c .before in
+    let e : o .lines .j ≡ lineCount (o .before .before .before .before .before .args .lines .now) = omega (arith, o .before .line-count .ensures) in
+    rw (← e, o .lines .inv .2) (o .lines .inv .1)
+
+returns-3 : tie.Need-returns-3 Inv-loop μ-loop Inv-lines μ-lines
+unfolding verdictOf monthCheck firstMissing missingInLine
+returns-3 c =
+    let l = c .before .before .before .before in
+    let a = l .before in
+    let o = a .before .before in
+    let t = listedLacks (s a .args .means .now) in
+    let place : Place = record { line = j a; term = l .loop .k } in
+    rw
+    (first-is (λ i. missingInLine t (lineOf (s a .args .lines .now) i) i) (j a) (lineCount (s a .args .lines .now)) place (below a) (o .lines .inv .2)
+    (ap (λ line. missingInLine t line (j a)) (sym (a .line-at .ensures))
+    ∙ first-is (missingTerm t (a .line-at .result) (j a)) (l .loop .k) (a .line-at .result .«term_count») place (omega arith) (l .loop .inv .2)
+    (term-missing t (a .line-at .result) (j a) (l .loop .k) (sym (lacks (c .before)) ∙ eq-eqb _ _ (c .if2 .taken)))))
 
 pub search-months-spec : {M : Type 1} → statement M
 search-months-spec =
@@ -94,13 +132,17 @@ search-months-spec =
     μ-loop
     Inv-lines
     μ-lines
+    (λ c κs. search needs)
+    returns
+    (λ c κs. search needs)
     lines-holds
-    line-word-requires
+    line-at-requires
     loop-holds
-    lacks-month-requires
+    (λ c. omega (arith, facts (c .before .before) .terms)) (λ c. omega (arith, facts (c .before .before) .terms))
+    term-mean-requires
     (λ c. omega arith) (λ c. omega arith)
     loop-again
     (λ c. omega arith) (λ c. omega arith)
     lines-again
-    returns
-    returns-2)
+    returns-2
+    returns-3)

@@ -3,9 +3,9 @@ use mathlib.Core.Path.{ap}
 use native.Mathlib.Nat.{mul-le-mul}
 use Rattle.numbers.specs.declared.units.PesoPrice.{PesoPrice}
 use Rattle.supply.specs.Price.{pesoOf}
+use native.Mathlib.Omega.{arith}
 use Rattle.supply.proofs.price.peso_price.Statement.{statement}
 use Rattle.supply.proofs.price.peso_price.Tie as tie
-use native.Mathlib.Omega.{arith}
 
 mul-half-up : tie.Need-mul-half-up
 mul-half-up c = omega (arith, mul-le-mul (c .pre .0) (c .pre .1))
@@ -18,4 +18,9 @@ unfolding pesoOf
 returns c = ap {B = PesoPrice} (λ x. record { 0 = x }) (c .half-up .ensures)
 
 pub peso-price-spec : {M : Type 1} → statement M
-peso-price-spec = tie.close (tie.spec mul-half-up half-up-requires returns)
+peso-price-spec =
+    tie.close
+    (tie.spec
+    mul-half-up
+    half-up-requires
+    returns)

@@ -1,93 +1,94 @@
 -- The invariant: no line passed is out of bounds, and the references of the lines passed are filled in.
-use borrow.Author.Needs.{needs}
-use Rattle.supply.proofs.PriceLaws.{line-within, line-beyond, line-price, bounds-judged}
-use mathlib.Core.Path.{_≡_, refl, sym, _∙_, ap₂}
+use mathlib.Core.Path.{_≡_, refl, sym, _∙_, ap, ap₂}
 use mathlib.Core.Option.{none, some}
-use Prim.Native.Nat.{_-_, _≤_}
+use Prim.Native.Nat.{ℕ, _-_, _≤_, _<_}
+use native.Mathlib.Omega.{arith}
 use lib.ListN.{set}
+use borrow.Author.Needs.{needs}
 use Rattle.numbers.specs.Bounded.{firstBelow, filledBelow}
 use Rattle.numbers.specs.Checks.{verdictOf}
 use Rattle.numbers.specs.Units.{noPrice}
 use Rattle.numbers.proofs.FirstLaws.{first-step, first-is}
 use Rattle.numbers.proofs.ListLaws.{filled-none, filled-more}
-use Rattle.supply.specs.Price.{beyondIn, firstBeyond, boundsCheck, referencePrice, referencePrices}
-use Rattle.supply.proofs.MonthLaws.{search-published}
+use Rattle.supply.specs.Line.{lineCount, lineOf}
+use Rattle.supply.specs.Listed.{listedMean}
+use Rattle.supply.specs.Price.{priceAnswer, beyondIn, firstBeyond, boundsCheck, referencePrice, referenceList, boundedReferences}
+use Rattle.supply.proofs.PriceLaws.{line-within, line-beyond, line-price}
 use Rattle.supply.proofs.price.reference_prices.Statement.{statement}
 use Rattle.supply.proofs.price.reference_prices.Tie as tie
-use native.Mathlib.Omega.{arith}
 
 abbrev Inv-loop : tie.InvT-loop
-Inv-loop table first month dollar factor lines count prices₀ j₀ prices j = (j ≤ count) × (firstBelow j (beyondIn table first month dollar factor lines) ≡ none) × (prices ≡ filledBelow 256 noPrice j (referencePrice table first month dollar factor lines))
+Inv-loop means numbers lines count prices₀ j₀ prices j =
+    (j ≤ lineCount lines)
+    × (firstBelow j (beyondIn (listedMean means) numbers lines) ≡ none)
+    × (prices ≡ filledBelow 256 noPrice j (referencePrice (listedMean means) numbers lines))
 
 abbrev μ-loop : tie.MeasureT-loop
-μ-loop table first month dollar factor lines count prices₀ j₀ prices j = count - j
+μ-loop means numbers lines count prices₀ j₀ prices j = count - j
 
-no-references-requires : tie.Need-no-references-requires Inv-loop μ-loop
-no-references-requires c κs = tt
+-- the line at hand
+module _ (c : tie.After-price-line Inv-loop μ-loop) where
+  abbrev l : tie.At-loop Inv-loop μ-loop
+  l = c .before .before .before
+
+  abbrev s : tie.Start Inv-loop μ-loop
+  s = l .before .before .before .before
+
+  below : l .loop .j < lineCount (s .args .lines .now)
+  below = omega (arith, l .before .before .line-count .ensures)
+
+  answered : c .price-line .result ≡ priceAnswer (listedMean (s .args .means .now)) (s .args .numbers) (lineOf (s .args .lines .now) (l .loop .j))
+  answered = c .price-line .ensures ∙ ap (priceAnswer (listedMean (s .args .means .now)) (s .args .numbers)) (c .before .line-at .ensures)
 
 loop-holds : tie.Need-loop-holds Inv-loop μ-loop
 unfolding firstBelow
 loop-holds c =
-    let s = c .before .before in
-    (omega arith, refl, c .no-references .ensures ∙ filled-none 256 noPrice (referencePrice (s .args .table) (s .args .first) (s .args .month) (s .args .dollar) (s .args .factor) (s .args .lines .now)))
+    let s = c .before .before .before in
+    (omega arith, refl, c .no-references .ensures ∙ filled-none 256 noPrice (referencePrice (listedMean (s .args .means .now)) (s .args .numbers) (s .args .lines .now)))
+
+line-at-requires : tie.Need-line-at-requires Inv-loop μ-loop
+line-at-requires c κs = omega (arith, c .before .before .before .line-count .ensures)
 
 price-line-requires : tie.Need-price-line-requires Inv-loop μ-loop
 price-line-requires c κs =
-    let s = c .before .before .before .before in (
-      s .pre .0,
-      (
-        s .pre .1 .0,
-        (
-          s .pre .1 .1 .0,
-          (
-            omega arith,
-            search-published (s .args .table) (s .args .first) (s .args .month) (s .args .count) (s .args .lines .now) (s .pre .1 .1 .1) (c .before .loop .j) (omega arith),
-          ),
-        ),
-      ),
-    )
+    let l = c .before .before in
+    let s = l .before .before .before .before in
+    (s .pre .0, (s .pre .1 .0, rw (c .line-at .ensures) (s .pre .1 .1 .facts (l .loop .j) (omega (arith, l .before .before .line-count .ensures)))))
 
 array-set-from-prices : tie.Need-array-set-from-prices Inv-loop μ-loop
-array-set-from-prices c = omega (arith, c .before .before .before .before .before .before .before .before .pre .0 .lent .few)
-
-enum-told : tie.Need-enum-told Inv-loop μ-loop
-enum-told c = search needs
+array-set-from-prices c = let p = c .before .before .before in omega (arith, below p, s p .pre .1 .1 .few)
 
 returns : tie.Need-returns Inv-loop μ-loop
-unfolding referencePrices firstBeyond verdictOf boundsCheck
+unfolding boundedReferences boundsCheck firstBeyond verdictOf
 returns c =
-    let l = c .before .before .before .before in
-    let s = l .before .before .before in
-    let lines = s .args .lines .now in
-    let e : firstBelow (s .args .count) (beyondIn (s .args .table) (s .args .first) (s .args .month) (s .args .dollar) (s .args .factor) lines) ≡ some (l .loop .j) =
-    first-is (beyondIn (s .args .table) (s .args .first) (s .args .month) (s .args .dollar) (s .args .factor) lines) (l .loop .j) (s .args .count) (l .loop .j) (omega arith) (l .loop .inv .1)
-    (line-beyond (s .args .table) (s .args .first) (s .args .month) (s .args .dollar) (s .args .factor) lines (l .loop .j) (sym (c .before .before .price-line .ensures) ∙ c .enum-told .given .1)) in
-    (rw e (l .loop .inv .2), bounds-judged _ _ _ _ _ _ _ _ (rw e))
-
-add-j : tie.Need-add-j Inv-loop μ-loop
-add-j c = omega (arith, c .before .before .before .before .before .before .before .before .pre .0 .lent .few)
+    let p = c .before .before .before in
+    let f = beyondIn (listedMean (s p .args .means .now)) (s p .args .numbers) (s p .args .lines .now) in
+    let e : firstBelow (lineCount (s p .args .lines .now)) f ≡ some (l p .loop .j) =
+    first-is f (l p .loop .j) (lineCount (s p .args .lines .now)) (l p .loop .j) (below p) (l p .loop .inv .1)
+    (line-beyond (listedMean (s p .args .means .now)) (s p .args .numbers) (s p .args .lines .now) (l p .loop .j) (sym (answered p) ∙ c .before .enum-told .given .1)) in
+    rw e (c .refused .ensures)
 
 loop-again : tie.Need-loop-again Inv-loop μ-loop
 loop-again c =
-    let l = c .before .before .before .before .before in
-    let s = l .before .before .before in
-    let lines = s .args .lines .now in
-    let told = sym (c .before .before .before .price-line .ensures) ∙ c .before .price .given .1 in (
-      omega arith,
-      first-step (beyondIn (s .args .table) (s .args .first) (s .args .month) (s .args .dollar) (s .args .factor) lines) (l .loop .j) (l .loop .inv .1) ∙ line-within (s .args .table) (s .args .first) (s .args .month) (s .args .dollar) (s .args .factor) lines (l .loop .j) _ told,
-      ap₂ (λ xs x. set xs (l .loop .j) x) (l .loop .inv .2) (line-price (s .args .table) (s .args .first) (s .args .month) (s .args .dollar) (s .args .factor) lines (l .loop .j) _ told)
-          ∙ filled-more 256 noPrice (referencePrice (s .args .table) (s .args .first) (s .args .month) (s .args .dollar) (s .args .factor) lines) (l .loop .j) (omega (arith, s .pre .0 .lent .few)),
+    let p = c .before .before .before in
+    let i = l p .loop .j in
+    let m = listedMean (s p .args .means .now) in
+    let numbers = s p .args .numbers in
+    let lines = s p .args .lines .now in
+    let told = sym (answered p) ∙ c .before .price .given .1 in (
+      omega (arith, below p),
+      first-step (beyondIn m numbers lines) i (l p .loop .inv .1) ∙ line-within m numbers lines i _ told,
+      ap₂ (λ xs x. set xs i x) (l p .loop .inv .2) (line-price m numbers lines i _ told)
+          ∙ filled-more 256 noPrice (referencePrice m numbers lines) i (omega (arith, below p, s p .pre .1 .1 .few)),
     )
 
 returns-2 : tie.Need-returns-2 Inv-loop μ-loop
-unfolding referencePrices firstBeyond verdictOf boundsCheck
+unfolding boundedReferences boundsCheck firstBeyond referenceList verdictOf
 returns-2 c =
     let l = c .before in
-    let s = l .before .before .before in
-    let lines = s .args .lines .now in
-    let e : l .loop .j ≡ s .args .count = omega arith in
-    let none-beyond = rw e at (l .loop .inv .1) in
-    (rw none-beyond (rw e at (l .loop .inv .2)), bounds-judged _ _ _ _ _ _ _ _ (rw none-beyond))
+    let s = l .before .before .before .before in
+    let e : l .loop .j ≡ lineCount (s .args .lines .now) = omega (arith, l .before .before .line-count .ensures) in
+    rw (rw e at (l .loop .inv .1), ← (rw e at (l .loop .inv .2)))
 
 pub reference-prices-spec : {M : Type 1} → statement M
 reference-prices-spec =
@@ -95,14 +96,14 @@ reference-prices-spec =
     (tie.spec
     Inv-loop
     μ-loop
-    no-references-requires
+    (λ c κs. search needs) (λ c κs. search needs)
     loop-holds
+    line-at-requires
     price-line-requires
     (λ c. search needs) (λ c. omega arith)
     array-set-from-prices
-    enum-told
+    (λ c. search needs) (λ c κs. search needs)
     returns
-    add-j
-    (λ c. omega arith)
+    (λ c. omega arith) (λ c. omega arith)
     loop-again
     returns-2)

@@ -10,54 +10,47 @@ returns : tie.Need-returns
 unfolding headInRange
 returns c =
     let five = c .before in
-    let four = five .before .before .before in
-    let three = four .before .before .before in
-    let two = three .before .before .before in
-    let one = two .before .before .before in
+    let four = five .before .before in
+    let three = four .before .before in
+    let two = three .before .before in
+    let one = two .before .before in
     rw (
-      ← one .before .line-word .ensures,
       lt-ltb _ _ (one .if1 .taken),
-      ← two .before .before .line-word2 .ensures,
       ← two .before .is-between .ensures,
       two .if2 .taken,
-      ← three .before .before .line-word3 .ensures,
       ← three .before .is-between2 .ensures,
       three .if3 .taken,
-      ← four .before .before .line-word4 .ensures,
       ← four .before .is-between3 .ensures,
       four .if4 .taken,
-      ← five .before .before .line-word5 .ensures,
       ← five .before .is-between4 .ensures,
       five .if5 .taken,
-      ← c .line-word6 .ensures,
     )
 
 returns-2 : tie.Need-returns-2
 unfolding headInRange
-returns-2 c = rw (← c .before .before .line-word5 .ensures, ← c .before .is-between4 .ensures, c .if5 .left) (simp and-false)
+returns-2 c = rw (← c .before .is-between4 .ensures, c .if5 .left) (simp and-false)
 
 returns-3 : tie.Need-returns-3
 unfolding headInRange
-returns-3 c = rw (← c .before .before .line-word4 .ensures, ← c .before .is-between3 .ensures, c .if4 .left) (simp and-false)
+returns-3 c = rw (← c .before .is-between3 .ensures, c .if4 .left) (simp and-false)
 
 returns-4 : tie.Need-returns-4
 unfolding headInRange
-returns-4 c = rw (← c .before .before .line-word3 .ensures, ← c .before .is-between2 .ensures, c .if3 .left) (simp and-false)
+returns-4 c = rw (← c .before .is-between2 .ensures, c .if3 .left) (simp and-false)
 
 returns-5 : tie.Need-returns-5
 unfolding headInRange
-returns-5 c = rw (← c .before .before .line-word2 .ensures, ← c .before .is-between .ensures, c .if2 .left) (simp and-false)
+returns-5 c = rw (← c .before .is-between .ensures, c .if2 .left) (simp and-false)
 
 returns-6 : tie.Need-returns-6
 unfolding headInRange
-returns-6 c = rw (← c .before .line-word .ensures, le-ltb _ _ (c .if1 .left))
+returns-6 c = rw (le-ltb _ _ (c .if1 .left))
 
 pub head-in-range-spec : {M : Type 1} → statement M
 head-in-range-spec =
     tie.close
     (tie.spec
-    (λ c κs. search needs) (λ c κs. search needs) (λ c κs. search needs) (λ c κs. search needs) (λ c κs. search needs)
-    (λ c κs. search needs) (λ c κs. search needs) (λ c κs. search needs) (λ c κs. search needs) (λ c κs. search needs)
+    (λ c κs. search needs) (λ c κs. search needs) (λ c κs. search needs) (λ c κs. search needs)
     returns
     returns-2
     returns-3

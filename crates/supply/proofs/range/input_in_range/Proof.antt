@@ -6,11 +6,11 @@ use Rattle.supply.proofs.range.input_in_range.Tie as tie
 
 returns : tie.Need-returns
 unfolding inputInRange
-returns c = rw (← c .before .before .market-in-range .ensures, c .before .if1 .taken) (c .lines-in-range .ensures)
+returns c = rw (← c .before .before .numbers-in-range .ensures, c .before .if1 .taken) (c .lines-in-range .ensures)
 
 returns-2 : tie.Need-returns-2
 unfolding inputInRange
-returns-2 c = rw (← c .before .market-in-range .ensures, c .if1 .left)
+returns-2 c = rw (← c .before .numbers-in-range .ensures, c .if1 .left)
 
 pub input-in-range-spec : {M : Type 1} → statement M
 input-in-range-spec =

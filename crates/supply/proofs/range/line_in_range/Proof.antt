@@ -1,21 +1,17 @@
 -- Head, terms, weights: each way out is the definition at the tests that led there.
-use mathlib.Core.Bool.{true}
-use Rattle.numbers.specs.Bounded.{allBelow}
-use Rattle.supply.specs.Line.{mostTerms}
-use Rattle.supply.specs.Range.{headInRange, termAllowed}
 use mathlib.Core.Path.{_≡_, sym, _∙_}
+use mathlib.Core.Bool.{true}
 use borrow.Author.Tests.{eq-eqb, ne-eqb, not-true, not-false}
-use Rattle.supply.specs.Range.{lineInRange, weightsAllowed}
-use Rattle.supply.proofs.RangeLaws.{head-terms}
 use borrow.Author.Needs.{needs}
+use Rattle.supply.specs.Range.{headInRange, termsAllowed, weightsAllowed, lineInRange}
 use Rattle.supply.proofs.range.line_in_range.Statement.{statement}
 use Rattle.supply.proofs.range.line_in_range.Tie as tie
 
 -- what the tests passed say
-head : (c : tie.Else1) → headInRange (c .before .before .before .args .n) (c .before .before .before .args .lines .now) (c .before .before .before .args .j) ≡ true
+head : (c : tie.Else1) → headInRange (c .before .before .args .n) (c .before .before .args .line) ≡ true
 head c = sym (c .before .head-in-range .ensures) ∙ not-false _ (c .if1 .left)
 
-terms : (c : tie.Else2) → allBelow mostTerms (termAllowed (c .before .before .before .before .before .args .lines .now) (c .before .before .before .before .before .args .j)) ≡ true
+terms : (c : tie.Else2) → termsAllowed (c .before .before .before .before .args .line) ≡ true
 terms c = sym (c .before .terms-allowed .ensures) ∙ not-false _ (c .if2 .left)
 
 returns : tie.Need-returns
@@ -27,13 +23,11 @@ unfolding lineInRange
 returns-2 c = rw (head (c .before .before), ← c .before .terms-allowed .ensures, not-true (c .before .terms-allowed .result) (c .if2 .taken))
 
 weight-total-requires : tie.Need-weight-total-requires
-weight-total-requires c κs =
-    let s = c .before .before .before .before .before .before .before in
-    (s .pre .0, (s .pre .1, (head-terms (s .args .n) (s .args .lines .now) (s .args .j) (head (c .before .before .before .before)), terms (c .before .before))))
+weight-total-requires c κs = terms (c .before .before)
 
 returns-3 : tie.Need-returns-3
 unfolding lineInRange weightsAllowed
-returns-3 c = rw (head (c .before .before .before .before), terms (c .before .before), ← c .before .line-word .ensures, eq-eqb _ _ (c .if3 .taken))
+returns-3 c = rw (head (c .before .before .before .before), terms (c .before .before), eq-eqb _ _ (c .if3 .taken))
 
 returns-4 : tie.Need-returns-4
 unfolding lineInRange weightsAllowed
@@ -41,7 +35,6 @@ returns-4 c =
     rw (
       head (c .before .before .before .before .before),
       terms (c .before .before .before),
-      ← c .before .before .line-word .ensures,
       ne-eqb _ _ (c .before .if3 .left),
       ← c .weight-total .ensures,
     )
@@ -54,7 +47,6 @@ line-in-range-spec =
     returns
     (λ c κs. search needs)
     returns-2
-    (λ c κs. search needs)
     weight-total-requires
     returns-3
     returns-4)

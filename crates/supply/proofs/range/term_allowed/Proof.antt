@@ -1,5 +1,4 @@
--- The count picks the test, as in the definition.
-use borrow.Author.Tests.{lt-ltb, le-ltb}
+-- Whether the term is used picks the test, as in the definition.
 use Rattle.supply.specs.Range.{termAllowed}
 use borrow.Author.Needs.{needs}
 use Rattle.supply.proofs.range.term_allowed.Statement.{statement}
@@ -7,16 +6,11 @@ use Rattle.supply.proofs.range.term_allowed.Tie as tie
 
 returns : tie.Need-returns
 unfolding termAllowed
-returns c = rw (← c .before .before .line-word .ensures, lt-ltb _ _ (c .before .if1 .taken)) (c .term-in-range .ensures)
+returns c = rw (c .before .if1 .taken) (c .term-in-range .ensures)
 
 returns-2 : tie.Need-returns-2
 unfolding termAllowed
-returns-2 c = rw (← c .before .before .line-word .ensures, le-ltb _ _ (c .before .if1 .left)) (c .term-unused .ensures)
+returns-2 c = rw (c .before .if1 .left) (c .term-unused .ensures)
 
 pub term-allowed-spec : {M : Type 1} → statement M
-term-allowed-spec =
-    tie.close
-    (tie.spec
-    (λ c κs. search needs) (λ c κs. search needs) (λ c κs. search needs)
-    returns
-    returns-2)
+term-allowed-spec = tie.close (tie.spec (λ c κs. search needs) (λ c κs. search needs) returns returns-2)

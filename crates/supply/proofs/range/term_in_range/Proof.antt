@@ -9,47 +9,41 @@ use Rattle.supply.proofs.range.term_in_range.Tie as tie
 returns : tie.Need-returns
 unfolding termInRange
 returns c =
-    let four = c .before .before in
-    let three = four .before .before .before in
-    let two = three .before .before .before in
-    let one = two .before .before .before in
+    let four = c .before in
+    let three = four .before .before in
+    let two = three .before .before in
+    let one = two .before .before in
     rw (
-      ← one .before .term-word .ensures,
       lt-ltb _ _ (one .if1 .taken),
-      ← two .before .before .term-word2 .ensures,
       ← two .before .is-between .ensures,
       two .if2 .taken,
-      ← three .before .before .term-word3 .ensures,
       ← three .before .is-between2 .ensures,
       three .if3 .taken,
-      ← four .before .before .term-word4 .ensures,
       ← four .before .window-allowed .ensures,
       four .if4 .taken,
-      ← c .before .term-word5 .ensures,
       ← c .is-between3 .ensures,
     )
 
 returns-2 : tie.Need-returns-2
 unfolding termInRange
-returns-2 c = rw (← c .before .before .term-word4 .ensures, ← c .before .window-allowed .ensures, c .if4 .left) (simp and-false)
+returns-2 c = rw (← c .before .window-allowed .ensures, c .if4 .left) (simp and-false)
 
 returns-3 : tie.Need-returns-3
 unfolding termInRange
-returns-3 c = rw (← c .before .before .term-word3 .ensures, ← c .before .is-between2 .ensures, c .if3 .left) (simp and-false)
+returns-3 c = rw (← c .before .is-between2 .ensures, c .if3 .left) (simp and-false)
 
 returns-4 : tie.Need-returns-4
 unfolding termInRange
-returns-4 c = rw (← c .before .before .term-word2 .ensures, ← c .before .is-between .ensures, c .if2 .left) (simp and-false)
+returns-4 c = rw (← c .before .is-between .ensures, c .if2 .left) (simp and-false)
 
 returns-5 : tie.Need-returns-5
 unfolding termInRange
-returns-5 c = rw (← c .before .term-word .ensures, le-ltb _ _ (c .if1 .left))
+returns-5 c = rw (le-ltb _ _ (c .if1 .left))
 
 pub term-in-range-spec : {M : Type 1} → statement M
 term-in-range-spec =
     tie.close
     (tie.spec
-    (λ c κs. search needs) (λ c κs. search needs) (λ c κs. search needs) (λ c κs. search needs) (λ c κs. search needs)
     (λ c κs. search needs) (λ c κs. search needs) (λ c κs. search needs) (λ c κs. search needs)
     returns
     returns-2

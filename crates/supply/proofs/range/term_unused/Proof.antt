@@ -1,47 +1,40 @@
--- The invariant: each word passed is zero.
-use mathlib.Core.Path.{sym, _∙_}
-use Prim.Native.Nat.{_-_}
-use lib.Dec.{eqb}
-use native.Mathlib.Omega.{arith}
-use borrow.Author.Needs.{needs}
+-- Passed, the definition is its last test; a test that fails makes it false, whatever the others say.
 use borrow.Author.Tests.{eq-eqb, ne-eqb}
-use Rattle.numbers.proofs.TestLaws.{Tested, tested-none, tested-more, tested-fails, tested-all}
-use Rattle.supply.specs.Line.{termWord}
 use Rattle.supply.specs.Range.{termUnused}
 use Rattle.supply.proofs.range.term_unused.Statement.{statement}
 use Rattle.supply.proofs.range.term_unused.Tie as tie
 
-abbrev Inv-loop : tie.InvT-loop
-Inv-loop lines count j k w₀ w = Tested 5 (λ i. eqb (termWord lines j k i) 0) w
-
-abbrev μ-loop : tie.MeasureT-loop
-μ-loop lines count j k w₀ w = 5 - w
-
-loop-holds : tie.Need-loop-holds Inv-loop μ-loop
-loop-holds c = tested-none _ _
-
-returns : tie.Need-returns Inv-loop μ-loop
+returns : tie.Need-returns
 unfolding termUnused
 returns c =
-    tested-fails (c .before .before .before .loop .inv) (omega arith) (ne-eqb _ _ (λ e. c .if1 .taken (c .before .term-word .ensures ∙ e)))
+    let four = c .before in
+    let three = four .before .before in
+    let two = three .before .before in
+    let one = two .before .before in
+    rw (eq-eqb _ _ (one .if1 .taken), eq-eqb _ _ (two .if2 .taken), eq-eqb _ _ (three .if3 .taken), eq-eqb _ _ (four .if4 .taken))
 
-loop-again : tie.Need-loop-again Inv-loop μ-loop
-loop-again c =
-    tested-more (c .before .before .before .loop .inv) (omega arith) (eq-eqb _ _ (sym (c .before .term-word .ensures) ∙ c .if1 .left))
-
-returns-2 : tie.Need-returns-2 Inv-loop μ-loop
+returns-2 : tie.Need-returns-2
 unfolding termUnused
-returns-2 c = tested-all (c .before .loop .inv) (omega arith)
+returns-2 c =
+    let three = c .before .before in
+    let two = three .before .before in
+    let one = two .before .before in
+    rw (eq-eqb _ _ (one .if1 .taken), eq-eqb _ _ (two .if2 .taken), eq-eqb _ _ (three .if3 .taken), ne-eqb _ _ (c .if4 .left))
+
+returns-3 : tie.Need-returns-3
+unfolding termUnused
+returns-3 c =
+    let two = c .before .before in
+    let one = two .before .before in
+    rw (eq-eqb _ _ (one .if1 .taken), eq-eqb _ _ (two .if2 .taken), ne-eqb _ _ (c .if3 .left))
+
+returns-4 : tie.Need-returns-4
+unfolding termUnused
+returns-4 c = let one = c .before .before in rw (eq-eqb _ _ (one .if1 .taken), ne-eqb _ _ (c .if2 .left))
+
+returns-5 : tie.Need-returns-5
+unfolding termUnused
+returns-5 c = rw (ne-eqb _ _ (c .if1 .left))
 
 pub term-unused-spec : {M : Type 1} → statement M
-term-unused-spec =
-    tie.close
-    (tie.spec
-    Inv-loop
-    μ-loop
-    loop-holds
-    (λ c κs. search needs)
-    returns
-    (λ c. omega arith) (λ c. omega arith)
-    loop-again
-    returns-2)
+term-unused-spec = tie.close (tie.spec returns returns-2 returns-3 returns-4 returns-5)

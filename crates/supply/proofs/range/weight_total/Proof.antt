@@ -1,58 +1,39 @@
--- The invariant: the sum of the weights passed. Each is at most 10,000, as its term is in range.
-use Rattle.supply.proofs.RangeLaws.{allowed-term}
-use mathlib.Core.Path.{_≡_, refl}
-use Prim.Native.Nat.{ℕ, _≤_, _-_, _*_}
-use Rattle.numbers.specs.Bounded.{sumBelow}
-use Rattle.numbers.proofs.SumLaws.{sum-step, sum-le}
-use Rattle.supply.specs.Line.{termCountOf, weightOf}
+-- The invariant: the sum of the weights passed, each at most 10,000.
+use Prim.Native.Nat.{_-_}
+use native.Mathlib.Omega.{arith}
+use Rattle.numbers.proofs.SumLaws.{Summed, summed-none, summed-more, summed-all, sum-le}
+use Rattle.supply.specs.Line.{termOf}
 use Rattle.supply.specs.Range.{weightTotal}
+use Rattle.supply.proofs.RangeLaws.{allowed-weight}
 use Rattle.supply.proofs.range.weight_total.Statement.{statement}
 use Rattle.supply.proofs.range.weight_total.Tie as tie
-use native.Mathlib.Omega.{arith}
-use borrow.Author.Needs.{needs}
 
 abbrev Inv-loop : tie.InvT-loop
-Inv-loop lines count j terms total₀ k₀ total k = (k ≤ terms) × (total ≡ sumBelow k (weightOf lines j))
+Inv-loop line total₀ k₀ total k = Summed 4 (λ i. termOf line i .weight) total k
 
 abbrev μ-loop : tie.MeasureT-loop
-μ-loop lines count j terms total₀ k₀ total k = terms - k
+μ-loop line total₀ k₀ total k = 4 - k
 
 loop-holds : tie.Need-loop-holds Inv-loop μ-loop
-unfolding sumBelow
-loop-holds c = (omega arith, refl)
-
--- the weights passed, and the one at hand
-module _ (c : tie.After-term-word Inv-loop μ-loop) where
-  abbrev l : tie.At-loop Inv-loop μ-loop
-  l = c .before .before
-
-  abbrev s : tie.Start Inv-loop μ-loop
-  s = l .before .before .before
-
-  used : (k : ℕ) → k ≤ l .loop .k → weightOf (s .args .lines .now) (s .args .j) k ≤ 10000
-  used k p =
-      allowed-term (s .args .lines .now) (s .args .j) k (s .pre .1 .1 .0) (s .pre .1 .1 .1)
-      (omega (arith, l .before .line-word .ensures)) .weight
-
-  weight : weightOf (s .args .lines .now) (s .args .j) (l .loop .k) ≤ 10000
-  weight = used (l .loop .k) (omega arith)
-
-  weights : sumBelow (l .loop .k) (weightOf (s .args .lines .now) (s .args .j)) ≤ l .loop .k * 10000
-  weights = sum-le (l .loop .k) 10000 (weightOf (s .args .lines .now) (s .args .j)) (λ k p. used k (omega arith))
+loop-holds c = summed-none _ _
 
 add-total : tie.Need-add-total Inv-loop μ-loop
-add-total c = omega (arith, c .term-word .ensures, weight c, weights c)
+add-total c =
+    let l = c .before .before .before in
+    let s = l .before in
+    omega (
+      arith,
+      l .loop .inv .sum,
+      allowed-weight (s .args .t1) (s .pre) (l .loop .k) (omega arith),
+      sum-le (l .loop .k) 10000 (λ i. termOf (s .args .t1) i .weight) (λ i p. allowed-weight (s .args .t1) (s .pre) i (omega arith)),
+    )
 
 loop-again : tie.Need-loop-again Inv-loop μ-loop
-loop-again c = (omega arith, rw sum-step (omega (arith, c .term-word .ensures)))
+loop-again c = summed-more (c .before .before .before .loop .inv) (omega arith)
 
 returns : tie.Need-returns Inv-loop μ-loop
 unfolding weightTotal
-returns c =
-    let l = c .before in
-    let s = l .before .before .before in
-    let e : l .loop .k ≡ termCountOf (s .args .lines .now) (s .args .j) = omega (arith, l .before .line-word .ensures) in
-    rw (← e) (l .loop .inv .1)
+returns c = summed-all (c .before .loop .inv) (omega arith)
 
 pub weight-total-spec : {M : Type 1} → statement M
 weight-total-spec =
@@ -60,9 +41,8 @@ weight-total-spec =
     (tie.spec
     Inv-loop
     μ-loop
-    (λ c κs. search needs)
     loop-holds
-    (λ c κs. search needs)
+    (λ c. omega arith) (λ c. omega arith)
     add-total
     (λ c. omega arith) (λ c. omega arith)
     loop-again

@@ -1,8 +1,8 @@
 -- Each way out is the definition at the tests that led there.
 use borrow.Author.Tests.{eq-eqb, ne-eqb}
-use Rattle.supply.specs.Range.{windowAllowed}
-use Rattle.supply.proofs.range.window_allowed.Statement.{statement}
-use Rattle.supply.proofs.range.window_allowed.Tie as tie
+use Rattle.series.specs.Series.{windowAllowed}
+use Rattle.series.proofs.mean.window_allowed.Statement.{statement}
+use Rattle.series.proofs.mean.window_allowed.Tie as tie
 
 returns : tie.Need-returns
 unfolding windowAllowed

@@ -1,0 +1,90 @@
+// The mean of a window of months, and the means of every series, lag and window in one list: there are 5 * 12 * 3 of
+// them, so that each is worked once, however many terms take it.
+ghost use mathlib.Core.Path.{_≡_};
+ghost use Prim.Native.Nat.{_<_, _≤_};
+ghost use Rattle.series.specs.Series.{seriesCount, lastMonth, windowAllowed};
+ghost use Rattle.series.specs.Means.{windowOf, meanPlace, meanOrZero, meanList};
+ghost use Rattle.series.specs.Required.{ValuesWithin, TableInRange, WindowInRange};
+use crate::table::MONTHS;
+use crate::table::SERIES;
+use numbers::rounding::half_up;
+
+// Lags, windows, and the means of a series and of all.
+const LAGS: usize = 12;
+
+const WINDOWS: usize = 3;
+
+const SERIES_MEANS: usize = LAGS * WINDOWS;
+
+pub const MEANS: usize = SERIES * SERIES_MEANS;
+
+// Whether a window has 1, 6 or 9 months.
+pub fn window_allowed(window: u64) -> bool
+    ensures { λ r. ⌜ r ≡ windowAllowed window ⌝ }
+{
+    window == 1 || (window == 6 || window == 9)
+}
+
+// The window at a place of three: 1, 6 and 9 are told apart by their quarters.
+fn window_of(place: usize) -> u64
+    ensures { λ r. ⌜ r ≡ windowOf place ⌝ }
+{
+    if place == 0 {
+        1
+    } else if place == 1 {
+        6
+    } else {
+        9
+    }
+}
+
+// Where the mean of a series, lag and window stands in the list.
+pub fn mean_place(series: u64, lag: u64, window: u64) -> usize
+    requires { ⌜ series < seriesCount ⌝ ∗ ⌜ 1 ≤ lag ⌝ ∗ ⌜ lag ≤ 12 ⌝ ∗ ⌜ window ≤ 9 ⌝ }
+    ensures { λ r. ⌜ r ≡ meanPlace series lag window ⌝ }
+{
+    series as usize * SERIES_MEANS + (lag - 1) as usize * WINDOWS + (window / 4) as usize
+}
+
+// The mean of a window of a series' row, or 0 where a month of it is missing: the window lies whole in the table, and no
+// value of it is zero.
+fn mean(row: &[u64; MONTHS], first: u64, month: u64, lag: u64, window: u64) -> u64
+    requires { ⌜ ValuesWithin (now row) ⌝ ∗ ⌜ WindowInRange first lag window ⌝ }
+    ensures { λ r. ⌜ r ≡ meanOrZero (now (row .entry)) first month lag window ⌝ }
+{
+    if month < first + lag + window - 1 {
+        return 0;
+    }
+    let newest = (month - lag - first) as usize;
+    if newest >= MONTHS {
+        return 0;
+    }
+    let mut sum: u64 = 0;
+    let mut k: usize = 0;
+    while (k as u64) < window {
+        let value = row[newest - k];
+        if value == 0 {
+            return 0;
+        }
+        sum += value;
+        k += 1;
+    }
+    half_up(sum, window)
+}
+
+// The means of every series, lag and window, worked in a month, from the table and its first month.
+pub fn means(table: [[u64; MONTHS]; SERIES], first: u64, month: u64) -> [u64; MEANS]
+    requires { ⌜ TableInRange table ⌝ ∗ ⌜ first ≤ lastMonth ⌝ }
+    ensures { λ r. ⌜ r ≡ meanList table first month ⌝ }
+{
+    let mut means = [0u64; MEANS];
+    let mut place: usize = 0;
+    while place < MEANS {
+        let series = place / SERIES_MEANS;
+        let lag = (place / WINDOWS % LAGS + 1) as u64;
+        let window = window_of(place % WINDOWS);
+        means[place] = mean(&table[series], first, month, lag, window);
+        place += 1;
+    }
+    means
+}

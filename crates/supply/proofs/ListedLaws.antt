@@ -1,0 +1,99 @@
+-- The list of all means says of a term what the table says: its mean, and by a 0 that a month is missing. So a search and
+-- prices worked from the list are those of the table. Assumes nothing.
+use mathlib.Core.Path.{_≡_, _∙_, ap, ap₂}
+use mathlib.Core.Bool.{false}
+use mathlib.Core.List.{List, [], _∷_}
+use mathlib.Core.Option.{none}
+use Prim.Native.Nat.{ℕ, _≤_, _<_}
+use lib.Dec.{eqb}
+use lib.ListN.{getD}
+use Rattle.numbers.specs.Bounded.{anyBelow}
+use Rattle.numbers.specs.Checks.{verdictOf}
+use Rattle.numbers.specs.Units.{noPrice}
+use Rattle.numbers.proofs.TestLaws.{any-none}
+use Rattle.numbers.proofs.FirstLaws.{first-same}
+use Rattle.numbers.proofs.ListLaws.{filled-same}
+use Rattle.series.specs.Series.{mostValue}
+use Rattle.series.specs.Means.{meanCount, meanPlace, meanOrZero, meanList, meanAt}
+use Rattle.series.specs.Required.{ValuesWithin}
+use Rattle.series.proofs.SeriesLaws.{window-size}
+use Rattle.series.proofs.MeanLaws.{mean-published, zero-missing, place-below, mean-listed}
+use Rattle.supply.specs.Line.{mostLines, lineCount, lineOf, termOf}
+use Rattle.supply.specs.Months.{lacksMonth, firstMissing, monthCheck, missingAt}
+use Rattle.supply.specs.Listed.{listedMean, listedLacks}
+use Rattle.supply.specs.Price.{termMean, priceAnswer, priceOr, referencePrice, referenceList, beyondAt, beyondIn, firstBeyond}
+use Rattle.supply.specs.Price.{boundsCheck, outOfBoundsAt, boundedReferences, referencesBy}
+use Rattle.supply.specs.Required.{TermFacts, CheckedLines}
+use Rattle.supply.specs.declared.line.Term.{Term}
+use Rattle.supply.specs.declared.market.FixingNumbers.{FixingNumbers}
+use Rattle.supply.proofs.MonthLaws.{never-missing, none-missing, missing-same}
+use Rattle.supply.proofs.PriceLaws.{price-same}
+
+-- a mean of the list is at most the top value
+pub listed-most : (means : List ℕ) → ValuesWithin means → (term : Term) → listedMean means term ≤ mostValue
+unfolding listedMean meanAt
+listed-most means ok term = ok .most (meanPlace (term .series) (term .lag) (term .window))
+
+-- where no mean of the list is 0, no term lacks a month
+pub none-listed : (means lines : List ℕ) → CheckedLines lines → anyBelow meanCount (λ k. eqb (getD means k 0) 0) ≡ false →
+    firstMissing (listedLacks means) lines ≡ none
+unfolding listedLacks listedMean meanAt
+none-listed means lines checked h =
+    never-missing (listedLacks means) lines
+    (λ j p k q.
+    let f = checked .facts j p .term k q in
+    any-none meanCount (λ i. eqb (getD means i 0) 0) h (meanPlace _ _ _) (place-below _ _ _ (f .series) (f .lag) (f .lagMost) (f .window)))
+
+-- the list of a table
+module _ (table : List (List ℕ)) (numbers : FixingNumbers) where
+  abbrev means : List ℕ
+  means = meanList table (numbers .«first_month») (numbers .month)
+
+  module _ (term : Term) (f : TermFacts term) where
+    listed : listedMean means term ≡ meanOrZero (getD table (term .series) []) (numbers .«first_month») (numbers .month) (term .lag) (term .window)
+    unfolding listedMean
+    listed = mean-listed (term .series) (term .lag) (term .window) (f .series) (f .lag) (f .lagMost) (f .window) table (numbers .«first_month») (numbers .month)
+
+    listed-lacks : listedLacks means term ≡ lacksMonth table numbers term
+    unfolding listedLacks lacksMonth
+    listed-lacks = ap (λ m. eqb m 0) listed ∙ zero-missing (getD table (term .series) []) _ _ _ _ (window-size (term .window) (f .window) .0)
+
+    listed-mean : lacksMonth table numbers term ≡ false → listedMean means term ≡ termMean table numbers term
+    unfolding lacksMonth termMean
+    listed-mean h = listed ∙ mean-published (getD table (term .series) []) _ _ _ _ h
+
+  module _ (lines : List ℕ) (checked : CheckedLines lines) where
+    months-listed : firstMissing (listedLacks means) lines ≡ firstMissing (lacksMonth table numbers) lines
+    months-listed =
+        missing-same (listedLacks means) (lacksMonth table numbers) lines
+        (λ j p k q. listed-lacks (termOf (lineOf lines j) k) (checked .facts j p .term k q))
+
+    pub check-listed : monthCheck (listedLacks means) lines ≡ monthCheck (lacksMonth table numbers) lines
+    unfolding monthCheck
+    check-listed = ap (λ o. record { number = 10; met = missingAt o }) months-listed
+
+    -- where no month is missing
+    module _ (present : firstMissing (lacksMonth table numbers) lines ≡ none) where
+      answer-listed : (j : ℕ) → j < lineCount lines →
+          priceAnswer (listedMean means) numbers (lineOf lines j) ≡ priceAnswer (termMean table numbers) numbers (lineOf lines j)
+      answer-listed j p =
+          price-same (listedMean means) (termMean table numbers) (lineOf lines j)
+          (λ k q. listed-mean (termOf (lineOf lines j) k) (checked .facts j p .term k q) (none-missing (lacksMonth table numbers) lines present j p k q))
+          numbers
+
+      beyond-listed : firstBeyond (listedMean means) numbers lines ≡ firstBeyond (termMean table numbers) numbers lines
+      unfolding firstBeyond beyondIn
+      beyond-listed =
+          first-same (beyondIn (listedMean means) numbers lines) (beyondIn (termMean table numbers) numbers lines) (lineCount lines)
+          (λ j p. ap (beyondAt j) (answer-listed j p))
+
+      prices-listed : referenceList (listedMean means) numbers lines ≡ referenceList (termMean table numbers) numbers lines
+      unfolding referenceList referencePrice
+      prices-listed =
+          filled-same mostLines noPrice (lineCount lines) (referencePrice (listedMean means) numbers lines) (referencePrice (termMean table numbers) numbers lines)
+          (λ j p. ap priceOr (answer-listed j p))
+
+      pub references-listed : boundedReferences (listedMean means) numbers lines ≡ boundedReferences (termMean table numbers) numbers lines
+      unfolding boundedReferences boundsCheck
+      references-listed =
+          ap₂ (λ o l. referencesBy (verdictOf (record { number = 11; met = outOfBoundsAt o } ∷ [])) l) beyond-listed prices-listed

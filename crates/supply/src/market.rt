@@ -1,0 +1,12 @@
+// The numbers of a fixing beside its lists.
+
+pub struct FixingNumbers {
+    // The month that is fixed.
+    pub month: u64,
+    // In hundredths of $.
+    pub dollar: u64,
+    // In ten-thousandths.
+    pub reference_factor: u64,
+    // The first month of the index table.
+    pub first_month: u64,
+}
