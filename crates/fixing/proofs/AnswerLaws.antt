@@ -2,21 +2,18 @@
 -- and the whole answer. Assumes nothing.
 use mathlib.Core.Path.{_≡_, _∙_, ap}
 use mathlib.Core.List.{List}
-use Prim.Native.Nat.{ℕ, _+_, _*_, _/_, _≤_, _<_, min}
+use Prim.Native.Nat.{ℕ, _+_, _-_, _*_, _/_, _≤_, _<_, min}
 use native.Mathlib.Omega.{arith}
 use lib.ListN.{getD}
-use lib.IntN.{ℤ, pos, subℕ}
 use Rattle.numbers.specs.Bounded.{filledBelow}
 use Rattle.numbers.specs.Units.{noPrice}
 use Rattle.numbers.specs.declared.units.PesoPrice.{PesoPrice}
 use Rattle.numbers.specs.declared.units.Energy.{Energy}
 use Rattle.numbers.proofs.SumLaws.{sum-same}
 use Rattle.numbers.proofs.ListLaws.{filled-at, filled-same}
-use Rattle.numbers.proofs.SignedLaws.{sub-ge}
 use Rattle.fixing.specs.Limit.{Distributors, InRange, contractTotal, totalEnergy, limit, rounds, surcharge, finalPrice, collected, residue}
-use Rattle.fixing.specs.Prices.{distributors, finalPrices, fixedPrices, Fixed}
+use Rattle.fixing.specs.Prices.{distributors, lastRound, finalPrices, fixedPrices, PricesPromise}
 use Rattle.fixing.specs.declared.prices.LastRound.{LastRound}
-use Rattle.fixing.proofs.LoopLaws.{lastRound}
 use Rattle.fixing.proofs.LimitLaws.{limit-most, surcharge-most, rounds-few, final-min, final-least, final-most, collects}
 
 pub limit-is : (d : Distributors) (total energy : ℕ) → total ≡ contractTotal d → energy ≡ totalEnergy d → 105 * total / (100 * energy) ≡ limit d
@@ -68,9 +65,13 @@ module _ (n : ℕ) (averages : List PesoPrice) (energies : List Energy) (r : InR
     unfolding contractTotal collected
     finals-collect = sum-same n _ _ (λ i p. rw (final-at i p))
 
-    pub fixed : (rest : ℤ) → rest ≡ subℕ (contractTotal (distributors n finals energies)) (contractTotal d) → Fixed d (record { limit = record { 0 = top }; surcharge = last .surcharge; rounds = last .rounds; residue = record { 0 = rest }; finals = finals })
+    -- they collect the contract total
+    pub finals-over : contractTotal d ≤ contractTotal (distributors n finals energies)
+    finals-over = omega (arith, finals-collect, collects d r)
+
+    pub prices-promised : (rest : ℕ) → rest ≡ contractTotal (distributors n finals energies) - contractTotal d →
+        PricesPromise d (record { limit = record { 0 = top }; surcharge = last .surcharge; rounds = last .rounds; residue = record { 0 = rest }; finals = finals })
     unfolding fixedPrices residue
-    fixed rest g =
-        let over : contractTotal d ≤ contractTotal (distributors n finals energies) = omega (arith, finals-collect, collects d r) in
-        let rest-is : rest ≡ pos (residue d) = g ∙ sub-ge _ _ over ∙ ap pos (omega (arith, finals-collect)) in
+    prices-promised rest g =
+        let rest-is : rest ≡ residue d = g ∙ ap (λ x. x - contractTotal d) finals-collect in
         record { answered = rw (topped, made, rest-is, finals-are); few = rw rounds-is (rounds-few d r) }

@@ -1,163 +1,177 @@
 -- Laws of what lines add up to: what a line adds to its own distributor and to others, bounds, and how a pass over the
 -- lines keeps the sums of all distributors. Assumes nothing.
 use mathlib.Core.Path.{_≡_, refl, sym, _∙_, ap}
-use mathlib.Core.Bool.{Bool, true, false, cond}
+use mathlib.Core.Bool.{Bool, true, false, cond, not}
 use mathlib.Core.List.{List}
 use Prim.Native.Nat.{ℕ, _+_, _*_, _≤_, _<_}
 use native.Mathlib.Omega.{arith}
 use native.Mathlib.Decide.{ℕ-discrete}
 use native.Mathlib.Nat.{mul-le-mul}
 use lib.Dec.{eqb}
-use lib.ListN.{getD, set, length, length-set, replicate, getD-replicate}
-use lib.IntN.{ℤ, pos, _+ℤ_}
+use lib.ListN.{getD, set, length, length-set, replicate, length-replicate, getD-replicate}
 use lib.Seq.{getD-set-same, getD-set-other, ext-getD}
 use borrow.Author.Tests.{eq-eqb, ne-eqb, eqb-true}
 use Rattle.numbers.specs.Bounded.{sumBelow, listBelow}
-use Rattle.numbers.specs.Units.{noPrice, noEnergy, noMoney}
+use Rattle.numbers.specs.Units.{noPrice, noEnergy}
+use Rattle.numbers.specs.Sizes.{mostDistributors}
 use Rattle.numbers.specs.declared.units.PesoPrice.{PesoPrice}
-use Rattle.numbers.specs.declared.units.Pesos.{Pesos}
+use Rattle.numbers.specs.declared.units.Energy.{Energy}
+use Rattle.numbers.specs.declared.units.UnsignedPesos.{UnsignedPesos}
 use Rattle.numbers.proofs.SumLaws.{sum-step, sum-same, sum-le, sum-part}
-use Rattle.numbers.proofs.TestLaws.{any-none, all-at}
-use Rattle.numbers.proofs.ListLaws.{list-length, list-at, filled-at}
-use Rattle.supply.specs.Line.{distributorOf, energyOf}
-use Rattle.fixing.proofs.SearchLaws.{any-where}
-use Rattle.fixing.specs.Average.{lineAmount, linesAmount, suppliedEnergy, hasLine, everyoneSupplied, energyList, OwnLines, PricedLines}
+use Rattle.numbers.proofs.TestLaws.{any-none, all-at, all-same}
+use Rattle.numbers.proofs.ListLaws.{list-length, list-at}
+use Rattle.numbers.proofs.SearchLaws.{any-where}
+use Rattle.supply.specs.Line.{lineCount, lineOf}
+use Rattle.fixing.specs.Average.{ownPart, ownSum, suppliedEnergy, linesAmount, hasLine, everyoneSupplied, everyEnergy, energyList}
+use Rattle.fixing.specs.Required.{OwnLines, PricedLines}
 
-module _ (price : ℕ → ℕ) (lines : List ℕ) (i j : ℕ) where
-  pub amount-own : distributorOf lines j ≡ i → lineAmount price lines i j ≡ price j * energyOf lines j
-  unfolding lineAmount
-  amount-own h = rw (eq-eqb (distributorOf lines j) i h)
+module _ (lines : List ℕ) (f : ℕ → ℕ) (i j : ℕ) where
+  pub part-own : lineOf lines j .distributor ≡ i → ownPart lines f i j ≡ f j
+  unfolding ownPart
+  part-own h = rw (eq-eqb (lineOf lines j .distributor) i h)
 
-  pub amount-other : (distributorOf lines j ≡ i → ⊥) → lineAmount price lines i j ≡ 0
-  unfolding lineAmount
-  amount-other h = rw (ne-eqb (distributorOf lines j) i h)
+  pub part-other : (lineOf lines j .distributor ≡ i → ⊥) → ownPart lines f i j ≡ 0
+  unfolding ownPart
+  part-other h = rw (ne-eqb (lineOf lines j .distributor) i h)
 
-  pub amount-most : lineAmount price lines i j ≤ price j * energyOf lines j
-  unfolding lineAmount
-  amount-most = go (eqb (distributorOf lines j) i)
+  pub part-most : ownPart lines f i j ≤ f j
+  unfolding ownPart
+  part-most = go (eqb (lineOf lines j .distributor) i)
     where
-      go : (b : Bool) → cond b (price j * energyOf lines j) 0 ≤ price j * energyOf lines j
+      go : (b : Bool) → cond b (f j) 0 ≤ f j
       go true = omega arith
       go false = omega arith
 
--- a pass over the lines: after j lines each place holds what the lines passed come to
-pub record Held (price : ℕ → ℕ) (lines : List ℕ) (j : ℕ) (out : List Pesos) : Type 0 where
-  pub wide : length out ≡ 40
-  pub sums : (i : ℕ) → i < 40 → getD out i noMoney .0 ≡ pos (linesAmount price j lines i)
+-- a sum of parts is small where each is
+pub parts-most : (lines : List ℕ) (f : ℕ → ℕ) (i k most : ℕ) → ((j : ℕ) → j < k → f j ≤ most) → sumBelow k (ownPart lines f i) ≤ k * most
+parts-most lines f i k most h = sum-le k most (ownPart lines f i) (λ j p. omega (arith, part-most lines f i j, h j p))
 
-module _ (price : ℕ → ℕ) (lines : List ℕ) where
-  pub held-none : Held price lines 0 (replicate 40 noMoney)
-  unfolding linesAmount sumBelow
-  held-none = record { wide = refl; sums = λ i p. ap (λ (m : Pesos). m .0) (getD-replicate 40 i noMoney noMoney p) }
+-- a pass over the lines that keeps the sum of each distributor as a value of its own type
+module _ {A : Type 0} (make : ℕ → A) (read : A → ℕ) (made : (x : ℕ) → read (make x) ≡ x) (whole : (a : A) → make (read a) ≡ a) where
+  -- after k lines each place holds what the lines passed add up to
+  pub record Held (lines : List ℕ) (f : ℕ → ℕ) (k : ℕ) (out : List A) : Type 0 where
+    pub wide : length out ≡ mostDistributors
+    pub sums : (i : ℕ) → i < mostDistributors → read (getD out i (make 0)) ≡ sumBelow k (ownPart lines f i)
 
-  pub held-more : (j : ℕ) (out : List Pesos) (own : ℕ) (sum : Pesos) → own < 40 → own ≡ distributorOf lines j → sum .0 ≡ getD out own noMoney .0 +ℤ pos (price j * energyOf lines j) → Held price lines j out → Held price lines (j + 1) (set out own sum)
-  unfolding linesAmount
-  held-more j out own sum p q r h =
-      record {
-        wide = length-set out own _ ∙ h .wide;
-        sums = λ i k. rw (sum-step j (lineAmount price lines i)) (go i k (ℕ-discrete i own));
-      }
-    where
-      go : (i : ℕ) → i < 40 → Dec (i ≡ own) → getD (set out own sum) i noMoney .0 ≡ pos (sumBelow j (lineAmount price lines i) + lineAmount price lines i j)
-      go i k (yes e) =
-          rw (e, getD-set-same out own sum noMoney (omega (arith, h .wide)))
-          (r ∙ ap (λ (z : ℤ). z +ℤ pos (price j * energyOf lines j)) (h .sums own p)
-          ∙ ap (λ m. pos (sumBelow j (lineAmount price lines own) + m)) (sym (amount-own price lines own j (sym q))))
-      go i k (no e) =
-          rw (getD-set-other out own i sum noMoney e)
-          (h .sums i k ∙ ap pos (omega (arith, amount-other price lines i j (λ t. e (sym (q ∙ t))))))
+  module _ (lines : List ℕ) (f : ℕ → ℕ) where
+    pub held-none : Held lines f 0 (replicate mostDistributors (make 0))
+    unfolding sumBelow
+    held-none =
+        record {
+          wide = length-replicate mostDistributors (make 0);
+          sums = λ i p. ap read (getD-replicate mostDistributors i (make 0) (make 0) p) ∙ made 0;
+        }
 
-  pub held-done : (count : ℕ) (out : List Pesos) → Held price lines count out → out ≡ listBelow 40 (λ i. record { 0 = pos (linesAmount price count lines i) })
-  held-done count out h =
-      ext-getD noMoney out (listBelow 40 amount)
-      (h .wide ∙ sym (list-length amount 40))
-      (λ i p. let k : i < 40 = omega (arith, h .wide) in ap {B = Pesos} (λ (z : ℤ). record { 0 = z }) (h .sums i k) ∙ sym (list-at amount 40 noMoney i k))
-    where
-      amount : ℕ → Pesos
-      amount i = record { 0 = pos (linesAmount price count lines i) }
+    pub held-more : (k : ℕ) (out : List A) (own : ℕ) (sum : A) → own < mostDistributors → own ≡ lineOf lines k .distributor →
+        read sum ≡ read (getD out own (make 0)) + f k → Held lines f k out → Held lines f (k + 1) (set out own sum)
+    held-more k out own sum p q r h =
+        record {
+          wide = length-set out own _ ∙ h .wide;
+          sums = λ i b. rw (sum-step k (ownPart lines f i)) (go i b (ℕ-discrete i own));
+        }
+      where
+        go : (i : ℕ) → i < mostDistributors → Dec (i ≡ own) → read (getD (set out own sum) i (make 0)) ≡ sumBelow k (ownPart lines f i) + ownPart lines f i k
+        go i b (yes e) =
+            rw (e, getD-set-same out own sum (make 0) (omega (arith, h .wide)))
+            (omega (arith, r, h .sums own p, part-own lines f own k (sym q)))
+        go i b (no e) =
+            rw (getD-set-other out own i sum (make 0) e)
+            (omega (arith, h .sums i b, part-other lines f i k (λ t. e (sym (q ∙ t)))))
 
--- bounds: a line's amount, and what lines add up to
-module _ (n : ℕ) (prices : List PesoPrice) (lines : List ℕ) (count : ℕ) (ok : PricedLines n prices lines count) where
-  abbrev priceOf : ℕ → ℕ
-  priceOf j = getD prices j noPrice .0
+    pub held-done : (out : List A) → Held lines f (lineCount lines) out → out ≡ listBelow mostDistributors (λ i. make (ownSum lines f i))
+    unfolding ownSum
+    held-done out h =
+        ext-getD (make 0) out (listBelow mostDistributors sums)
+        (h .wide ∙ sym (list-length sums mostDistributors))
+        (λ i p. let b : i < mostDistributors = omega (arith, h .wide) in sym (whole _) ∙ ap make (h .sums i b) ∙ sym (list-at sums mostDistributors (make 0) i b))
+      where
+        sums : ℕ → A
+        sums i = make (sumBelow (lineCount lines) (ownPart lines f i))
 
-  pub product-most : (j : ℕ) → j < count → priceOf j * energyOf lines j ≤ 20000000000000
-  product-most j p = mul-le-mul (ok .priced j p) (ok .own .checked .facts j p .energyMost)
+-- energies and amounts as what a pass keeps
+abbrev pub energyOf : List ℕ → ℕ → ℕ
+energyOf lines j = lineOf lines j .energy
 
-  pub amounts-most : (i j : ℕ) → j ≤ count → linesAmount priceOf j lines i ≤ j * 20000000000000
-  unfolding linesAmount
-  amounts-most i j p =
-      sum-le j _ (lineAmount priceOf lines i)
-      (λ k q. omega (arith, amount-most priceOf lines i k, product-most k (omega arith)))
+abbrev pub amountOf : List PesoPrice → List ℕ → ℕ → ℕ
+amountOf prices lines j = getD prices j noPrice .0 * lineOf lines j .energy
 
--- the energy is 0 exactly where there is no line
-module _ (n : ℕ) (lines : List ℕ) (count : ℕ) (ok : OwnLines n lines count) (i : ℕ) where
-  pub energy-none : hasLine count lines i ≡ false → suppliedEnergy count lines i ≡ 0
-  unfolding suppliedEnergy linesAmount lineAmount hasLine
+abbrev pub asEnergy : ℕ → Energy
+asEnergy x = record { 0 = x }
+
+abbrev pub asTotal : ℕ → UnsignedPesos
+asTotal x = record { 0 = x }
+
+abbrev pub EnergiesHeld : List ℕ → ℕ → List Energy → Type 0
+EnergiesHeld lines = Held asEnergy (λ e. e .0) (λ x. refl) (λ e. refl) lines (energyOf lines)
+
+abbrev pub AmountsHeld : List PesoPrice → List ℕ → ℕ → List UnsignedPesos → Type 0
+AmountsHeld prices lines = Held asTotal (λ e. e .0) (λ x. refl) (λ e. refl) lines (amountOf prices lines)
+
+-- a line's amount is small
+pub product-most : (prices : List PesoPrice) (lines : List ℕ) → PricedLines prices lines → (j : ℕ) → j < lineCount lines →
+    amountOf prices lines j ≤ 20000000000000
+product-most prices lines ok j p = mul-le-mul (ok .priced j p) (ok .own .checked .facts j p .energyMost)
+
+pub amount-most : (prices : List PesoPrice) (lines : List ℕ) → PricedLines prices lines → (i : ℕ) →
+    linesAmount (λ j. getD prices j noPrice .0) lines i ≤ 5120000000000000
+unfolding linesAmount ownSum
+amount-most prices lines ok i =
+    omega (
+      arith,
+      parts-most lines (amountOf prices lines) i (lineCount lines) 20000000000000 (product-most prices lines ok),
+      ok .own .checked .few,
+    )
+
+module _ (lines : List ℕ) (ok : OwnLines lines) (i : ℕ) where
+  -- the energy is 0 exactly where there is no line
+  energy-none : hasLine lines i ≡ false → suppliedEnergy lines i ≡ 0
+  unfolding suppliedEnergy ownSum ownPart hasLine
   energy-none h =
-      sum-same count _ (λ j. 0) (λ j p. rw (any-none count (λ k. eqb (distributorOf lines k) i) h j p)) ∙ nothing count
+      sum-same (lineCount lines) _ (λ j. 0) (λ j p. rw (any-none (lineCount lines) (λ k. eqb (lineOf lines k .distributor) i) h j p)) ∙ nothing (lineCount lines)
     where
       nothing : (k : ℕ) → sumBelow k (λ j. 0) ≡ 0
       nothing k = let e : sumBelow k (λ j. 0) ≤ k * 0 = sum-le k 0 (λ j. 0) (λ j p. omega arith) in omega arith
 
-  pub energy-some : hasLine count lines i ≡ true → 1 ≤ suppliedEnergy count lines i
-  unfolding suppliedEnergy linesAmount hasLine
+  energy-some : hasLine lines i ≡ true → 1 ≤ suppliedEnergy lines i
+  unfolding suppliedEnergy ownSum hasLine
   energy-some h =
-      let w = any-where count (λ j. eqb (distributorOf lines j) i) h in
+      let w = any-where (lineCount lines) (λ j. eqb (lineOf lines j .distributor) i) h in
       omega (
         arith,
-        sum-part count (lineAmount (λ j. 1) lines i) (w .at) (w .below),
-        amount-own (λ j. 1) lines i (w .at) (eqb-true _ _ (w .holds)),
+        sum-part (lineCount lines) (ownPart lines (λ j. lineOf lines j .energy) i) (w .at) (w .below),
+        part-own lines (λ j. lineOf lines j .energy) i (w .at) (eqb-true _ _ (w .holds)),
         ok .checked .facts (w .at) (w .below) .energy,
       )
 
-  pub energy-tells-none : suppliedEnergy count lines i ≡ 0 → hasLine count lines i ≡ false
-  energy-tells-none h = go (hasLine count lines i) refl
+  energy-tells : not (eqb (suppliedEnergy lines i) 0) ≡ hasLine lines i
+  energy-tells = go (hasLine lines i) refl
     where
-      go : (b : Bool) → hasLine count lines i ≡ b → b ≡ false
-      go false e = refl
-      go true e = absurd (omega (arith, energy-some e))
+      go : (b : Bool) → hasLine lines i ≡ b → not (eqb (suppliedEnergy lines i) 0) ≡ b
+      go false e = rw (eq-eqb (suppliedEnergy lines i) 0 (energy-none e))
+      go true e = rw (ne-eqb (suppliedEnergy lines i) 0 (λ z. let some = energy-some e in absurd (omega arith)))
 
-  pub energy-tells-some : (suppliedEnergy count lines i ≡ 0 → ⊥) → hasLine count lines i ≡ true
-  energy-tells-some h = go (hasLine count lines i) refl
-    where
-      go : (b : Bool) → hasLine count lines i ≡ b → b ≡ true
-      go true e = refl
-      go false e = absurd (h (energy-none e))
-
--- what stands in the list of energies
-pub energy-at : (n count : ℕ) (lines : List ℕ) (i : ℕ) → i < n → n ≤ 40 → getD (energyList n count lines) i noEnergy .0 ≡ suppliedEnergy count lines i
-unfolding energyList
-energy-at n count lines i p q = ap (λ e. e .0) (filled-at 40 noEnergy (λ k. record { 0 = suppliedEnergy count lines k }) n i p (omega arith))
-
--- a price of 1 for each line
-abbrev pub ones : List PesoPrice
-ones = replicate 256 (record { 0 = 1 })
-
-module _ (n : ℕ) (lines : List ℕ) (count : ℕ) (ok : OwnLines n lines count) where
-  one-at : (j : ℕ) → j < count → getD ones j noPrice .0 ≡ 1
-  one-at j p = ap (λ x. x .0) (getD-replicate 256 j (record { 0 = 1 }) noPrice (omega (arith, ok .checked .lent .few)))
-
-  pub ones-priced : PricedLines n ones lines count
-  ones-priced = record { own = ok; priced = λ j p. omega (arith, one-at j p) }
-
-  -- so what the lines add up to is the energy
-  pub ones-add : (i : ℕ) → linesAmount (λ j. getD ones j noPrice .0) count lines i ≡ suppliedEnergy count lines i
-  unfolding suppliedEnergy linesAmount lineAmount
-  ones-add i =
-      sum-same count _ _ (λ j p. ap (λ x. cond (eqb (distributorOf lines j) i) (x * energyOf lines j) 0) (one-at j p))
-
-  pub energy-most : (i : ℕ) → suppliedEnergy count lines i ≤ 2560000000
-  unfolding suppliedEnergy linesAmount
-  energy-most i =
+  pub energy-most : suppliedEnergy lines i ≤ 2560000000
+  unfolding suppliedEnergy ownSum
+  energy-most =
       omega (
         arith,
-        sum-le count 10000000 (lineAmount (λ j. 1) lines i)
-            (λ j p. omega (arith, amount-most (λ k. 1) lines i j, ok .checked .facts j p .energyMost)),
-        ok .checked .lent .few,
+        parts-most lines (λ j. lineOf lines j .energy) i (lineCount lines) 10000000 (λ j p. ok .checked .facts j p .energyMost),
+        ok .checked .few,
       )
 
+-- what stands in the list of energies
+pub energy-at : (lines : List ℕ) (i : ℕ) → i < mostDistributors → getD (energyList lines) i noEnergy .0 ≡ suppliedEnergy lines i
+unfolding energyList
+energy-at lines i p = ap (λ e. e .0) (list-at (λ k. record { 0 = suppliedEnergy lines k }) mostDistributors noEnergy i p)
+
+-- everyone has an energy exactly where everyone has a line
+pub energies-tell : (n : ℕ) (lines : List ℕ) → n ≤ mostDistributors → OwnLines lines → everyEnergy n (energyList lines) ≡ everyoneSupplied n lines
+unfolding everyEnergy everyoneSupplied
+energies-tell n lines few ok =
+    all-same n (λ i. not (eqb (getD (energyList lines) i noEnergy .0) 0)) (hasLine lines)
+    (λ i p. ap (λ x. not (eqb x 0)) (energy-at lines i (omega arith)) ∙ energy-tells lines ok i)
+
 -- everyone supplied: each energy is at least 1
-pub supplied-some : (n : ℕ) (lines : List ℕ) (count : ℕ) → OwnLines n lines count → everyoneSupplied n count lines ≡ true → (i : ℕ) → i < n → 1 ≤ suppliedEnergy count lines i
+pub supplied-some : (n : ℕ) (lines : List ℕ) → OwnLines lines → everyoneSupplied n lines ≡ true → (i : ℕ) → i < n → 1 ≤ suppliedEnergy lines i
 unfolding everyoneSupplied
-supplied-some n lines count ok h i p = energy-some n lines count ok i (all-at n (hasLine count lines) h i p)
+supplied-some n lines ok h i p = energy-some lines ok i (all-at n (hasLine lines) h i p)

@@ -14,7 +14,8 @@ use Rattle.numbers.specs.declared.units.Energy.{Energy}
 use Rattle.numbers.proofs.ListLaws.{filled-at, filled-same}
 use Rattle.fixing.specs.Limit.{InRange, finalPrice, charge}
 use Rattle.fixing.specs.Prices.{distributors, finalPrices, fixedPrices, chargeList}
-use Rattle.fixing.specs.Sector.{sectorsAllowed, sectorCharges, ChargedSectors}
+use Rattle.fixing.specs.Sector.{sectorsAllowed, sectorCharges}
+use Rattle.fixing.specs.Required.{ChargedSectors}
 use Rattle.fixing.specs.Fixing.{acceptedFixing}
 use Rattle.fixing.specs.declared.prices.FixedPrices.{FixedPrices}
 use Rattle.fixing.specs.declared.sector.SectorCharges.{SectorCharges}

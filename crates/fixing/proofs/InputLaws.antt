@@ -12,22 +12,27 @@ use lib.ListN.{getD}
 use borrow.Author.Tests.{eq-eqb, ne-eqb}
 use Rattle.numbers.specs.Bounded.{sumBelow}
 use Rattle.numbers.specs.Units.{noPrice, noEnergy, leastPrice, mostPrice}
+use Rattle.numbers.specs.Sizes.{mostDistributors}
 use Rattle.numbers.specs.declared.units.PesoPrice.{PesoPrice}
 use Rattle.numbers.specs.declared.units.Energy.{Energy}
 use Rattle.numbers.proofs.SumLaws.{sum-same, sum-le, sum-add, sum-scale, sum-le-sum}
 use Rattle.numbers.proofs.ListLaws.{filled-at}
 use Rattle.numbers.proofs.RoundingLaws.{half-up-ge, half-up-le}
-use Rattle.supply.specs.Line.{WholeLines, distributorOf, energyOf}
+use Rattle.supply.specs.Line.{mostLines, lineCount, lineOf}
 use Rattle.supply.specs.Range.{linesInRange}
 use Rattle.supply.proofs.RangeLaws.{checked-lines, lines-distributor}
 use Rattle.fixing.specs.Limit.{InRange, totalEnergy}
 use Rattle.fixing.specs.Prices.{distributors}
-use Rattle.fixing.specs.Average.{lineAmount, linesAmount, suppliedEnergy, averagePrice, energyList, averageList, OwnLines, AcceptedLines}
+use Rattle.fixing.specs.Average.{ownPart, ownSum, linesAmount, suppliedEnergy, averagePrice, energyList, averageList}
+use Rattle.fixing.specs.Required.{OwnLines, AcceptedLines}
 use Rattle.fixing.proofs.AverageLaws.{energy-at, supplied-some}
 
-pub own-lines : (n count : ℕ) (lines : List ℕ) → n ≤ 40 → WholeLines lines count → linesInRange n count lines ≡ true → OwnLines n lines count
-own-lines n count lines few w h =
-    record { few = few; checked = checked-lines n count lines w h; distributor = lines-distributor n count lines h }
+pub own-lines : (n : ℕ) (lines : List ℕ) → n ≤ mostDistributors → lineCount lines ≤ mostLines → linesInRange n lines ≡ true → OwnLines lines
+own-lines n lines few count h =
+    record {
+      checked = checked-lines n lines count h;
+      distributor = λ j p. omega (arith, lines-distributor n lines h j p);
+    }
 
 pick-le : (b : Bool) (x y m : ℕ) → m * x ≤ y → m * cond b x 0 ≤ cond b y 0
 pick-le true x y m h = h
@@ -47,82 +52,85 @@ unfolding sumBelow
 own-once zero amount own = omega arith
 own-once (suc k) amount own = go (ℕ-discrete own k) (own-once k amount own)
   where
-    go : Dec (own ≡ k) → sumBelow k (λ i. cond (eqb own i) amount 0) ≤ amount → sumBelow k (λ i. cond (eqb own i) amount 0) + cond (eqb own k) amount 0 ≤ amount
+    go : Dec (own ≡ k) → sumBelow k (λ i. cond (eqb own i) amount 0) ≤ amount →
+        sumBelow k (λ i. cond (eqb own i) amount 0) + cond (eqb own k) amount 0 ≤ amount
     go (yes e) ih = rw (eq-eqb own k e) (omega (arith, own-none k amount own (omega arith)))
     go (no e) ih = rw (ne-eqb own k e) (omega arith)
 
 -- all energies together are those of the lines
-energies-most : (n count : ℕ) (lines : List ℕ) → OwnLines n lines count → (m : ℕ) → m ≤ count → sumBelow n (λ i. linesAmount (λ j. 1) m lines i) ≤ m * 10000000
-unfolding linesAmount lineAmount sumBelow
-energies-most n count lines ok zero p = omega (arith, sum-le n 0 (λ i. 0) (λ i q. omega arith))
-energies-most n count lines ok (suc m) p =
-    let ih = energies-most n count lines ok m (omega arith) in
+energies-most : (n : ℕ) (lines : List ℕ) → OwnLines lines → (m : ℕ) → m ≤ lineCount lines →
+    sumBelow n (λ i. sumBelow m (ownPart lines (λ j. lineOf lines j .energy) i)) ≤ m * 10000000
+unfolding ownPart sumBelow
+energies-most n lines ok zero p = omega (arith, sum-le n 0 (λ i. 0) (λ i q. omega arith))
+energies-most n lines ok (suc m) p =
+    let ih = energies-most n lines ok m (omega arith) in
     omega (
       arith,
-      sum-add n (λ i. sumBelow m (λ j. cond (eqb (distributorOf lines j) i) (1 * energyOf lines j) 0)) (λ i. cond (eqb (distributorOf lines m) i) (1 * energyOf lines m) 0),
-      own-once n (1 * energyOf lines m) (distributorOf lines m),
+      sum-add n (λ i. sumBelow m (λ j. cond (eqb (lineOf lines j .distributor) i) (lineOf lines j .energy) 0)) (λ i. cond (eqb (lineOf lines m .distributor) i) (lineOf lines m .energy) 0),
+      own-once n (lineOf lines m .energy) (lineOf lines m .distributor),
       ok .checked .facts m (omega arith) .energyMost,
     )
 
-module _ (n : ℕ) (prices : List PesoPrice) (lines : List ℕ) (count : ℕ) (ok : AcceptedLines n prices lines count) where
+module _ (n : ℕ) (prices : List PesoPrice) (lines : List ℕ) (ok : AcceptedLines n prices lines) where
   abbrev price : ℕ → ℕ
   price j = getD prices j noPrice .0
 
-  -- amounts at the references lie between the energy at the least and at the greatest price
-  amount-least : (i : ℕ) → leastPrice * suppliedEnergy count lines i ≤ linesAmount price count lines i
-  unfolding suppliedEnergy linesAmount lineAmount
-  amount-least i =
-      rw (← sum-scale count leastPrice (lineAmount (λ j. 1) lines i))
-      (sum-le-sum count _ _
-      (λ j p. pick-le (eqb (distributorOf lines j) i) (1 * energyOf lines j) (price j * energyOf lines j) leastPrice
-      (omega (arith, mul-le-mul-right (energyOf lines j) (ok .least j p)))))
+  abbrev energyOf : ℕ → ℕ
+  energyOf j = lineOf lines j .energy
 
-  amount-most : (i : ℕ) → linesAmount price count lines i ≤ mostPrice * suppliedEnergy count lines i
-  unfolding suppliedEnergy linesAmount lineAmount
+  -- amounts at the references lie between the energy at the least and at the greatest price
+  amount-least : (i : ℕ) → leastPrice * suppliedEnergy lines i ≤ linesAmount price lines i
+  unfolding suppliedEnergy linesAmount ownSum ownPart
+  amount-least i =
+      rw (← sum-scale (lineCount lines) leastPrice (ownPart lines energyOf i))
+      (sum-le-sum (lineCount lines) _ _
+      (λ j p. pick-le (eqb (lineOf lines j .distributor) i) (energyOf j) (price j * energyOf j) leastPrice (mul-le-mul-right (energyOf j) (ok .least j p))))
+
+  amount-most : (i : ℕ) → linesAmount price lines i ≤ mostPrice * suppliedEnergy lines i
+  unfolding suppliedEnergy linesAmount ownSum ownPart
   amount-most i =
-      rw (← sum-scale count mostPrice (lineAmount (λ j. 1) lines i))
-      (sum-le-sum count _ _
-      (λ j p. pick-ge (eqb (distributorOf lines j) i) (1 * energyOf lines j) (price j * energyOf lines j) mostPrice
-      (omega (arith, mul-le-mul-right (energyOf lines j) (ok .priced .priced j p)))))
+      rw (← sum-scale (lineCount lines) mostPrice (ownPart lines energyOf i))
+      (sum-le-sum (lineCount lines) _ _
+      (λ j p. pick-ge (eqb (lineOf lines j .distributor) i) (energyOf j) (price j * energyOf j) mostPrice (mul-le-mul-right (energyOf j) (ok .priced .priced j p))))
 
   module _ (i : ℕ) (p : i < n) where
-    some : 1 ≤ suppliedEnergy count lines i
-    some = supplied-some n lines count (ok .priced .own) (ok .supplied) i p
+    some : 1 ≤ suppliedEnergy lines i
+    some = supplied-some n lines (ok .priced .own) (ok .supplied) i p
 
-    average-is : getD (averageList n prices count lines) i noPrice .0 ≡ averagePrice price count lines i
+    average-is : getD (averageList n prices lines) i noPrice .0 ≡ averagePrice price lines i
     unfolding averageList
-    average-is = ap (λ x. x .0) (filled-at 40 noPrice (λ k. record { 0 = averagePrice price count lines k }) n i p (omega (arith, ok .priced .own .few)))
+    average-is = ap (λ x. x .0) (filled-at mostDistributors noPrice (λ k. record { 0 = averagePrice price lines k }) n i p (omega (arith, ok .few)))
 
-    average-least : leastPrice ≤ averagePrice price count lines i
+    average-least : leastPrice ≤ averagePrice price lines i
     unfolding averagePrice
-    average-least = half-up-ge (linesAmount price count lines i) (suppliedEnergy count lines i) some leastPrice (amount-least i)
+    average-least = half-up-ge (linesAmount price lines i) (suppliedEnergy lines i) some leastPrice (amount-least i)
 
-    average-most : averagePrice price count lines i ≤ mostPrice
+    average-most : averagePrice price lines i ≤ mostPrice
     unfolding averagePrice
-    average-most = half-up-le (linesAmount price count lines i) (suppliedEnergy count lines i) some mostPrice (amount-most i)
+    average-most = half-up-le (linesAmount price lines i) (suppliedEnergy lines i) some mostPrice (amount-most i)
 
   -- the distributors that the limit is worked from are in its range
-  pub accepted-range : InRange (distributors n (averageList n prices count lines) (energyList n count lines))
-  unfolding totalEnergy suppliedEnergy
+  pub accepted-range : InRange (distributors n (averageList n prices lines) (energyList lines))
+  unfolding totalEnergy suppliedEnergy ownSum
   accepted-range =
-      let few = ok .priced .own .few in
-      let energy : (i : ℕ) → i < n → getD (energyList n count lines) i noEnergy .0 ≡ suppliedEnergy count lines i =
-      λ i p. energy-at n count lines i p few in
+      let energy : (i : ℕ) → i < n → getD (energyList lines) i noEnergy .0 ≡ suppliedEnergy lines i =
+      λ i p. energy-at lines i (omega (arith, ok .few)) in
       record {
         some = ok .some;
-        few = few;
+        few = ok .few;
         least = λ i p. omega (arith, average-is i p, average-least i p);
         most = λ i p. omega (arith, average-is i p, average-most i p);
         supplied = λ i p. omega (arith, energy i p, some i p);
         total =
             omega (
               arith,
-              sum-same n (λ i. getD (energyList n count lines) i noEnergy .0) (λ i. linesAmount (λ j. 1) count lines i) energy,
-              energies-most n count lines (ok .priced .own) count (omega arith),
-              ok .priced .own .checked .lent .few,
+              sum-same n (λ i. getD (energyList lines) i noEnergy .0) (suppliedEnergy lines) energy,
+              energies-most n lines (ok .priced .own) (lineCount lines) (omega arith),
+              ok .priced .own .checked .few,
             );
       }
 
   -- the same for lists that are told to be these
-  pub listed-range : (averages : List PesoPrice) (energies : List Energy) → averages ≡ averageList n prices count lines → energies ≡ energyList n count lines → InRange (distributors n averages energies)
+  pub listed-range : (averages : List PesoPrice) (energies : List Energy) → averages ≡ averageList n prices lines → energies ≡ energyList lines →
+      InRange (distributors n averages energies)
   listed-range averages energies e f = rw (e, f) accepted-range

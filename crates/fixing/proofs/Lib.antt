@@ -1,4 +1,3 @@
-mod SearchLaws
 mod PriceLaws
 mod RoundLaws
 mod GreatestLaws

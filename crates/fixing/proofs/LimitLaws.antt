@@ -14,12 +14,13 @@ use Rattle.numbers.specs.Bounded.{sumBelow}
 use Rattle.numbers.specs.Signed.{positivePart, signedSumBelow}
 use Rattle.numbers.proofs.SumLaws.{sum-same, sum-le, sum-ge, sum-le-sum, sum-part, sum-add, sum-scale}
 use Rattle.numbers.proofs.TestLaws.{any-none}
-use Rattle.numbers.proofs.FirstLaws.{first-is}
+use Rattle.numbers.proofs.FirstLaws.{first-is, first-never}
 use Rattle.numbers.proofs.RoundingLaws.{half-up-le, away-size}
 use Rattle.numbers.proofs.SignedLaws.{sub-ge, sub-cases, size-mul}
 use Rattle.fixing.specs.Limit.{Distributors, InRange, contractTotal, totalEnergy, limit, sumInside, sumOutside, roundSurcharge, aboveLimit, cappedAfter, joinsAfter, anyJoinsAfter, anyAbove, orZero, roundsBeforeLast, rounds, capped, surcharge, finalPrice, charge, collected, residue}
-use Rattle.fixing.specs.Charge.{pricesCollect, largestCharge, collectedAt, sectorCharge}
-use Rattle.fixing.proofs.SearchLaws.{any-where, any-some, any-adds, sum-lt, first-empty, Fails, first-fails}
+use Rattle.fixing.specs.Charge.{pricesCollect, largestCharge, collectedAt}
+use Rattle.fixing.specs.Sector.{sectorCharge}
+use Rattle.numbers.proofs.SearchLaws.{any-where, any-some, any-adds, sum-lt, Fails, first-fails}
 use Rattle.fixing.proofs.PriceLaws.{paidInside, energyInside, energyOutside, inside-outside, above-true, above-false, price-min, collectedBy, collected-by, collected-same}
 use Rattle.fixing.proofs.RoundLaws.{Before, inside-pays, round-outside, round-covers, round-least, round-below, round-short, round-rises, round-next}
 use Rattle.fixing.proofs.GreatestLaws.{greatest-at, greatest-le, charge-le, price-le, price-lt, part-le, signed-collect}
@@ -181,7 +182,7 @@ module _ (d : Distributors) (r : InRange d) where
   unfolding roundsBeforeLast
   last-is k f e =
       let stop : ℕ → Option ℕ = λ j. cond (anyJoinsAfter d j) none (some j) in
-      ap orZero (first-is stop k (d .count) k (joined-below k f) (first-empty stop k (λ j p. rw (f j p))) (rw e))
+      ap orZero (first-is stop k (d .count) k (joined-below k f) (first-never stop k (λ j p. rw (f j p))) (rw e))
 
   last : Fails (anyJoinsAfter d)
   last = first-fails (anyJoinsAfter d) (d .count) joined-below

@@ -6,21 +6,16 @@ use Prim.Native.Nat.{ℕ, suc, _+_, _-_, _*_, _≤_, _<_}
 use native.Mathlib.Numerals.{add-one}
 use native.Mathlib.Omega.{arith}
 use lib.Dec.{eqb}
-use lib.IntN.{natAbs}
 use borrow.Author.Tests.{eq-eqb, ne-eqb}
 use Rattle.numbers.specs.Rounding.{divideUp}
 use Rattle.numbers.specs.Units.{noPrice}
 use Rattle.numbers.proofs.BoolLaws.{by-last}
 use Rattle.fixing.specs.Limit.{Distributors, InRange, contractTotal, totalEnergy, limit, roundSurcharge, aboveLimit, cappedAfter, anyJoinsAfter, anyAbove, rounds, capped, surcharge}
+use Rattle.fixing.specs.Prices.{roundSums, lastRound}
 use Rattle.fixing.specs.declared.prices.RoundSums.{RoundSums}
-use Rattle.fixing.specs.declared.prices.LastRound.{LastRound}
 use Rattle.fixing.proofs.PriceLaws.{inside-outside}
-use Rattle.fixing.proofs.PassLaws.{total-fits, roundSums, sums-same}
+use Rattle.fixing.proofs.PassLaws.{total-fits, sums-same}
 use Rattle.fixing.proofs.LimitLaws.{surchargeBefore, outside-some, capped-above, round-most, inside-over, above-energy, joins-energy, joined-below, last-is}
-
--- what the rounds answer
-abbrev pub lastRound : Distributors → LastRound
-lastRound d = record { surcharge = record { 0 = surcharge d }; rounds = rounds d }
 
 -- what is known before a round of the code: `made` rounds were made, and somebody joined in each
 pub record Round (d : Distributors) (top : ℕ) (sums : RoundSums) (made : ℕ) : Type 0 where
@@ -58,10 +53,10 @@ module _ {d : Distributors} {top : ℕ} {sums : RoundSums} {made : ℕ} (at : Ro
   made-few = joined-below d (at .range) made (at .joined)
 
   -- the sums of the round
-  pub pays-more : top * sums .inside .0 ≤ natAbs (sums .paid .0)
+  pub pays-more : top * sums .inside .0 ≤ sums .paid .0
   pays-more = rw (at .summed, at .topped) (omega (arith, inside-over d (at .range) (at .above) made))
 
-  pub pays-most : natAbs (sums .paid .0) ≤ 5120000000000000
+  pub pays-most : sums .paid .0 ≤ 5120000000000000
   unfolding contractTotal
   pays-most =
       rw (at .summed)
@@ -76,7 +71,7 @@ module _ {d : Distributors} {top : ℕ} {sums : RoundSums} {made : ℕ} (at : Ro
       rw (at .summed) (omega (arith, inside-outside d (cappedAfter d made) (d .energy), at .range .total))
 
   -- the surcharge of the round
-  module _ {raise : ℕ} (worked : raise ≡ divideUp (natAbs (sums .paid .0) - top * sums .inside .0) (sums .outside .0)) where
+  module _ {raise : ℕ} (worked : raise ≡ divideUp (sums .paid .0 - top * sums .inside .0) (sums .outside .0)) where
     raise-is : raise ≡ roundSurcharge d (cappedAfter d made)
     unfolding roundSurcharge
     raise-is = worked ∙ rw (at .summed, at .topped)

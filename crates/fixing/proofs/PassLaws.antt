@@ -1,17 +1,15 @@
 -- What a pass of the code over the distributors keeps: its sums stay small, and a round's three sums grow by one
 -- distributor. Assumes nothing.
-use mathlib.Core.Path.{_≡_, refl, _∙_}
+use mathlib.Core.Path.{_≡_, refl}
 use mathlib.Core.Bool.{Bool, cond}
 use Prim.Native.Nat.{ℕ, _+_, _*_, _≤_, _<_}
 use native.Mathlib.Omega.{arith}
 use lib.Dec.{ltb}
-use lib.IntN.{ℤ, pos, subℕ}
 use Rattle.numbers.specs.Bounded.{sumBelow}
 use Rattle.numbers.proofs.SumLaws.{sum-step, sum-same}
-use Rattle.numbers.proofs.SignedLaws.{pos-sub-zero}
 use Rattle.fixing.specs.Limit.{Distributors, InRange, contractTotal, totalEnergy, limit, sumInside, sumOutside, aboveLimit}
-use Rattle.fixing.specs.declared.prices.RoundSums.{RoundSums}
-use Rattle.fixing.proofs.SearchLaws.{sum-next}
+use Rattle.fixing.specs.Prices.{roundSums}
+use Rattle.numbers.proofs.SearchLaws.{sum-next}
 use Rattle.fixing.proofs.PriceLaws.{inside-outside}
 use Rattle.fixing.proofs.LimitLaws.{total-most}
 
@@ -58,15 +56,7 @@ module _ (set : ℕ → Bool) where
         omega
         (arith, sums .holds, sums .leaves, sides (d .energy) k, sum-next k (d .count) (d .energy) below, r .total)
 
--- the sums of a round by its set: two sets that agree on the distributors have the same
-abbrev pub roundSums : Distributors → (ℕ → Bool) → RoundSums
-roundSums d set =
-    record {
-      paid = record { 0 = pos (sumInside d set (λ i. d .average i * d .energy i)) };
-      inside = record { 0 = sumInside d set (d .energy) };
-      outside = record { 0 = sumOutside d set (d .energy) };
-    }
-
+-- two sets that agree on the distributors have the same sums
 pub sums-same : (d : Distributors) (set other : ℕ → Bool) → ((i : ℕ) → i < d .count → set i ≡ other i) → roundSums d set ≡ roundSums d other
 unfolding sumInside sumOutside
 sums-same d set other told =
@@ -75,14 +65,9 @@ sums-same d set other told =
     part : (f : ℕ → Bool → ℕ) → sumBelow (d .count) (λ i. f i (set i)) ≡ sumBelow (d .count) (λ i. f i (other i))
     part f = sum-same (d .count) _ _ (λ i p. rw (told i p))
 
--- all distributors passed: what the set pays fits
-pub sums-fit : (d : Distributors) → InRange d → (set : ℕ → Bool) (paid inside outside : ℕ) → Sums set (d .average) (d .energy) (d .count) paid inside outside → paid ≤ 5120000000000000
-unfolding contractTotal
-sums-fit d r set paid inside outside sums =
-    omega (arith, sums .pays, sides set (λ j. d .average j * d .energy j) (d .count), total-fits d r)
-
 -- all distributors passed: the sums of the round whose set `raise` tells
-pub sums-all : (d : Distributors) (top raise paid inside outside : ℕ) (money : ℤ) → top ≡ limit d → Sums (λ j. ltb top (d .average j + raise)) (d .average) (d .energy) (d .count) paid inside outside → money ≡ subℕ paid 0 → record { paid = record { 0 = money }; inside = record { 0 = inside }; outside = record { 0 = outside } } ≡ roundSums d (aboveLimit d raise)
+pub sums-all : (d : Distributors) (top raise paid inside outside : ℕ) → top ≡ limit d →
+    Sums (λ j. ltb top (d .average j + raise)) (d .average) (d .energy) (d .count) paid inside outside →
+    record { paid = record { 0 = paid }; inside = record { 0 = inside }; outside = record { 0 = outside } } ≡ roundSums d (aboveLimit d raise)
 unfolding sumInside sumOutside aboveLimit
-sums-all d top raise paid inside outside money e sums m =
-    rw (m ∙ pos-sub-zero paid, sums .pays, sums .holds, sums .leaves, e)
+sums-all d top raise paid inside outside e sums = rw (sums .pays, sums .holds, sums .leaves, e)

@@ -14,7 +14,7 @@ use Rattle.numbers.specs.Sizes.{sectorCount}
 use Rattle.numbers.proofs.BoolLaws.{and-left}
 use Rattle.numbers.proofs.TestLaws.{all-at}
 use Rattle.numbers.proofs.ListLaws.{filled-none, filled-more, filled-same}
-use Rattle.fixing.specs.Charge.{sectorCharge}
+use Rattle.fixing.specs.Sector.{sectorCharge}
 use Rattle.fixing.specs.Sector.{mostFactor, factorAt, sectorPresent, hasSector, sectorsAllowed, chargedPlaces, sectorCharges, noCharges}
 use Rattle.fixing.specs.declared.sector.SectorCharges.{SectorCharges}
 

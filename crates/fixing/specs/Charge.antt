@@ -1,10 +1,9 @@
--- What document 01 says of lists of prices beside the final ones, for demand 3; and the charge of a sector.
+-- What document 01 says of lists of prices beside the final ones, for demand 3.
 -- Assumes nothing.
 use mathlib.Core.Bool.{cond}
 use Prim.Native.Nat.{ℕ, zero, suc, _+_, _-_, _*_, min}
 use lib.IntN.{ℤ, pos, _-ℤ_, _*ℤ_}
 use lib.Signed.{leZ}
-use Rattle.numbers.specs.Rounding.{halfAway}
 use Rattle.numbers.specs.Signed.{signedSumBelow}
 use Rattle.numbers.specs.Bounded.{sumBelow}
 use Rattle.fixing.specs.Limit.{Distributors, limit}
@@ -29,7 +28,3 @@ largestCharge d price = greatestUpTo (d .count - 1) (λ i. price i -ℤ pos (d .
 -- what the prices collect that raise every average by s, but to the limit at most
 unfoldable pub collectedAt : Distributors → ℕ → ℕ
 collectedAt d s = sumBelow (d .count) (λ i. min (limit d) (d .average i + s) * d .energy i)
-
--- "Sector charge = charge * factor / 10,000, half away"
-unfoldable pub sectorCharge : ℤ → ℕ → ℤ
-sectorCharge charge factor = halfAway (charge *ℤ pos factor) 10000

@@ -5,18 +5,18 @@ use mathlib.Core.List.{List}
 use Prim.Native.Nat.{ℕ}
 use lib.IntN.{pos}
 use Rattle.numbers.specs.Bounded.{filledBelow}
-use Rattle.numbers.specs.Checks.{verdictOf, Judged}
+use Rattle.numbers.specs.Checks.{Judged}
 use Rattle.numbers.specs.declared.refusal.Refusal.{Refusal}
 use Rattle.numbers.specs.declared.refusal.Verdict.{Verdict}
 use Rattle.numbers.specs.declared.refusal.Verdict.the-variants.{Passed, Refused}
-use Rattle.numbers.specs.Units.{noPrice, noMoney}
+use Rattle.numbers.specs.Units.{noPrice, noTotal}
 use Rattle.numbers.specs.Sizes.{mostDistributors}
 use Rattle.numbers.specs.declared.units.PesoPrice.{PesoPrice}
 use Rattle.numbers.specs.declared.units.Energy.{Energy}
 use Rattle.fixing.specs.Limit.{charge}
 use Rattle.fixing.specs.Prices.{distributors, fixedPrices, chargeList}
 use Rattle.fixing.specs.Sector.{sectorCharges, noCharges}
-use Rattle.fixing.specs.Input.{FixingInput, tableChecks, inputChecks, inputVerdict, inputAverages, inputEnergies}
+use Rattle.fixing.specs.Input.{FixingInput, inputChecks, inputVerdict, inputAverages, inputEnergies}
 use Rattle.fixing.specs.declared.prices.FixedPrices.{FixedPrices}
 use Rattle.fixing.specs.declared.fix.Fixing.{Fixing}
 
@@ -26,7 +26,7 @@ noPrices =
       limit = noPrice;
       surcharge = noPrice;
       rounds = 0;
-      residue = noMoney;
+      residue = noTotal;
       finals = filledBelow mostDistributors noPrice 0 (λ i. noPrice);
     }
 
@@ -57,11 +57,7 @@ fixingBy (Refused refusal) worked = refusedFixing refusal
 
 -- what the input of a fixing comes to where it passes
 unfoldable pub workedFixing : ℕ → FixingInput → Fixing
-workedFixing n input = acceptedFixing n (inputAverages n input) (inputEnergies n input) (input .sectors)
-
--- the fixing of input that passed causes 6 to 9
-unfoldable pub pricedFixing : ℕ → FixingInput → Fixing
-pricedFixing n input = fixingBy (verdictOf (tableChecks input)) (workedFixing n input)
+workedFixing n input = acceptedFixing n (inputAverages n input) (inputEnergies input) (input .sectors)
 
 unfoldable pub fixingOf : ℕ → FixingInput → Fixing
 fixingOf n input = fixingBy (inputVerdict n input) (workedFixing n input)

@@ -5,3 +5,4 @@ pub mod Average
 pub mod Sector
 pub mod Input
 pub mod Fixing
+pub mod Required

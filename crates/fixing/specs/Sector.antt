@@ -1,16 +1,14 @@
 -- Sector factors of document 01: "8n words, 0 (sector absent) or 1 to 50,000 ten-thousandths; each distributor has a
 -- sector". Assumes nothing.
 use mathlib.Core.Bool.{Bool, false, not, _&&_}
-use mathlib.Core.Path.{_≡_}
 use mathlib.Core.List.{List, []}
-use Prim.Native.Nat.{ℕ, _+_, _*_, _/_, _≤_, _<_}
+use Prim.Native.Nat.{ℕ, _+_, _*_, _/_}
 use lib.Dec.{leb, eqb}
-use lib.ListN.{getD, length}
-use lib.IntN.{ℤ, pos, natAbs}
+use lib.ListN.{getD}
+use lib.IntN.{ℤ, pos, _*ℤ_}
 use Rattle.numbers.specs.Bounded.{allBelow, anyBelow, filledBelow}
-use Rattle.numbers.specs.Units.{mostPrice}
-use Rattle.numbers.specs.Sizes.{mostDistributors, sectorCount, sectorPlaces}
-use Rattle.fixing.specs.Charge.{sectorCharge}
+use Rattle.numbers.specs.Sizes.{sectorCount, sectorPlaces}
+use Rattle.numbers.specs.Rounding.{halfAway}
 use Rattle.fixing.specs.declared.sector.SectorCharges.{SectorCharges}
 
 abbrev pub mostFactor : ℕ
@@ -33,6 +31,10 @@ unfoldable pub sectorsAllowed : ℕ → List ℕ → Bool
 sectorsAllowed n sectors =
     allBelow (n * sectorCount) (λ k. leb (factorAt sectors k) mostFactor) && allBelow n (hasSector sectors)
 
+-- "Sector charge = charge * factor / 10,000, half away"
+unfoldable pub sectorCharge : ℤ → ℕ → ℤ
+sectorCharge charge factor = halfAway (charge *ℤ pos factor) 10000
+
 -- presence and charge of the first k places, the charge of each distributor being given; the places past them are
 -- empty
 unfoldable pub chargedPlaces : ℕ → (ℕ → ℤ) → List ℕ → SectorCharges
@@ -49,10 +51,3 @@ sectorCharges n charge sectors = chargedPlaces (n * sectorCount) charge sectors
 -- nothing in force
 unfoldable pub noCharges : SectorCharges
 noCharges = chargedPlaces 0 (λ i. pos 0) []
-
--- what the charges of sectors are worked from: checked factors, and charges of at most 2,000,000 in size
-pub record ChargedSectors (n : ℕ) (charges : List ℤ) (sectors : List ℕ) : Type 0 where
-  pub few : n ≤ mostDistributors
-  pub lent : length sectors ≡ n * sectorCount
-  pub factors : (k : ℕ) → k < n * sectorCount → factorAt sectors k ≤ mostFactor
-  pub charge : (i : ℕ) → i < n → natAbs (getD charges i (pos 0)) ≤ mostPrice

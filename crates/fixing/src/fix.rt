@@ -4,13 +4,14 @@ ghost use mathlib.Core.Bool.{true};
 ghost use Prim.Native.Nat.{_*_};
 ghost use lib.ListN.{length};
 ghost use Rattle.numbers.specs.Sizes.{sectorCount};
-ghost use Rattle.fixing.specs.Average.{AcceptedLines, averageList, energyList};
+ghost use Rattle.fixing.specs.Average.{averageList, energyList};
 ghost use Rattle.fixing.specs.Sector.{sectorsAllowed};
-ghost use Rattle.fixing.specs.Input.{RightLengths, CheckedInput, inputOf, inputEnergies};
-ghost use Rattle.fixing.specs.Fixing.{refusedFixing, acceptedFixing, pricedFixing, InputPromise};
+ghost use Rattle.fixing.specs.Input.{inputOf};
+ghost use Rattle.fixing.specs.Fixing.{refusedFixing, acceptedFixing, InputPromise};
+ghost use Rattle.fixing.specs.Required.{AcceptedLines, RightLengths};
 use crate::average::averages;
 use crate::average::energies;
-use crate::average::everyone_supplied;
+use crate::average::every_energy;
 use crate::prices::FixedPrices;
 use crate::prices::charges;
 use crate::prices::fix_prices;
@@ -22,23 +23,24 @@ use crate::sector::sector_charges;
 use crate::sector::sectors_allowed;
 use numbers::refusal::Refusal;
 use numbers::refusal::Verdict;
+use numbers::sizes::MOST_DISTRIBUTORS;
 use numbers::units::Energy;
 use numbers::units::PesoPrice;
-use numbers::units::Pesos;
+use numbers::units::UnsignedPesos;
 use series::table::fill;
 use series::table::values_in_range;
-use supply::line;
-use supply::months::search_months;
-use supply::price::reference_prices;
+use supply::line::MOST_LINES;
+use supply::market::FixingNumbers;
+use supply::price::price_lines;
 use supply::range::input_in_range;
 
 // What a fixing comes to: where the verdict is not Passed, all else is empty.
 pub struct Fixing {
     pub verdict: Verdict,
-    pub averages: [PesoPrice; 40],
+    pub averages: [PesoPrice; MOST_DISTRIBUTORS],
     pub prices: FixedPrices,
     // Final price less average, signed, in 0.001 $/kWh.
-    pub charges: [i64; 40],
+    pub charges: [i64; MOST_DISTRIBUTORS],
     pub sectors: SectorCharges,
 }
 
@@ -51,7 +53,7 @@ fn refused(refusal: Refusal) -> Fixing
         limit: PesoPrice(0),
         surcharge: PesoPrice(0),
         rounds: 0,
-        residue: Pesos(0),
+        residue: UnsignedPesos(0),
         finals: none,
     };
     let charges = no_charge_list();
@@ -68,16 +70,17 @@ fn refused(refusal: Refusal) -> Fixing
 // An accepted fixing: the prices of lines that passed every check.
 fn accepted(
     n: usize,
-    references: [PesoPrice; 256],
+    references: [PesoPrice; MOST_LINES],
     lines: &[u64],
-    count: usize,
-    energies: [Energy; 40],
+    energies: [Energy; MOST_DISTRIBUTORS],
     sectors: &[u64],
 ) -> Fixing
-    requires { ⌜ AcceptedLines n references (now lines) count ⌝ ∗ ⌜ energies ≡ energyList n count (now lines) ⌝ ∗ ⌜ length (now sectors) ≡ n * sectorCount ⌝ ∗ ⌜ sectorsAllowed n (now sectors) ≡ true ⌝ }
-    ensures { λ r. ⌜ r ≡ acceptedFixing n (averageList n references count (now (lines .entry))) (energyList n count (now (lines .entry))) (now (sectors .entry)) ⌝ }
+    requires { ⌜ AcceptedLines n references (now lines) ⌝ ∗ ⌜ energies ≡ energyList (now lines) ⌝
+        ∗ ⌜ length (now sectors) ≡ n * sectorCount ⌝ ∗ ⌜ sectorsAllowed n (now sectors) ≡ true ⌝ }
+    ensures { λ r. ⌜ r ≡ acceptedFixing n (averageList n references (now (lines .entry)))
+        (energyList (now (lines .entry))) (now (sectors .entry)) ⌝ }
 {
-    let averages = averages(n, references, lines, count, energies);
+    let averages = averages(n, references, lines, energies);
     let prices = fix_prices(n, averages, energies);
     let finals = prices.finals;
     let charges = charges(n, averages, finals);
@@ -91,53 +94,18 @@ fn accepted(
     }
 }
 
-// The fixing of input that passed causes 6 to 9: a missing month, a price out of bounds, or the prices.
-fn price_lines(
-    n: usize,
-    month: u64,
-    dollar: u64,
-    factor: u64,
-    first: u64,
-    series: &[u64],
-    lines: &[u64],
-    sectors: &[u64],
-    energies: [Energy; 40],
-) -> Fixing
-    requires { ⌜ CheckedInput n (inputOf month dollar factor first (now series) (now lines) (now sectors)) ⌝ ∗ ⌜ energies ≡ inputEnergies n (inputOf month dollar factor first (now series) (now lines) (now sectors)) ⌝ }
-    ensures { λ r. ⌜ r ≡ pricedFixing n (inputOf month dollar factor first (now (series .entry)) (now (lines .entry)) (now (sectors .entry))) ⌝ }
-{
-    let count = lines.len() / line::LINE_WORDS;
-    let table = fill(series);
-    match search_months(table, first, month, lines, count) {
-        Verdict::Refused(refusal) => refused(refusal),
-        Verdict::Passed => {
-            let references = reference_prices(table, first, month, dollar, factor, lines, count);
-            let prices = references.prices;
-            let verdict = references.verdict;
-            match verdict {
-                Verdict::Refused(refusal) => refused(refusal),
-                Verdict::Passed => accepted(n, prices, lines, count, energies, sectors),
-            }
-        }
-    }
-}
-
 // The fixing of input of right lengths, each check over the whole input before the next.
 pub fn fix_input(
     n: usize,
-    month: u64,
-    dollar: u64,
-    factor: u64,
-    first: u64,
+    numbers: FixingNumbers,
     series: &[u64],
     lines: &[u64],
     sectors: &[u64],
 ) -> Fixing
-    requires { ⌜ RightLengths n (inputOf month dollar factor first (now series) (now lines) (now sectors)) ⌝ }
-    ensures { λ r. ⌜ InputPromise n (inputOf month dollar factor first (now (series .entry)) (now (lines .entry)) (now (sectors .entry))) r ⌝ }
+    requires { ⌜ RightLengths n (inputOf numbers (now series) (now lines) (now sectors)) ⌝ }
+    ensures { λ r. ⌜ InputPromise n (inputOf numbers (now (series .entry)) (now (lines .entry)) (now (sectors .entry))) r ⌝ }
 {
-    let count = lines.len() / line::LINE_WORDS;
-    if !input_in_range(n as u64, dollar, factor, first, count, lines) {
+    if !input_in_range(n, numbers, lines) {
         return refused(Refusal::OutOfRange);
     }
     if !values_in_range(series) {
@@ -146,19 +114,15 @@ pub fn fix_input(
     if !sectors_allowed(n, sectors) {
         return refused(Refusal::WrongSector);
     }
-    let energies = energies(n, lines, count);
-    if !everyone_supplied(n, lines, count, energies) {
+    let energies = energies(lines);
+    if !every_energy(n, energies) {
         return refused(Refusal::NoLine);
     }
-    price_lines(
-        n,
-        month,
-        dollar,
-        factor,
-        first,
-        series,
-        lines,
-        sectors,
-        energies,
-    )
+    let references = price_lines(fill(series), numbers, lines);
+    let verdict = references.verdict;
+    if let Verdict::Refused(refusal) = verdict {
+        return refused(refusal);
+    }
+    let prices = references.prices;
+    accepted(n, prices, lines, energies, sectors)
 }

@@ -6,24 +6,28 @@ ghost use lib.Dec.{leb};
 ghost use lib.ListN.{length, getD};
 ghost use lib.IntN.{pos, natAbs};
 ghost use Rattle.numbers.specs.Bounded.{allBelow};
-ghost use Rattle.numbers.specs.Sizes.{sectorCount};
-ghost use Rattle.fixing.specs.Charge.{sectorCharge};
-ghost use Rattle.fixing.specs.Sector.{mostFactor, factorAt, hasSector, sectorsAllowed, sectorCharges, noCharges, ChargedSectors};
+ghost use Rattle.numbers.specs.Sizes.{mostDistributors, sectorCount};
+ghost use Rattle.numbers.specs.Units.{mostPrice};
+ghost use Rattle.fixing.specs.Sector.{mostFactor, factorAt, hasSector, sectorsAllowed};
+ghost use Rattle.fixing.specs.Sector.{sectorCharge, sectorCharges, noCharges};
+ghost use Rattle.fixing.specs.Required.{ChargedSectors};
 use numbers::rounding::half_away;
 use numbers::signed::difference;
+use numbers::sizes::MOST_DISTRIBUTORS;
+use numbers::sizes::PLACES;
 use numbers::sizes::SECTORS;
 
 // Presence and charge of 8 sectors of 40 distributors: what a fixing puts in force, without its month.
 pub struct SectorCharges {
-    pub present: [bool; 320],
-    pub charges: [i64; 320],
+    pub present: [bool; PLACES],
+    pub charges: [i64; PLACES],
 }
 
 const MOST_FACTOR: u64 = 50000;
 
 // Whether no factor is too large.
 fn factors_allowed(n: usize, sectors: &[u64]) -> bool
-    requires { ⌜ n ≤ 40 ⌝ ∗ ⌜ length (now sectors) ≡ n * sectorCount ⌝ }
+    requires { ⌜ n ≤ mostDistributors ⌝ ∗ ⌜ length (now sectors) ≡ n * sectorCount ⌝ }
     ensures { λ r. ⌜ r ≡ allBelow (n * sectorCount) (λ k. leb (factorAt (now (sectors .entry)) k) mostFactor) ⌝ }
 {
     let mut k: usize = 0;
@@ -38,7 +42,7 @@ fn factors_allowed(n: usize, sectors: &[u64]) -> bool
 
 // Whether distributor i has a sector.
 fn has_sector(n: usize, sectors: &[u64], i: usize) -> bool
-    requires { ⌜ n ≤ 40 ⌝ ∗ ⌜ length (now sectors) ≡ n * sectorCount ⌝ ∗ ⌜ i < n ⌝ }
+    requires { ⌜ n ≤ mostDistributors ⌝ ∗ ⌜ length (now sectors) ≡ n * sectorCount ⌝ ∗ ⌜ i < n ⌝ }
     ensures { λ r. ⌜ r ≡ hasSector (now (sectors .entry)) i ⌝ }
 {
     let mut s: usize = 0;
@@ -53,7 +57,7 @@ fn has_sector(n: usize, sectors: &[u64], i: usize) -> bool
 
 // Whether every distributor has a sector.
 fn all_have_sectors(n: usize, sectors: &[u64]) -> bool
-    requires { ⌜ n ≤ 40 ⌝ ∗ ⌜ length (now sectors) ≡ n * sectorCount ⌝ }
+    requires { ⌜ n ≤ mostDistributors ⌝ ∗ ⌜ length (now sectors) ≡ n * sectorCount ⌝ }
     ensures { λ r. ⌜ r ≡ allBelow n (hasSector (now (sectors .entry))) ⌝ }
 {
     let mut i: usize = 0;
@@ -68,7 +72,7 @@ fn all_have_sectors(n: usize, sectors: &[u64]) -> bool
 
 // Whether no sector factor is too large and every distributor has a sector.
 pub(crate) fn sectors_allowed(n: usize, sectors: &[u64]) -> bool
-    requires { ⌜ n ≤ 40 ⌝ ∗ ⌜ length (now sectors) ≡ n * sectorCount ⌝ }
+    requires { ⌜ n ≤ mostDistributors ⌝ ∗ ⌜ length (now sectors) ≡ n * sectorCount ⌝ }
     ensures { λ r. ⌜ r ≡ sectorsAllowed n (now (sectors .entry)) ⌝ }
 {
     factors_allowed(n, sectors) && all_have_sectors(n, sectors)
@@ -76,7 +80,7 @@ pub(crate) fn sectors_allowed(n: usize, sectors: &[u64]) -> bool
 
 // The charge of a sector: the distributor's charge times the factor, in ten-thousandths.
 fn sector_charge(charge: i64, factor: u64) -> i64
-    requires { ⌜ natAbs charge ≤ 2000000 ⌝ ∗ ⌜ factor ≤ mostFactor ⌝ }
+    requires { ⌜ natAbs charge ≤ mostPrice ⌝ ∗ ⌜ factor ≤ mostFactor ⌝ }
     ensures { λ r. ⌜ r ≡ sectorCharge charge factor ⌝ }
 {
     half_away(charge * difference(factor, 0), 10000)
@@ -87,13 +91,13 @@ pub fn no_charges() -> SectorCharges
     ensures { λ r. ⌜ r ≡ noCharges ⌝ }
 {
     SectorCharges {
-        present: [false; 320],
-        charges: [0i64; 320],
+        present: [false; PLACES],
+        charges: [0i64; PLACES],
     }
 }
 
 // Presences and charges of the sectors of n distributors, from their charges.
-pub(crate) fn sector_charges(n: usize, charges: [i64; 40], sectors: &[u64]) -> SectorCharges
+pub(crate) fn sector_charges(n: usize, charges: [i64; MOST_DISTRIBUTORS], sectors: &[u64]) -> SectorCharges
     requires { ⌜ ChargedSectors n charges (now sectors) ⌝ }
     ensures { λ r. ⌜ r ≡ sectorCharges n (λ i. getD charges i (pos 0)) (now (sectors .entry)) ⌝ }
 {

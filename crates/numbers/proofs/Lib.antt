@@ -8,3 +8,4 @@ pub mod RoundingLaws
 pub mod SignedLaws
 pub mod UnitLaws
 mod Digits
+pub mod SearchLaws

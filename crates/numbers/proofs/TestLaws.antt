@@ -1,5 +1,5 @@
 -- Laws of the tests of all and of any index below a bound. Assumes nothing.
-use mathlib.Core.Path.{_≡_, refl, sym}
+use mathlib.Core.Path.{_≡_, refl, sym, ap₂}
 use mathlib.Core.Bool.{Bool, true, false, _&&_, _||_, and-false}
 use Prim.Native.Nat.{ℕ, zero, suc, _+_, _<_, _≤_}
 use native.Mathlib.Numerals.{add-one}
@@ -24,6 +24,12 @@ pub all-of : (k : ℕ) (t : ℕ → Bool) → ((j : ℕ) → j < k → t j ≡ t
 unfolding allBelow
 all-of zero t h = refl
 all-of (suc k) t h = rw (all-of k t (λ j p. h j (omega arith)), h k (omega arith))
+
+-- the same tests
+pub all-same : (k : ℕ) (s t : ℕ → Bool) → ((j : ℕ) → j < k → s j ≡ t j) → allBelow k s ≡ allBelow k t
+unfolding allBelow
+all-same zero s t h = refl
+all-same (suc k) s t h = ap₂ _&&_ (all-same k s t (λ j p. h j (omega arith))) (h k (omega arith))
 
 pub all-fails : (k : ℕ) (t : ℕ → Bool) (j : ℕ) → j < k → t j ≡ false → allBelow k t ≡ false
 unfolding allBelow

@@ -1,6 +1,6 @@
 -- What the references of the lines come to: by the first check, by the second, and with the number and values of their
 -- checks. Assumes nothing.
-use mathlib.Core.Path.{_≡_, refl, _∙_, ap}
+use mathlib.Core.Path.{_≡_, refl, sym, _∙_, ap}
 use mathlib.Core.List.{List, [], _∷_}
 use mathlib.Core.Option.{none}
 use Prim.Native.Nat.{ℕ}
@@ -9,14 +9,14 @@ use Rattle.numbers.specs.declared.refusal.Refusal.{Refusal}
 use Rattle.numbers.specs.declared.refusal.Verdict.{Verdict}
 use Rattle.numbers.specs.declared.refusal.Verdict.the-variants.{Passed, Refused}
 use Rattle.numbers.specs.declared.units.PesoPrice.{PesoPrice}
-use Rattle.numbers.proofs.CheckLaws.{FirstPass, AllTold, refused-first, passed-alone, verdict-from, judged}
+use Rattle.numbers.proofs.CheckLaws.{FirstPass, AllTold, refused-first, passed-alone, all-passed, verdict-from, judged}
 use Rattle.supply.specs.Months.{lacksMonth, firstMissing, monthCheck}
-use Rattle.supply.specs.Price.{termMean, boundsCheck, referenceList, refusedReferences, referencesBy, boundedReferences}
+use Rattle.supply.specs.Price.{termMean, firstBeyond, boundsCheck, referenceList, refusedReferences, referencesBy, boundedReferences}
 use Rattle.supply.specs.Price.{tableChecks, linesReferences, ReferencesPromise}
 use Rattle.supply.specs.declared.market.FixingNumbers.{FixingNumbers}
 use Rattle.supply.specs.declared.price.References.{References}
 use Rattle.supply.proofs.MonthLaws.{month-told, months-passed}
-use Rattle.supply.proofs.PriceLaws.{bounds-told}
+use Rattle.supply.proofs.PriceLaws.{bounds-told, bounds-passed}
 
 by-verdict : (verdict : Verdict) (prices : List PesoPrice) → referencesBy verdict prices .verdict ≡ verdict
 unfolding refusedReferences
@@ -54,3 +54,14 @@ module _ (table : List (List ℕ)) (numbers : FixingNumbers) (lines : List ℕ) 
     months-bounded =
         ap (λ v. referencesBy v (referenceList (termMean table numbers) numbers lines))
         (verdict-from 1 (tableChecks table numbers lines) (passed-alone (monthCheck (lacksMonth table numbers) lines) h, tt))
+
+  -- where every check is passed: no line is out of bounds, and the list has every line's reference
+  pub passed-bounds : verdictOf (tableChecks table numbers lines) ≡ Passed → firstBeyond (termMean table numbers) numbers lines ≡ none
+  unfolding tableChecks FirstPass
+  passed-bounds h = bounds-passed (termMean table numbers) numbers lines (all-passed (tableChecks table numbers lines) h .1 .0)
+
+  pub passed-prices : (given : References) → ReferencesPromise table numbers lines given → given .verdict ≡ Passed →
+      given .prices ≡ referenceList (termMean table numbers) numbers lines
+  unfolding linesReferences
+  passed-prices given promise v =
+      ap (λ r. r .prices) (promise .worked ∙ ap (λ x. referencesBy x (referenceList (termMean table numbers) numbers lines)) (sym (promise .judged .answered) ∙ v))

@@ -1,54 +1,92 @@
--- What the lines add up to at a price of 1 is the energy.
-use mathlib.Core.Path.{_≡_, _∙_, ap}
-use mathlib.Core.List.{List}
-use Prim.Native.Nat.{ℕ, _<_}
-use lib.ListN.{getD}
-use lib.IntN.{natAbs}
-use Rattle.numbers.specs.Units.{noPrice, noEnergy, noMoney}
-use Rattle.numbers.specs.declared.units.Energy.{Energy}
-use Rattle.numbers.specs.declared.units.PesoPrice.{PesoPrice}
-use Rattle.numbers.specs.declared.units.Pesos.{Pesos}
-use Rattle.numbers.proofs.ListLaws.{filled-same, list-at}
-use Rattle.fixing.specs.Average.{linesAmount, suppliedEnergy, energyList}
-use Rattle.fixing.proofs.AverageLaws.{ones-priced, ones-add, energy-most}
+-- The invariant: each place holds what the lines passed add up to for its distributor.
+use mathlib.Core.Path.{_≡_, refl, ap}
+use Prim.Native.Nat.{_-_, _≤_, _<_}
+use native.Mathlib.Omega.{arith}
 use borrow.Author.Needs.{needs}
+use Rattle.numbers.specs.Sizes.{mostDistributors}
+use Rattle.supply.specs.Line.{lineCount, lineOf}
+use Rattle.fixing.specs.Average.{suppliedEnergy, energyList}
+use Rattle.fixing.proofs.AverageLaws.{EnergiesHeld, asEnergy, energyOf, held-none, held-more, held-done, parts-most}
 use Rattle.fixing.proofs.average.energies.Statement.{statement}
 use Rattle.fixing.proofs.average.energies.Tie as tie
-use native.Mathlib.Omega.{arith}
 
--- what the lines of distributor i come to at a price of 1
-amount : (c : tie.After-add-up) (i : ℕ) → i < 40 → natAbs (getD (c .add-up .result) i noMoney .0) ≡ suppliedEnergy (c .before .before .before .args .count) (c .before .before .before .args .lines .now) i
-amount c i p =
+abbrev Inv-loop : tie.InvT-loop
+Inv-loop lines count energies₀ j₀ energies j = (j ≤ lineCount lines) × EnergiesHeld lines j energies
+
+abbrev μ-loop : tie.MeasureT-loop
+μ-loop lines count energies₀ j₀ energies j = count - j
+
+module _ (c : tie.After-line-at Inv-loop μ-loop) where
+  abbrev l : tie.At-loop Inv-loop μ-loop
+  l = c .before .before
+
+  abbrev s : tie.Start Inv-loop μ-loop
+  s = l .before .before .before .before
+
+  below : l .loop .j < lineCount (s .args .lines .now)
+  below = omega (arith, l .before .before .line-count .ensures)
+
+  -- the line's words
+  own : c .line-at .result .distributor ≡ lineOf (s .args .lines .now) (l .loop .j) .distributor
+  own = ap (λ line. line .distributor) (c .line-at .ensures)
+
+  placed : c .line-at .result .distributor < mostDistributors
+  placed = rw own (s .pre .distributor (l .loop .j) below)
+
+  added : c .line-at .result .energy ≡ energyOf (s .args .lines .now) (l .loop .j)
+  added = ap (λ line. line .energy) (c .line-at .ensures)
+
+loop-holds : tie.Need-loop-holds Inv-loop μ-loop
+loop-holds c =
     let s = c .before .before .before in
-    ap (λ (xs : List Pesos). natAbs (getD xs i noMoney .0)) (c .add-up .ensures)
-    ∙ ap (λ (m : Pesos). natAbs (m .0)) (list-at _ 40 noMoney i p)
-    ∙ ap (λ (prices : List PesoPrice). linesAmount (λ j. getD prices j noPrice .0) (s .args .count) (s .args .lines .now) i) (c .before .price-of-one .ensures)
-    ∙ ones-add (s .args .n) (s .args .lines .now) (s .args .count) (s .pre) i
+    (omega arith, rw (c .no-energies .ensures) (held-none asEnergy (λ e. e .0) (λ x. refl) (λ e. refl) (s .args .lines .now) (energyOf (s .args .lines .now))))
 
-add-up-requires : tie.Need-add-up-requires
-add-up-requires c κs =
-    let s = c .before .before in
-    rw (c .price-of-one .ensures) (ones-priced (s .args .n) (s .args .lines .now) (s .args .count) (s .pre))
+line-at-requires : tie.Need-line-at-requires Inv-loop μ-loop
+line-at-requires c κs = omega (arith, c .before .before .before .line-count .ensures)
 
-as-energies-requires : tie.Need-as-energies-requires
-as-energies-requires c κs =
-    let s = c .before .before .before in
-    (s .pre .few, λ i p. omega (arith, amount c i (omega (arith, s .pre .few)), energy-most (s .args .n) (s .args .lines .now) (s .args .count) (s .pre) i))
+add-t13 : tie.Need-add-t13 Inv-loop μ-loop
+add-t13 c =
+    let w = c .before in
+    let lines = s w .args .lines .now in
+    omega (
+      arith,
+      added w,
+      s w .pre .checked .facts (l w .loop .j) (below w) .energyMost,
+      l w .loop .inv .1 .sums (w .line-at .result .distributor) (placed w),
+      parts-most lines (energyOf lines) (w .line-at .result .distributor) (l w .loop .j) 10000000 (λ k p. s w .pre .checked .facts k (omega (arith, below w)) .energyMost),
+      below w,
+      s w .pre .checked .few,
+    )
 
-returns : tie.Need-returns
-unfolding energyList
+loop-again : tie.Need-loop-again Inv-loop μ-loop
+loop-again c =
+    let w = c .before in
+    let lines = s w .args .lines .now in (
+      omega (arith, below w),
+      held-more asEnergy (λ e. e .0) (λ x. refl) (λ e. refl) lines (energyOf lines) (l w .loop .j) (l w .loop .energies) (w .line-at .result .distributor) _ (placed w) (own w)
+          (omega (arith, added w)) (l w .loop .inv .1),
+    )
+
+returns : tie.Need-returns Inv-loop μ-loop
+unfolding energyList suppliedEnergy
 returns c =
-    let s = c .before .before .before .before in
-    let lines = s .args .lines .now in
-    c .as-energies .ensures
-    ∙ filled-same 40 noEnergy (s .args .n) _ (λ i. record { 0 = suppliedEnergy (s .args .count) lines i })
-    (λ i p. ap {B = Energy} (λ x. record { 0 = x })
-    (amount (c .before) i (omega (arith, s .pre .few))))
+    let l = c .before in
+    let lines = l .before .before .before .before .args .lines .now in
+    let e : l .loop .j ≡ lineCount lines = omega (arith, l .before .before .line-count .ensures) in
+    held-done asEnergy (λ x. x .0) (λ x. refl) (λ x. refl) lines (energyOf lines) (l .loop .energies) (rw e at (l .loop .inv .1))
 
 pub energies-spec : {M : Type 1} → statement M
 energies-spec =
-    tie.close (tie.spec
-    (λ c κs. search needs)
-    add-up-requires
-    as-energies-requires
+    tie.close
+    (tie.spec
+    Inv-loop
+    μ-loop
+    (λ c κs. search needs) (λ c κs. search needs)
+    loop-holds
+    line-at-requires
+    (λ c. omega (arith, placed c)) (λ c. placed c)
+    add-t13
+    (λ c. omega (arith, placed (c .before))) (λ c. placed (c .before))
+    (λ c. omega arith) (λ c. omega arith)
+    loop-again
     returns)

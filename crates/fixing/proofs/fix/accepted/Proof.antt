@@ -11,10 +11,10 @@ module _ (c : tie.After-averages) where
   start = c .before .before .before
 
   range : InRange (distributors (start .args .n) (c .averages .result) (start .args .energies))
-  range = listed-range (start .args .n) (start .args .references) (start .args .lines .now) (start .args .count) (start .pre .0) _ _ (c .averages .ensures) (start .pre .1 .0)
+  range = listed-range (start .args .n) (start .args .references) (start .args .lines .now) (start .pre .0) _ _ (c .averages .ensures) (start .pre .1 .0)
 
 averages-requires : tie.Need-averages-requires
-averages-requires c κs = let s = c .before .before in (s .pre .0 .priced, (s .pre .1 .0, s .pre .0 .supplied))
+averages-requires c κs = let s = c .before .before in (s .pre .0 .few, (s .pre .0 .priced, (s .pre .1 .0, s .pre .0 .supplied)))
 
 fix-prices-requires : tie.Need-fix-prices-requires
 fix-prices-requires c κs = range c

@@ -1,20 +1,23 @@
 -- Each test is the check of its cause, made where those before it are passed; what passes all four is priced.
-use mathlib.Core.Path.{_≡_, refl}
+use mathlib.Core.Path.{_≡_, refl, _∙_, ap}
 use mathlib.Core.Bool.{true}
 use Rattle.numbers.specs.declared.refusal.Refusal.the-variants.{OutOfRange, ValueTooLarge, WrongSector, NoLine}
 use Rattle.numbers.proofs.BoolLaws.{told-true, told-false}
 use Rattle.numbers.proofs.CheckLaws.{FirstPass, passes, refused-unless}
 use Rattle.series.specs.Series.{valuesInRange}
-use Rattle.fixing.specs.Average.{OwnLines}
+use Rattle.fixing.specs.Average.{everyEnergy}
+use Rattle.fixing.specs.Required.{OwnLines, CheckedInput}
 use Rattle.fixing.specs.Sector.{sectorsAllowed}
-use Rattle.fixing.specs.Input.{FixingInput, CheckedInput, inputOf, lineCount, ranged, inputChecks, inputEnergies}
-use Rattle.fixing.proofs.VerdictLaws.{no-line, ranged-own, worked-refused, worked-priced}
+use Rattle.fixing.specs.Input.{FixingInput, inputOf, ranged, supplied, inputChecks}
+use Rattle.fixing.proofs.AverageLaws.{energies-tell}
+use Rattle.fixing.proofs.VerdictLaws.{no-line, ranged-own, checked-own, checked-numbers, checked-table}
+use Rattle.fixing.proofs.VerdictLaws.{worked-refused, priced-refused, priced-accepted, priced-worked}
 use borrow.Author.Needs.{needs}
 use Rattle.fixing.proofs.fix.fix_input.Statement.{statement}
 use Rattle.fixing.proofs.fix.fix_input.Tie as tie
 
 abbrev input : tie.Start → FixingInput
-input s = inputOf (s .args .month) (s .args .dollar) (s .args .factor) (s .args .first) (s .args .series .now) (s .args .lines .now) (s .args .sectors .now)
+input s = inputOf (s .args .numbers) (s .args .series .now) (s .args .lines .now) (s .args .sectors .now)
 
 abbrev start : tie.After-input-in-range → tie.Start
 start c = c .before .before .before .before
@@ -39,8 +42,16 @@ module _ (c : tie.Else3) where
   passed-eight : sectorsAllowed (begun .args .n) (begun .args .sectors .now) ≡ true
   passed-eight = told-true (c .before .sectors-allowed .ensures) (c .if3 .left)
 
-  own : OwnLines (begun .args .n) (begun .args .lines .now) (lineCount (input begun))
+  own : OwnLines (begun .args .lines .now)
   own = ranged-own _ (input begun) (begun .pre) (passed-six (six seven))
+
+-- the energies tell who has a line
+everyone : (c : tie.After-every-energy) → c .every-energy .result ≡ supplied (begun (c .before .before) .args .n) (input (begun (c .before .before)))
+everyone c =
+    let s = begun (c .before .before) in
+    c .every-energy .ensures
+    ∙ ap (everyEnergy (s .args .n)) (c .before .energies .ensures)
+    ∙ energies-tell (s .args .n) (s .args .lines .now) (s .pre .few) (own (c .before .before))
 
 passed-nine : (c : tie.Else4) → CheckedInput (begun (c .before .before .before) .args .n) (input (begun (c .before .before .before)))
 passed-nine c =
@@ -50,7 +61,7 @@ passed-nine c =
       ranges = passed-six (six (seven e));
       small = passed-seven (seven e);
       sectored = passed-eight e;
-      everyone = told-true (c .before .everyone-supplied .ensures) (c .if4 .left);
+      everyone = told-true (everyone (c .before)) (c .if4 .left);
     }
 
 returns : tie.Need-returns
@@ -84,9 +95,6 @@ returns-3 c =
 energies-requires : tie.Need-energies-requires
 energies-requires c κs = own c
 
-everyone-supplied-requires : tie.Need-everyone-supplied-requires
-everyone-supplied-requires c κs = (own (c .before), c .energies .ensures)
-
 returns-4 : tie.Need-returns-4
 returns-4 c =
     let t = c .before in
@@ -94,14 +102,42 @@ returns-4 c =
     let s = begun e in
     worked-refused (s .args .n) (input s) _ NoLine (c .refused4 .ensures)
     (no-line (s .args .n) (input s) (passed-six (six (seven e))) (passed-seven (seven e)) (passed-eight e)
-    (told-false (t .before .everyone-supplied .ensures) (t .if4 .taken)))
+    (told-false (everyone (t .before)) (t .if4 .taken)))
 
 price-lines-requires : tie.Need-price-lines-requires
-unfolding inputEnergies
-price-lines-requires c κs = (passed-nine c, c .before .before .energies .ensures)
+price-lines-requires c κs =
+    let e = c .before in
+    let s = begun (e .before .before .before) in
+    let ok = passed-nine e in
+    (checked-table _ (input s) ok _ (c .fill .ensures), (checked-numbers _ (input s) ok, checked-own _ (input s) ok .checked))
 
+-- what the pricing of the lines says
 returns-5 : tie.Need-returns-5
-returns-5 c = worked-priced _ _ _ (c .price-lines .ensures) (passed-nine (c .before))
+returns-5 c =
+    let v = c .before .before in
+    let p = v .before .before in
+    let e = p .before .before in
+    let s = begun (e .before .before .before) in
+    priced-refused _ (input s) (passed-nine e) _ (p .before .fill .ensures) _ (p .price-lines .ensures) _ _ (c .refused5 .ensures) (v .verdict .given .1)
+
+accepted-requires : tie.Need-accepted-requires
+accepted-requires c κs =
+    let t = c .before in
+    let p = t .before .before in
+    let e = p .before .before in
+    let s = begun (e .before .before .before) in
+    let ok = passed-nine e in (
+      priced-accepted _ (input s) ok _ (p .before .fill .ensures) _ (p .price-lines .ensures) (t .enum-told .given .1),
+      (e .before .before .energies .ensures, (ok .lengths .factors, ok .sectored)),
+    )
+
+returns-6 : tie.Need-returns-6
+returns-6 c =
+    let t = c .before .before in
+    let p = t .before .before in
+    let e = p .before .before in
+    let s = begun (e .before .before .before) in
+    priced-worked _ (input s) (passed-nine e) _ (p .before .fill .ensures) _ (p .price-lines .ensures) (t .enum-told .given .1) _ (c .accepted .ensures)
 
 pub fix-input-spec : {M : Type 1} → statement M
 fix-input-spec =
@@ -114,8 +150,12 @@ fix-input-spec =
     (λ c κs. search needs) (λ c κs. search needs)
     returns-3
     energies-requires
-    everyone-supplied-requires
-    (λ c κs. search needs)
+    (λ c κs. search needs) (λ c κs. search needs)
     returns-4
+    (λ c κs. search needs)
     price-lines-requires
-    returns-5)
+    (λ c. search needs) (λ c κs. search needs)
+    returns-5
+    (λ c. search needs)
+    accepted-requires
+    returns-6)

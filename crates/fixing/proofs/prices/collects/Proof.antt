@@ -1,17 +1,13 @@
 -- The invariant: what the distributors passed pay.
-use mathlib.Core.Path.{_≡_, refl, _∙_, ap}
-use Prim.Native.Nat.{_≤_, _-_, _+_, _*_}
+use mathlib.Core.Path.{_≡_, refl, ap}
+use Prim.Native.Nat.{ℕ, _≤_, _-_, _+_, _*_}
 use lib.ListN.{getD}
-use lib.IntN.{ℤ, pos}
-use mir.Facts.{toZ-ofZ}
-use borrow.Author.Needs.{sfits-of}
 use Rattle.numbers.specs.Bounded.{sumBelow}
 use Rattle.numbers.specs.Units.{noPrice, noEnergy}
 use Rattle.numbers.proofs.SumLaws.{sum-step}
-use Rattle.numbers.proofs.SignedLaws.{pos-sub-zero}
 use Rattle.fixing.specs.Limit.{contractTotal}
 use Rattle.fixing.specs.Prices.{distributors}
-use Rattle.fixing.proofs.PassLaws.{total-fits, paid-most}
+use Rattle.fixing.proofs.PassLaws.{paid-most}
 use Rattle.fixing.proofs.prices.collects.Statement.{statement}
 use Rattle.fixing.proofs.prices.collects.Tie as tie
 use native.Mathlib.Omega.{arith}
@@ -54,15 +50,8 @@ whole c =
     let e : l .loop .i ≡ l .before .args .n = omega arith in
     rw (← e) (l .loop .inv .1)
 
-difference-requires : tie.Need-difference-requires Inv-loop μ-loop
-difference-requires c κs =
-    let s = c .before .before in
-    omega (arith, whole c, total-fits (distributors (s .args .n) (s .args .t2) (s .args .t3)) (s .pre))
-
 returns : tie.Need-returns Inv-loop μ-loop
-returns c =
-    ap (λ (z : ℤ). record { 0 = z })
-    (toZ-ofZ (sfits-of (c .difference .ok)) ∙ c .difference .ensures ∙ pos-sub-zero _ ∙ ap pos (whole (c .before)))
+returns c = ap (λ (x : ℕ). record { 0 = x }) (whole c)
 
 pub collects-spec : {M : Type 1} → statement M
 collects-spec =
@@ -76,5 +65,4 @@ collects-spec =
     add-total
     (λ c. omega arith) (λ c. omega arith)
     loop-again
-    difference-requires
     returns)

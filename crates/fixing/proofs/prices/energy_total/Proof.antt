@@ -5,7 +5,7 @@ use native.Mathlib.Omega.{arith}
 use lib.ListN.{getD}
 use Rattle.numbers.specs.Units.{noEnergy}
 use Rattle.numbers.proofs.SumLaws.{Summed, summed-none, summed-more, summed-all}
-use Rattle.fixing.proofs.SearchLaws.{sum-next}
+use Rattle.numbers.proofs.SearchLaws.{sum-next}
 use Rattle.fixing.proofs.prices.energy_total.Statement.{statement}
 use Rattle.fixing.proofs.prices.energy_total.Tie as tie
 

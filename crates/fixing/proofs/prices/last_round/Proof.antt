@@ -1,13 +1,8 @@
 -- The invariant: what is known before a round. Somebody joins in each round but the last, so that the rounds stay fewer
 -- than the distributors.
-use mathlib.Core.Path.{_≡_, _∙_, ap}
+use mathlib.Core.Path.{_≡_}
 use Prim.Native.Nat.{_-_, _*_}
-use lib.IntN.{natAbs}
-use mir.Syntax.{w64}
-use mir.Val.{toZ, ofZ}
-use mir.Facts.{toZ-ofZ}
 use Rattle.numbers.specs.Rounding.{divideUp}
-use Rattle.numbers.proofs.SignedLaws.{size-fits}
 use Rattle.fixing.specs.Prices.{distributors}
 use Rattle.fixing.proofs.LoopLaws.{Round, none-above, round-first, made-few, pays-more, pays-most, outside-least, outside-most, raise-most, round-more, round-last}
 use Rattle.fixing.proofs.prices.last_round.Statement.{statement}
@@ -21,49 +16,38 @@ abbrev μ-loop : tie.MeasureT-loop
 μ-loop n averages energies limit sums₀ rounds₀ sums rounds = n - rounds
 
 round-sums-requires : tie.Need-round-sums-requires Inv-loop μ-loop
-round-sums-requires c κs = (c .pre .0, (c .pre .1, omega arith))
+round-sums-requires c κs = (c .pre, omega arith)
 
 returns : tie.Need-returns Inv-loop μ-loop
 returns c =
     let b = c .before .before in
-    none-above (b .before .pre .0) (b .before .pre .1) (b .round-sums .ensures) (c .if1 .taken)
+    none-above (b .before .pre .range) (b .before .pre .limited) (b .round-sums .ensures) (c .if1 .taken)
 
 loop-holds : tie.Need-loop-holds Inv-loop μ-loop
 loop-holds c =
     let b = c .before .before in
-    round-first (b .before .pre .0) (b .before .pre .1) (b .round-sums .ensures) (c .if1 .left)
+    round-first (b .before .pre .range) (b .before .pre .limited) (b .round-sums .ensures) (c .if1 .left)
 
--- what the set pays is read back as it is
-unread : (l : tie.At-loop Inv-loop μ-loop) → toZ w64 (ofZ w64 (l .loop .sums .paid .0)) ≡ l .loop .sums .paid .0
-unread l = toZ-ofZ (size-fits (l .loop .sums .paid .0) (omega (arith, pays-most (l .loop .inv))))
-
-magnitude-requires : tie.Need-magnitude-requires Inv-loop μ-loop
-magnitude-requires c κs = rw (unread (c .before)) (omega (arith, pays-most (c .before .loop .inv)))
-
-module _ (c : tie.After-struct-known3 Inv-loop μ-loop) where
-  abbrev began : tie.At-loop Inv-loop μ-loop
-  began = c .before .before .before .before
-
-  paid-is : c .before .before .magnitude .result ≡ natAbs (began .loop .sums .paid .0)
-  paid-is = c .before .before .magnitude .ensures ∙ ap natAbs (unread began)
+abbrev began : tie.After-struct-known4 Inv-loop μ-loop → tie.At-loop Inv-loop μ-loop
+began c = c .before .before .before
 
 mul-excess : tie.Need-mul-excess Inv-loop μ-loop
-mul-excess c = omega (arith, pays-more (began c .loop .inv), pays-most (began c .loop .inv))
+mul-excess c = let l = c .before .before in omega (arith, pays-more (l .loop .inv), pays-most (l .loop .inv))
 
 sub-excess : tie.Need-sub-excess Inv-loop μ-loop
-sub-excess c = omega (arith, pays-more (began c .loop .inv), paid-is c)
+sub-excess c = omega (arith, pays-more (began c .loop .inv))
 
 divide-up-requires : tie.Need-divide-up-requires Inv-loop μ-loop
 divide-up-requires c κs =
     let at = began c .loop .inv in
-    omega (arith, paid-is c, pays-most at, outside-least at, outside-most at)
+    omega (arith, pays-most at, outside-least at, outside-most at)
 
 -- where the round began, and the surcharge that it worked
 abbrev l : tie.After-divide-up Inv-loop μ-loop → tie.At-loop Inv-loop μ-loop
 l c = began (c .before)
 
-worked : (c : tie.After-divide-up Inv-loop μ-loop) → c .divide-up .result ≡ divideUp (natAbs (l c .loop .sums .paid .0) - l c .before .before .before .before .args .limit .0 * l c .loop .sums .inside .0) (l c .loop .sums .outside .0)
-worked c = rw (paid-is (c .before)) at (c .divide-up .ensures)
+worked : (c : tie.After-divide-up Inv-loop μ-loop) → c .divide-up .result ≡ divideUp (l c .loop .sums .paid .0 - l c .before .before .before .before .args .limit .0 * l c .loop .sums .inside .0) (l c .loop .sums .outside .0)
+worked c = c .divide-up .ensures
 
 add-rounds : tie.Need-add-rounds Inv-loop μ-loop
 add-rounds c = omega (arith, made-few (l c .loop .inv), l c .loop .inv .range .few)
@@ -71,7 +55,7 @@ add-rounds c = omega (arith, made-few (l c .loop .inv), l c .loop .inv .range .f
 round-sums-requires-2 : tie.Need-round-sums-requires-2 Inv-loop μ-loop
 round-sums-requires-2 c κs =
     let at = l c .loop .inv in
-    (at .range, (at .topped, raise-most at (worked c)))
+    (record { range = at .range; limited = at .topped }, raise-most at (worked c))
 
 returns-2 : tie.Need-returns-2 Inv-loop μ-loop
 returns-2 c =
@@ -95,7 +79,6 @@ last-round-spec =
     round-sums-requires
     returns
     loop-holds
-    magnitude-requires
     mul-excess
     sub-excess
     divide-up-requires

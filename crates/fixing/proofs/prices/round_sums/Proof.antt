@@ -1,20 +1,18 @@
 -- The invariant: the three sums of the distributors passed.
 use mathlib.Core.Logic.{⊎-elim}
-use mathlib.Core.Path.{_≡_, _∙_}
+use mathlib.Core.Path.{_≡_}
 use mathlib.Core.Bool.{Bool, true, false}
 use mathlib.Core.List.{List}
 use Prim.Native.Nat.{ℕ, _≤_, _-_, _+_, _*_}
 use lib.ListN.{getD}
 use lib.Dec.{ltb}
 use borrow.Author.Tests.{lt-ltb, le-ltb}
-use borrow.Author.Needs.{sfits-of}
-use mir.Facts.{toZ-ofZ}
 use Rattle.numbers.specs.Units.{noPrice, noEnergy}
 use Rattle.numbers.specs.declared.units.PesoPrice.{PesoPrice}
 use Rattle.fixing.specs.Limit.{Distributors}
 use Rattle.fixing.specs.Prices.{distributors}
 use Rattle.fixing.proofs.LimitLaws.{limit-most}
-use Rattle.fixing.proofs.PassLaws.{Sums, sums-none, sums-more, paid-fits, energy-fits, sums-fit, sums-all}
+use Rattle.fixing.proofs.PassLaws.{Sums, sums-none, sums-more, paid-fits, energy-fits, sums-all}
 use Rattle.fixing.proofs.prices.round_sums.Statement.{statement}
 use Rattle.fixing.proofs.prices.round_sums.Tie as tie
 use native.Mathlib.Omega.{arith}
@@ -47,13 +45,13 @@ module _ (c : tie.In-loop Inv-loop μ-loop) where
   set = above (s .args .t2) (s .args .limit .0) (s .args .raise .0)
 
   raised : d .average (l .loop .i) + s .args .raise .0 ≤ 4100000
-  raised = omega (arith, s .pre .0 .most (l .loop .i) (omega arith), limit-most d (s .pre .0))
+  raised = omega (arith, s .pre .0 .range .most (l .loop .i) (omega arith), limit-most d (s .pre .0 .range))
 
   paid : l .loop .paid + d .average (l .loop .i) * d .energy (l .loop .i) ≤ 5120000000000000
-  paid = paid-fits set d (s .pre .0) _ _ _ _ (omega arith) (l .loop .inv .1)
+  paid = paid-fits set d (s .pre .0 .range) _ _ _ _ (omega arith) (l .loop .inv .1)
 
   energy : l .loop .inside + l .loop .outside + d .energy (l .loop .i) ≤ 2560000000
-  energy = energy-fits set d (s .pre .0) _ _ _ _ (omega arith) (l .loop .inv .1)
+  energy = energy-fits set d (s .pre .0 .range) _ _ _ _ (omega arith) (l .loop .inv .1)
 
 add-if1 : tie.Need-add-if1 Inv-loop μ-loop
 add-if1 c = omega (arith, raised (c .before))
@@ -93,16 +91,10 @@ whole c =
     let e : l .loop .i ≡ l .before .args .n = omega arith in
     rw e at (l .loop .inv .1)
 
-difference-requires : tie.Need-difference-requires Inv-loop μ-loop
-difference-requires c κs =
-    let s = c .before .before in
-    omega (arith, sums-fit (distributors (s .args .n) (s .args .t2) (s .args .t3)) (s .pre .0) _ _ _ _ (whole c))
-
 returns : tie.Need-returns Inv-loop μ-loop
 returns c =
-    let s = c .before .before .before in
-    sums-all (distributors (s .args .n) (s .args .t2) (s .args .t3)) _ _ _ _ _ _ (s .pre .1 .0) (whole (c .before))
-    (toZ-ofZ (sfits-of (c .difference .ok)) ∙ c .difference .ensures)
+    let s = c .before .before in
+    sums-all (distributors (s .args .n) (s .args .t2) (s .args .t3)) _ _ _ _ _ (s .pre .0 .limited) (whole c)
 
 pub round-sums-spec : {M : Type 1} → statement M
 round-sums-spec =
@@ -119,5 +111,4 @@ round-sums-spec =
     add-outside
     (λ c. omega arith) (λ c. omega arith)
     loop-again
-    difference-requires
     returns)

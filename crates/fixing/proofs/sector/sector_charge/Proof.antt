@@ -10,7 +10,7 @@ use mir.Facts.{toZ-ofZ}
 use borrow.Author.Needs.{sfits-of}
 use Rattle.numbers.specs.Rounding.{halfAway}
 use Rattle.numbers.proofs.SignedLaws.{mul-bits, size-mul, size-fits, pos-sub-zero}
-use Rattle.fixing.specs.Charge.{sectorCharge}
+use Rattle.fixing.specs.Sector.{sectorCharge}
 use Rattle.fixing.proofs.sector.sector_charge.Statement.{statement}
 use Rattle.fixing.proofs.sector.sector_charge.Tie as tie
 

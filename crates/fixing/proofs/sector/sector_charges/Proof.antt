@@ -10,7 +10,7 @@ use mathlib.Core.List.{List}
 use Prim.Native.Nat.{ℕ, _≤_, _<_, _-_, _/_, _*_}
 use lib.ListN.{length, getD}
 use lib.IntN.{ℤ, pos}
-use Rattle.fixing.specs.Charge.{sectorCharge}
+use Rattle.fixing.specs.Sector.{sectorCharge}
 use Rattle.fixing.specs.Sector.{factorAt, sectorPresent, chargedPlaces, sectorCharges}
 use Rattle.fixing.proofs.sector.sector_charges.Statement.{statement}
 use Rattle.fixing.proofs.sector.sector_charges.Tie as tie

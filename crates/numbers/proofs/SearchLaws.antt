@@ -1,16 +1,15 @@
--- Laws of sums, tests and searches below a bound, beside those of the crate numbers: where a test holds, what the parts
+-- Laws of sums, tests and searches below a bound, taken together: where a test holds, what the parts
 -- there add, a sum that is less because one part is, and the first place at which a test fails. Assumes nothing.
 use mathlib.Core.Path.{_≡_, refl}
 use mathlib.Core.Bool.{Bool, true, false, cond, not, _||_, false≢true}
-use mathlib.Core.Option.{Option, none}
 use Prim.Native.Nat.{ℕ, zero, suc, _+_, _≤_, _<_}
 use native.Mathlib.Omega.{arith}
 use lib.Dec.{eqb}
 use borrow.Author.Tests.{eq-eqb, ne-eqb}
-use Rattle.numbers.specs.Bounded.{sumBelow, anyBelow, firstBelow}
+use Rattle.numbers.specs.Bounded.{sumBelow, anyBelow}
 use Rattle.numbers.proofs.BoolLaws.{by-last}
 use Rattle.numbers.proofs.SumLaws.{sum-step, sum-le, sum-le-sum, sum-mono, sum-part}
 use Rattle.numbers.proofs.TestLaws.{any-none}
 
 -- an index below the bound at which the test holds
 pub record Holds (t : ℕ → Bool) (k : ℕ) : Type 0 where
@@ -60,12 +59,6 @@ sum-lt (suc k) f g h i p q =
     (λ j b l. omega (arith, sum-lt k f g before j b l, h k (omega arith)))
     (λ l. omega (arith, sum-le-sum k f g before))
     i p q
-
--- no answer at any index: none below the bound
-pub first-empty : {A : Type 0} (f : ℕ → Option A) (k : ℕ) → ((j : ℕ) → j < k → f j ≡ none) → firstBelow k f ≡ none
-unfolding firstBelow
-first-empty f zero h = refl
-first-empty f (suc k) h = rw (first-empty f k (λ j p. h j (omega arith)), h k (omega arith))
 
 -- the first place at which a test fails
 pub record Fails (t : ℕ → Bool) : Type 0 where
