@@ -24,13 +24,23 @@ or-right true b h = absurd (true≢false h)
 or-right false b h = h
 
 -- the parts of a chain of tests, whose names the caller writes once
-pub and-five : (a b c d e : Bool) → (a && (b && (c && (d && e)))) ≡ true →
+pub and-three : (a b c : Bool) → (a && b && c) ≡ true → (a ≡ true) × (b ≡ true) × (c ≡ true)
+and-three a b c h =
+    let front = and-left (a && b) c h in
+    (and-left a b front, and-right a b front, and-right (a && b) c h)
+
+pub and-five : (a b c d e : Bool) → (a && b && c && d && e) ≡ true →
     (a ≡ true) × (b ≡ true) × (c ≡ true) × (d ≡ true) × (e ≡ true)
-and-five true true true true e h = (refl, refl, refl, refl, h)
-and-five true true true false e h = absurd (false≢true h)
-and-five true true false d e h = absurd (false≢true h)
-and-five true false c d e h = absurd (false≢true h)
-and-five false b c d e h = absurd (false≢true h)
+and-five a b c d e h =
+    let front = and-left (a && b && c && d) e h in
+    let three = and-three a b c (and-left (a && b && c) d front) in
+    (three .0, three .1, three .2, and-right (a && b && c) d front, and-right (a && b && c && d) e h)
+
+pub and-six : (a b c d e f : Bool) → (a && b && c && d && e && f) ≡ true →
+    (a ≡ true) × (b ≡ true) × (c ≡ true) × (d ≡ true) × (e ≡ true) × (f ≡ true)
+and-six a b c d e f h =
+    let five = and-five a b c d e (and-left (a && b && c && d && e) f h) in
+    (five .0, five .1, five .2, five .3, five .4, and-right (a && b && c && d && e) f h)
 
 -- a call's result r is the test b, and the code asks for `!r`
 pub told-true : {r b : Bool} → r ≡ b → not r ≡ false → b ≡ true

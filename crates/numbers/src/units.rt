@@ -45,5 +45,5 @@ impl PesoPrice {
 pub fn is_between(low: u64, high: u64, x: u64) -> bool
     ensures { λ r. ⌜ r ≡ between low high x ⌝ }
 {
-    low <= x && x <= high
+    (low <= x) & (x <= high)
 }

@@ -22,7 +22,7 @@ pub const MEANS: usize = SERIES * SERIES_MEANS;
 pub fn window_allowed(window: u64) -> bool
     ensures { λ r. ⌜ r ≡ windowAllowed window ⌝ }
 {
-    window == 1 || (window == 6 || window == 9)
+    (window == 1) | ((window == 6) | (window == 9))
 }
 
 // The window at a place of three: 1, 6 and 9 are told apart by their quarters.

@@ -8,7 +8,7 @@ use native.Mathlib.Omega.{arith}
 use native.Mathlib.Nat.{mul-le-mul, mul-le-mul-right}
 use lib.ListN.{getD}
 use lib.IntN.{ℤ, pos, subℕ, natAbs, _+ℤ_, _*ℤ_}
-use borrow.Author.Tests.{leb-true, eqb-true}
+use borrow.Author.Tests.{leb-true}
 use Rattle.numbers.specs.Bounded.{allBelow}
 use Rattle.numbers.specs.Rounding.{halfUp}
 use Rattle.numbers.specs.Signed.{signedSumBelow}
@@ -19,12 +19,13 @@ use Rattle.numbers.proofs.TestLaws.{all-at}
 use Rattle.numbers.proofs.UnitLaws.{between-low, between-high}
 use Rattle.numbers.proofs.RoundingLaws.{half-up-le, away-size, away-le}
 use Rattle.numbers.proofs.SignedLaws.{signed-sum-size, size-sub-le, size-add-le, size-mul-le}
-use Rattle.settlement.specs.Amount.{mostReading, readingOf, presentAt, chargeAt, highLossOf, lowLossOf, readingAllowed, readingsAllowed, lossesAllowed, billingInRange, highNet, lowNet, energyWithLosses, collectedAmount, BillingFacts}
+use Rattle.settlement.specs.Amount.{mostReading, readingOf, presentAt, chargeAt, highLossOf, lowLossOf, mostReadingOf, readingAllowed, sectorAllowed, readingsAllowed, lossesAllowed, billingInRange, highNet, lowNet, energyWithLosses, collectedAmount}
+use Rattle.settlement.specs.Required.{BillingFacts}
 use Rattle.settlement.specs.Example.{inSectorZero, billed, billedReadings, evenLosses}
 
 -- the readings and loss factors of class example 9 pass cause 12, by computation
 pub example-billed : billingInRange 3 (inSectorZero false true true true) (billedReadings 1000 1000 1000) evenLosses ≡ true
-unfolding allBelow between readingAllowed readingsAllowed lossesAllowed billingInRange inSectorZero billed billedReadings evenLosses
+unfolding allBelow between mostReadingOf readingAllowed sectorAllowed readingsAllowed lossesAllowed billingInRange inSectorZero billed billedReadings evenLosses
 example-billed = refl
 
 -- the loss factor at high voltage is the first of its pair
@@ -32,17 +33,17 @@ pub high-first : (losses : List ℕ) (i : ℕ) → getD losses (i * 2 + 0) 0 ≡
 high-first losses i = ap (λ j. getD losses j 0) (omega arith)
 
 reading-most : (present : Bool) (reading : ℕ) → readingAllowed present reading ≡ true → reading ≤ mostReading
-unfolding readingAllowed
+unfolding readingAllowed mostReadingOf
 reading-most true reading h = leb-true reading mostReading h
-reading-most false reading h = omega (arith, eqb-true reading 0 h)
+reading-most false reading h = omega (arith, leb-true reading 0 h)
 
 pub billing-facts : (n : ℕ) (present : List Bool) (readings losses : List ℕ) → billingInRange n present readings losses ≡ true → (i : ℕ) → i < n → BillingFacts readings losses i
-unfolding billingInRange readingsAllowed lossesAllowed
+unfolding billingInRange readingsAllowed sectorAllowed lossesAllowed
 billing-facts n present readings losses h i p =
     let both = all-at n (λ j. readingsAllowed present readings j && lossesAllowed losses j) h i p in
     let rows = and-left (readingsAllowed present readings i) (lossesAllowed losses i) both in
     let pair = and-right (readingsAllowed present readings i) (lossesAllowed losses i) both in
-    let row = all-at sectorCount (λ s. allBelow 4 (λ k. readingAllowed (presentAt present i s) (readingOf readings i s k))) rows in
+    let row = all-at sectorCount (sectorAllowed present readings i) rows in
     let high = and-left (between 10000 20000 (highLossOf losses i)) (between 10000 20000 (lowLossOf losses i)) pair in
     let low = and-right (between 10000 20000 (highLossOf losses i)) (between 10000 20000 (lowLossOf losses i)) pair in
     record {

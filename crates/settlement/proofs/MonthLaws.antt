@@ -16,11 +16,13 @@ use Rattle.numbers.specs.declared.units.Pesos.{Pesos}
 use Rattle.numbers.proofs.SumLaws.{sum-same, sum-le}
 use Rattle.numbers.proofs.TestLaws.{all-at}
 use Rattle.numbers.proofs.ListLaws.{filled-none, filled-at, filled-empty, filled-next, filled-same}
-use Rattle.settlement.specs.Amount.{collectedAmount, Billed}
+use Rattle.settlement.specs.Amount.{collectedAmount}
+use Rattle.settlement.specs.Required.{Billed}
 use Rattle.settlement.specs.Share.{sideTotal, sharedBefore, share}
 use Rattle.settlement.specs.Settlement.{positionOf, mostPosition, positionsInRange, owing, owed, sideSize, transferred, paid, received, transfer, newBalance}
-use Rattle.settlement.specs.Month.{moneyAt, moneyBelow, sizesBelow, shareList, movedMonth, settledMonth, MoneyWithin, Side}
-use Rattle.settlement.specs.declared.month.Settled.{Settled}
+use Rattle.settlement.specs.Month.{moneyAt, moneyBelow, sizesBelow, shareList, movedMonth, settledMonth}
+use Rattle.settlement.specs.Required.{MoneyWithin, Side}
+use Rattle.settlement.specs.declared.month.SettledMonth.{SettledMonth}
 use Rattle.numbers.proofs.SignedLaws.{part-most, size-add-le, size-sub-le}
 use Rattle.settlement.proofs.AmountLaws.{amount-size}
 use Rattle.settlement.proofs.ShareLaws.{share-same, share-most}
@@ -93,7 +95,7 @@ pub position-size : (n : ℕ) (balances : List Pesos) (charges : List ℤ) (read
 unfolding positionOf
 position-size n balances charges readings losses w b i p =
     size-add-le (moneyAt balances i) (collectedAmount charges readings losses i) (w .within i p)
-    (amount-size charges readings losses i (b .facts i p) (λ s. b .bounded i s p))
+    (amount-size charges readings losses i (b .billed .facts i p) (λ s. b .bounded i s p))
 
 pub moved-size : (n : ℕ) (positions : List Pesos) (paid received : List ℕ) → MoneyWithin n positions → Side n paid → Side n received → (i : ℕ) → i < n → natAbs (moneyAt positions i +ℤ subℕ (getD received i 0) (getD paid i 0)) ≤ 2000000000000000
 moved-size n positions paid received w p r i h =
@@ -163,6 +165,6 @@ module _ (n : ℕ) (positions : List Pesos) (w : MoneyWithin n positions) where
   pub moved-settled : movedMonth n positions (sharesOf n positions false) (sharesOf n positions true) ≡ settledMonth n positions
   unfolding movedMonth settledMonth newBalance
   moved-settled =
-      ap₂ {C = Settled} (λ b t. record { balances = b; transfers = t })
+      ap₂ {C = SettledMonth} (λ b t. record { balances = b; transfers = t })
       (money-same _ n (newBalance n (moneyAt positions)) (λ i p. ap (λ (z : ℤ). moneyAt positions i +ℤ z) (transfer-is i p)))
       (money-same _ n (transfer n (moneyAt positions)) transfer-is)

@@ -3,18 +3,16 @@
 -- voltage of distribution). Nothing here knows a balance. Assumes nothing.
 use mathlib.Core.Bool.{Bool, false, cond, _&&_}
 use mathlib.Core.List.{List}
-use mathlib.Core.Path.{_≡_}
-use Prim.Native.Nat.{ℕ, _+_, _*_, _≤_, _<_}
-use lib.Dec.{leb, eqb}
-use lib.ListN.{getD, length}
-use lib.IntN.{ℤ, pos, subℕ, natAbs, _+ℤ_, _*ℤ_}
+use Prim.Native.Nat.{ℕ, _+_, _*_}
+use lib.Dec.{leb}
+use lib.ListN.{getD}
+use lib.IntN.{ℤ, pos, subℕ, _+ℤ_, _*ℤ_}
 use Rattle.numbers.specs.Bounded.{allBelow}
 use Rattle.numbers.specs.Rounding.{halfAway}
 use Rattle.numbers.specs.Signed.{signedSumBelow}
 use Rattle.numbers.specs.Units.{between}
-use Rattle.numbers.specs.Sizes.{mostDistributors, sectorCount}
+use Rattle.numbers.specs.Sizes.{sectorCount}
 
--- "each at most 2,000,000,000"
 abbrev pub mostReading : ℕ
 mostReading = 2000000000
 
@@ -36,13 +34,20 @@ highLossOf losses i = getD losses (i * 2) 0
 abbrev pub lowLossOf : List ℕ → ℕ → ℕ
 lowLossOf losses i = getD losses (i * 2 + 1) 0
 
--- a reading within its limit, and zero in an absent sector
+-- "each at most 2,000,000,000, zero in an absent sector": there it is at most 0
+unfoldable pub mostReadingOf : Bool → ℕ
+mostReadingOf present = cond present mostReading 0
+
 unfoldable pub readingAllowed : Bool → ℕ → Bool
-readingAllowed present reading = cond present (leb reading mostReading) (eqb reading 0)
+readingAllowed present reading = leb reading (mostReadingOf present)
+
+-- the four readings of distributor i in sector s, and all of its readings
+unfoldable pub sectorAllowed : List Bool → List ℕ → ℕ → ℕ → Bool
+sectorAllowed present readings i s =
+    allBelow 4 (λ k. readingAllowed (presentAt present i s) (readingOf readings i s k))
 
 unfoldable pub readingsAllowed : List Bool → List ℕ → ℕ → Bool
-readingsAllowed present readings i =
-    allBelow sectorCount (λ s. allBelow 4 (λ k. readingAllowed (presentAt present i s) (readingOf readings i s k)))
+readingsAllowed present readings i = allBelow sectorCount (sectorAllowed present readings i)
 
 -- "Loss factors PEAT, PEBT: 2n words, pairs, 10,000 to 20,000 ten-thousandths"
 unfoldable pub lossesAllowed : List ℕ → ℕ → Bool
@@ -60,6 +65,10 @@ highNet readings i s = subℕ (readingOf readings i s 0) (readingOf readings i s
 unfoldable pub lowNet : List ℕ → ℕ → ℕ → ℤ
 lowNet readings i s = subℕ (readingOf readings i s 2) (readingOf readings i s 3)
 
+-- "charges within ±10,500,000"
+abbrev pub mostCharge : ℕ
+mostCharge = 10500000
+
 -- X (a term of 01) of a sector: its net energy carried up over the losses, in kWh, rounded half away by sector
 unfoldable pub energyWithLosses : List ℕ → List ℕ → ℕ → ℕ → ℤ
 energyWithLosses readings losses i s =
@@ -73,26 +82,3 @@ energyWithLosses readings losses i s =
 unfoldable pub collectedAmount : List ℤ → List ℕ → List ℕ → ℕ → ℤ
 collectedAmount charges readings losses i =
     halfAway (signedSumBelow sectorCount (λ s. chargeAt charges i s *ℤ energyWithLosses readings losses i s)) 1000
-
--- What the functions past cause 12 require: the lists' lengths, and the ranges of readings, loss factors and charges as
--- plain facts.
-pub record BillingLists (n : ℕ) (readings losses : List ℕ) : Type 0 where
-  pub few : n ≤ mostDistributors
-  pub read : length readings ≡ n * 32
-  pub lost : length losses ≡ n * 2
-
-pub record BillingFacts (readings losses : List ℕ) (i : ℕ) : Type 0 where
-  pub reading : (s k : ℕ) → s < sectorCount → k < 4 → readingOf readings i s k ≤ mostReading
-  pub highLeast : 10000 ≤ highLossOf losses i
-  pub highMost : highLossOf losses i ≤ 20000
-  pub lowLeast : 10000 ≤ lowLossOf losses i
-  pub lowMost : lowLossOf losses i ≤ 20000
-
--- "charges within ±10,500,000"
-abbrev pub mostCharge : ℕ
-mostCharge = 10500000
-
-pub record Billed (n : ℕ) (charges : List ℤ) (readings losses : List ℕ) : Type 0 where
-  pub lists : BillingLists n readings losses
-  pub facts : (i : ℕ) → i < n → BillingFacts readings losses i
-  pub bounded : (i s : ℕ) → i < n → s < sectorCount → natAbs (chargeAt charges i s) ≤ mostCharge

@@ -3,3 +3,4 @@ pub mod Share
 pub mod Settlement
 pub mod Month
 pub mod Example
+pub mod Required

@@ -1,17 +1,17 @@
 -- One month by value: positions, transfers and new balances as lists of 40 places, those past n empty.
 -- Assumes nothing.
 use mathlib.Core.List.{List}
-use Prim.Native.Nat.{ℕ, _≤_, _<_}
+use Prim.Native.Nat.{ℕ}
 use lib.ListN.{getD}
-use lib.IntN.{ℤ, subℕ, natAbs, _+ℤ_}
+use lib.IntN.{ℤ, subℕ, _+ℤ_}
 use Rattle.numbers.specs.Bounded.{filledBelow}
 use Rattle.numbers.specs.Units.{noMoney}
 use Rattle.numbers.specs.Sizes.{mostDistributors}
 use Rattle.numbers.specs.declared.units.Pesos.{Pesos}
 use Rattle.settlement.specs.Amount.{collectedAmount}
 use Rattle.settlement.specs.Share.{share}
-use Rattle.settlement.specs.Settlement.{positionOf, mostPosition, transfer, newBalance}
-use Rattle.settlement.specs.declared.month.Settled.{Settled}
+use Rattle.settlement.specs.Settlement.{positionOf, transfer, newBalance}
+use Rattle.settlement.specs.declared.month.SettledMonth.{SettledMonth}
 
 -- what stands at i of a list of money
 abbrev pub moneyAt : List Pesos → ℕ → ℤ
@@ -27,7 +27,7 @@ positionList n balances charges readings losses =
     moneyBelow n (positionOf (moneyAt balances) (collectedAmount charges readings losses))
 
 -- the month settled from its positions
-unfoldable pub settledMonth : ℕ → List Pesos → Settled
+unfoldable pub settledMonth : ℕ → List Pesos → SettledMonth
 settledMonth n positions =
     record {
       balances = moneyBelow n (newBalance n (moneyAt positions));
@@ -43,19 +43,9 @@ unfoldable pub shareList : ℕ → List ℕ → ℕ → List ℕ
 shareList n sizes transferred = filledBelow mostDistributors 0 n (share n (λ i. getD sizes i 0) transferred)
 
 -- transfers and new balances, where each pays and receives so much
-unfoldable pub movedMonth : ℕ → List Pesos → List ℕ → List ℕ → Settled
+unfoldable pub movedMonth : ℕ → List Pesos → List ℕ → List ℕ → SettledMonth
 movedMonth n positions paid received =
     record {
       balances = moneyBelow n (λ i. moneyAt positions i +ℤ subℕ (getD received i 0) (getD paid i 0));
       transfers = moneyBelow n (λ i. subℕ (getD received i 0) (getD paid i 0));
     }
-
--- balances that a position can be worked from, and positions that pass cause 13
-pub record MoneyWithin (n : ℕ) (list : List Pesos) : Type 0 where
-  pub few : n ≤ mostDistributors
-  pub within : (i : ℕ) → i < n → natAbs (moneyAt list i) ≤ mostPosition
-
--- a side of n sizes within 10^15
-pub record Side (n : ℕ) (sizes : List ℕ) : Type 0 where
-  pub few : n ≤ mostDistributors
-  pub within : (i : ℕ) → i < n → getD sizes i 0 ≤ mostPosition

@@ -1,9 +1,10 @@
 // One month: positions and their test (cause 13), transfers and new balances.
 ghost use mathlib.Core.Path.{_≡_};
 ghost use Prim.Native.Nat.{_≤_};
-ghost use Rattle.settlement.specs.Amount.{Billed};
+ghost use Rattle.numbers.specs.Sizes.{mostDistributors};
 ghost use Rattle.settlement.specs.Settlement.{positionsInRange, sideSize};
-ghost use Rattle.settlement.specs.Month.{moneyAt, sizesBelow, positionList, settledMonth, movedMonth, MoneyWithin, Side};
+ghost use Rattle.settlement.specs.Month.{moneyAt, sizesBelow, positionList, settledMonth, movedMonth};
+ghost use Rattle.settlement.specs.Required.{Billed, MoneyWithin, Side};
 use crate::amount::collected_amount;
 use crate::share::shares;
 use crate::share::side_total;
@@ -11,34 +12,36 @@ use numbers::signed::difference;
 use numbers::signed::is_negative;
 use numbers::signed::magnitude;
 use numbers::signed::within_size;
+use numbers::sizes::MOST_DISTRIBUTORS;
+use numbers::sizes::PLACES;
 use numbers::units::Pesos;
 
 // Balances and positions lie within 10^15 of zero.
 const MOST_POSITION: u64 = 1000000000000000;
 
 // A month's outcome: new balances and transfers, paid negative, received positive.
-pub struct Settled {
-    pub balances: [Pesos; 40],
-    pub transfers: [Pesos; 40],
+pub struct SettledMonth {
+    pub balances: [Pesos; MOST_DISTRIBUTORS],
+    pub transfers: [Pesos; MOST_DISTRIBUTORS],
 }
 
 // Old balance and collected amount of each distributor, added up.
 pub fn positions(
     n: usize,
-    balances: [Pesos; 40],
-    charges: &[i64; 320],
+    balances: [Pesos; MOST_DISTRIBUTORS],
+    charges: &[i64; PLACES],
     readings: &[u64],
     losses: &[u64],
-) -> [Pesos; 40]
+) -> [Pesos; MOST_DISTRIBUTORS]
     requires { ⌜ MoneyWithin n balances ⌝ ∗ ⌜ Billed n (now charges) (now readings) (now losses) ⌝ }
     ensures { λ r. ⌜ r ≡ positionList n balances (now (charges .entry)) (now (readings .entry)) (now (losses .entry)) ⌝ }
 {
     let none = Pesos(0);
-    let mut positions = [none; 40];
+    let mut positions = [none; MOST_DISTRIBUTORS];
     let mut i: usize = 0;
     while i < n {
         let balance = balances[i];
-        let amount = collected_amount(charges, readings, losses, n, i);
+        let amount = collected_amount(n, charges, readings, losses, i);
         positions[i] = Pesos(balance.0 + amount.0);
         i += 1;
     }
@@ -46,8 +49,8 @@ pub fn positions(
 }
 
 // Whether no position is beyond its limit.
-pub fn positions_in_range(n: usize, positions: [Pesos; 40]) -> bool
-    requires { ⌜ n ≤ 40 ⌝ }
+pub fn positions_in_range(n: usize, positions: [Pesos; MOST_DISTRIBUTORS]) -> bool
+    requires { ⌜ n ≤ mostDistributors ⌝ }
     ensures { λ r. ⌜ r ≡ positionsInRange n (moneyAt positions) ⌝ }
 {
     let mut i: usize = 0;
@@ -62,11 +65,11 @@ pub fn positions_in_range(n: usize, positions: [Pesos; 40]) -> bool
 }
 
 // The sizes of one side: of those who are owed, with a position below zero, or of those who owe.
-fn side_sizes(n: usize, positions: [Pesos; 40], negative: bool) -> [u64; 40]
+fn side_sizes(n: usize, positions: [Pesos; MOST_DISTRIBUTORS], negative: bool) -> [u64; MOST_DISTRIBUTORS]
     requires { ⌜ MoneyWithin n positions ⌝ }
     ensures { λ r. ⌜ r ≡ sizesBelow n (sideSize negative (moneyAt positions)) ⌝ }
 {
-    let mut sizes = [0u64; 40];
+    let mut sizes = [0u64; MOST_DISTRIBUTORS];
     let mut i: usize = 0;
     while i < n {
         let position = positions[i];
@@ -79,13 +82,13 @@ fn side_sizes(n: usize, positions: [Pesos; 40], negative: bool) -> [u64; 40]
 }
 
 // Transfers and new balances from the shares of the two sides.
-fn moved(n: usize, positions: [Pesos; 40], paid: &[u64; 40], received: &[u64; 40]) -> Settled
+fn moved(n: usize, positions: [Pesos; MOST_DISTRIBUTORS], paid: &[u64; MOST_DISTRIBUTORS], received: &[u64; MOST_DISTRIBUTORS]) -> SettledMonth
     requires { ⌜ MoneyWithin n positions ⌝ ∗ ⌜ Side n (now paid) ⌝ ∗ ⌜ Side n (now received) ⌝ }
     ensures { λ r. ⌜ r ≡ movedMonth n positions (now (paid .entry)) (now (received .entry)) ⌝ }
 {
     let none = Pesos(0);
-    let mut balances = [none; 40];
-    let mut transfers = [none; 40];
+    let mut balances = [none; MOST_DISTRIBUTORS];
+    let mut transfers = [none; MOST_DISTRIBUTORS];
     let mut i: usize = 0;
     while i < n {
         let position = positions[i];
@@ -94,14 +97,14 @@ fn moved(n: usize, positions: [Pesos; 40], paid: &[u64; 40], received: &[u64; 40
         transfers[i] = Pesos(transfer);
         i += 1;
     }
-    Settled {
+    SettledMonth {
         balances,
         transfers,
     }
 }
 
 // The month settled from its positions: the smaller side's total is transferred.
-pub fn settle_positions(n: usize, positions: [Pesos; 40]) -> Settled
+pub fn settle_positions(n: usize, positions: [Pesos; MOST_DISTRIBUTORS]) -> SettledMonth
     requires { ⌜ MoneyWithin n positions ⌝ }
     ensures { λ r. ⌜ r ≡ settledMonth n positions ⌝ }
 {

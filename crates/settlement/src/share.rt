@@ -3,11 +3,13 @@ ghost use mathlib.Core.Path.{_≡_};
 ghost use Prim.Native.Nat.{_≤_, _<_};
 ghost use lib.ListN.{getD};
 ghost use Rattle.settlement.specs.Share.{sideTotal};
-ghost use Rattle.settlement.specs.Month.{shareList, Side};
+ghost use Rattle.settlement.specs.Month.{shareList};
+ghost use Rattle.settlement.specs.Required.{Side};
 use numbers::division::multiply_divide;
+use numbers::sizes::MOST_DISTRIBUTORS;
 
 // The total of a side.
-pub(crate) fn side_total(n: usize, sizes: &[u64; 40]) -> u64
+pub(crate) fn side_total(n: usize, sizes: &[u64; MOST_DISTRIBUTORS]) -> u64
     requires { ⌜ Side n (now sizes) ⌝ }
     ensures { λ r. ⌜ r ≡ sideTotal n (λ i. getD (now (sizes .entry)) i 0) ⌝ }
 {
@@ -22,12 +24,12 @@ pub(crate) fn side_total(n: usize, sizes: &[u64; 40]) -> u64
 
 // The shares of a side in the transferred total, in one pass: with each distributor's own size, less the same before
 // it.
-pub(crate) fn shares(n: usize, sizes: &[u64; 40], transferred: u64) -> [u64; 40]
+pub(crate) fn shares(n: usize, sizes: &[u64; MOST_DISTRIBUTORS], transferred: u64) -> [u64; MOST_DISTRIBUTORS]
     requires { ⌜ Side n (now sizes) ⌝ ∗ ⌜ transferred ≤ sideTotal n (λ i. getD (now sizes) i 0) ⌝ }
     ensures { λ r. ⌜ r ≡ shareList n (now (sizes .entry)) transferred ⌝ }
 {
     let total = side_total(n, sizes);
-    let mut shares = [0u64; 40];
+    let mut shares = [0u64; MOST_DISTRIBUTORS];
     if total == 0 {
         return shares;
     }

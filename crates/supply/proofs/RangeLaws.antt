@@ -8,7 +8,7 @@ use native.Mathlib.Omega.{arith}
 use lib.Dec.{leb, ltb, eqb}
 use borrow.Author.Tests.{leb-true, ltb-true, eqb-true, lt-ltb}
 use Rattle.numbers.specs.Units.{between}
-use Rattle.numbers.proofs.BoolLaws.{and-left, and-right, and-five}
+use Rattle.numbers.proofs.BoolLaws.{and-left, and-right, and-three, and-five, and-six}
 use Rattle.numbers.proofs.TestLaws.{all-at}
 use Rattle.numbers.proofs.UnitLaws.{between-low, between-high}
 use Rattle.series.specs.Series.{seriesCount, mostValue, lastMonth, windowAllowed}
@@ -67,11 +67,12 @@ head-facts : (n : ℕ) (line : Line) → headInRange n line ≡ true →
     × (between 1 1000000 (line .«base_price») ≡ true)
     × (between 5000 20000 (line .«offer_factor») ≡ true)
     × (between 5000 20000 (line .«purchase_factor») ≡ true)
-    × ((between 1 10000000 (line .energy) && leb (line .«term_count») mostTerms) ≡ true)
+    × (between 1 10000000 (line .energy) ≡ true)
+    × (leb (line .«term_count») mostTerms ≡ true)
 unfolding headInRange
 head-facts n line h =
-    and-five (ltb (line .distributor) n) (between 1 1000000 (line .«base_price»)) (between 5000 20000 (line .«offer_factor»))
-    (between 5000 20000 (line .«purchase_factor»)) (between 1 10000000 (line .energy) && leb (line .«term_count») mostTerms) h
+    and-six (ltb (line .distributor) n) (between 1 1000000 (line .«base_price»)) (between 5000 20000 (line .«offer_factor»))
+    (between 5000 20000 (line .«purchase_factor»)) (between 1 10000000 (line .energy)) (leb (line .«term_count») mostTerms) h
 
 line-facts : (n : ℕ) (line : Line) → lineInRange n line ≡ true → LineFacts line
 unfolding lineInRange
@@ -79,8 +80,7 @@ line-facts n line h =
     let head = and-left (headInRange n line) (termsAllowed line && weightsAllowed line) h in
     let rest = and-right (headInRange n line) (termsAllowed line && weightsAllowed line) h in
     let p = head-facts n line head in
-    let energy = and-left (between 1 10000000 (line .energy)) (leb (line .«term_count») mostTerms) (p .4) in
-    let few : line .«term_count» ≤ mostTerms = leb-true _ _ (and-right (between 1 10000000 (line .energy)) (leb (line .«term_count») mostTerms) (p .4)) in
+    let few : line .«term_count» ≤ mostTerms = leb-true _ _ (p .5) in
     record {
       base = between-low 1 1000000 _ (p .1);
       baseMost = between-high 1 1000000 _ (p .1);
@@ -88,8 +88,8 @@ line-facts n line h =
       offerMost = between-high 5000 20000 _ (p .2);
       purchase = between-low 5000 20000 _ (p .3);
       purchaseMost = between-high 5000 20000 _ (p .3);
-      energy = between-low 1 10000000 _ energy;
-      energyMost = between-high 1 10000000 _ energy;
+      energy = between-low 1 10000000 _ (p .4);
+      energyMost = between-high 1 10000000 _ (p .4);
       terms = few;
       term = λ k q. allowed-term line (and-left (termsAllowed line) (weightsAllowed line) rest) k (omega arith) q;
     }
@@ -116,17 +116,14 @@ lines-distributor n lines h j p =
 numbers-facts : (numbers : FixingNumbers) → numbersInRange numbers ≡ true → NumbersFacts numbers
 unfolding numbersInRange
 numbers-facts numbers h =
-    let factor = numbers .«reference_factor» in
-    let first = numbers .«first_month» in
-    let d = and-left (between 1 200000 (numbers .dollar)) (between 5000 20000 factor && leb first lastMonth) h in
-    let r = and-right (between 1 200000 (numbers .dollar)) (between 5000 20000 factor && leb first lastMonth) h in
-    let f = and-left (between 5000 20000 factor) (leb first lastMonth) r in
+    let p =
+    and-three (between 1 200000 (numbers .dollar)) (between 5000 20000 (numbers .«reference_factor»)) (leb (numbers .«first_month») lastMonth) h in
     record {
-      dollarLeast = between-low 1 200000 _ d;
-      dollarMost = between-high 1 200000 _ d;
-      factorLeast = between-low 5000 20000 _ f;
-      factorMost = between-high 5000 20000 _ f;
-      start = leb-true _ _ (and-right (between 5000 20000 factor) (leb first lastMonth) r);
+      dollarLeast = between-low 1 200000 _ (p .0);
+      dollarMost = between-high 1 200000 _ (p .0);
+      factorLeast = between-low 5000 20000 _ (p .1);
+      factorMost = between-high 5000 20000 _ (p .1);
+      start = leb-true _ _ (p .2);
     }
 
 -- the two halves of the test of the input

@@ -17,29 +17,29 @@ use Rattle.supply.specs.declared.market.FixingNumbers.{FixingNumbers}
 unfoldable pub headInRange : ℕ → Line → Bool
 headInRange n line =
     ltb (line .distributor) n
-    && (between 1 1000000 (line .«base_price»)
-    && (between 5000 20000 (line .«offer_factor»)
-    && (between 5000 20000 (line .«purchase_factor»)
-    && (between 1 10000000 (line .energy)
-    && leb (line .«term_count») mostTerms))))
+    && between 1 1000000 (line .«base_price»)
+    && between 5000 20000 (line .«offer_factor»)
+    && between 5000 20000 (line .«purchase_factor»)
+    && between 1 10000000 (line .energy)
+    && leb (line .«term_count») mostTerms
 
 -- "series 0 to 4, weight 1 to 10,000, lag, window, base value 1 to 99,999,999"; "lag G (1 to 12)"
 unfoldable pub termInRange : Term → Bool
 termInRange term =
     ltb (term .series) seriesCount
-    && (between 1 10000 (term .weight)
-    && (between 1 12 (term .lag)
-    && (windowAllowed (term .window)
-    && between 1 mostValue (term .«base_value»))))
+    && between 1 10000 (term .weight)
+    && between 1 12 (term .lag)
+    && windowAllowed (term .window)
+    && between 1 mostValue (term .«base_value»)
 
 -- "Unused terms are all zero"
 unfoldable pub termUnused : Term → Bool
 termUnused term =
     eqb (term .series) 0
-    && (eqb (term .weight) 0
-    && (eqb (term .lag) 0
-    && (eqb (term .window) 0
-    && eqb (term .«base_value») 0)))
+    && eqb (term .weight) 0
+    && eqb (term .lag) 0
+    && eqb (term .window) 0
+    && eqb (term .«base_value») 0
 
 -- a term below the count is in range, one past it is unused
 unfoldable pub termAllowed : Term → Bool → Bool
@@ -65,8 +65,8 @@ linesInRange n lines = allBelow (lineCount lines) (λ j. lineInRange n (lineOf l
 unfoldable pub numbersInRange : FixingNumbers → Bool
 numbersInRange numbers =
     between 1 200000 (numbers .dollar)
-    && (between 5000 20000 (numbers .«reference_factor»)
-    && leb (numbers .«first_month») lastMonth)
+    && between 5000 20000 (numbers .«reference_factor»)
+    && leb (numbers .«first_month») lastMonth
 
 -- cause 6 is met where this is false
 unfoldable pub inputInRange : ℕ → FixingNumbers → List ℕ → Bool

@@ -19,31 +19,34 @@ use series::table::SERIES;
 fn head_in_range(n: usize, line: Line) -> bool
     ensures { λ r. ⌜ r ≡ headInRange n line ⌝ }
 {
-    line.distributor < n as u64
-        && (is_between(1, 1000000, line.base_price)
-            && (is_between(5000, 20000, line.offer_factor)
-                && (is_between(5000, 20000, line.purchase_factor)
-                    && (is_between(1, 10000000, line.energy)
-                        && line.term_count <= MOST_TERMS as u64))))
+    (line.distributor < n as u64)
+        & is_between(1, 1000000, line.base_price)
+        & is_between(5000, 20000, line.offer_factor)
+        & is_between(5000, 20000, line.purchase_factor)
+        & is_between(1, 10000000, line.energy)
+        & (line.term_count <= MOST_TERMS as u64)
 }
 
 // The five words of a used term.
 fn term_in_range(term: Term) -> bool
     ensures { λ r. ⌜ r ≡ termInRange term ⌝ }
 {
-    term.series < SERIES as u64
-        && (is_between(1, 10000, term.weight)
-            && (is_between(1, 12, term.lag)
-                && (window_allowed(term.window) && is_between(1, MOST_VALUE, term.base_value))))
+    (term.series < SERIES as u64)
+        & is_between(1, 10000, term.weight)
+        & is_between(1, 12, term.lag)
+        & window_allowed(term.window)
+        & is_between(1, MOST_VALUE, term.base_value)
 }
 
 // The five words of an unused term: all zero.
 fn term_unused(term: Term) -> bool
     ensures { λ r. ⌜ r ≡ termUnused term ⌝ }
 {
-    term.series == 0
-        && (term.weight == 0
-            && (term.lag == 0 && (term.window == 0 && term.base_value == 0)))
+    (term.series == 0)
+        & (term.weight == 0)
+        & (term.lag == 0)
+        & (term.window == 0)
+        & (term.base_value == 0)
 }
 
 // A term below the line's count is in range, one past it unused.
@@ -121,8 +124,8 @@ fn numbers_in_range(numbers: FixingNumbers) -> bool
     ensures { λ r. ⌜ r ≡ numbersInRange numbers ⌝ }
 {
     is_between(1, 200000, numbers.dollar)
-        && (is_between(5000, 20000, numbers.reference_factor)
-            && numbers.first_month <= LAST_MONTH)
+        & is_between(5000, 20000, numbers.reference_factor)
+        & (numbers.first_month <= LAST_MONTH)
 }
 
 // Whether the dollar, the reference factor, the first month and every word of every line are in their ranges.

@@ -1,16 +1,12 @@
--- Each way out is the definition at the tests that led there.
-use borrow.Author.Tests.{le-leb, lt-leb}
+-- The code is the definition.
+use mathlib.Core.Path.{refl}
 use Rattle.numbers.specs.Units.{between}
 use Rattle.numbers.proofs.units.is_between.Statement.{statement}
 use Rattle.numbers.proofs.units.is_between.Tie as tie
 
 returns : tie.Need-returns
 unfolding between
-returns c = rw (le-leb _ _ (c .if1 .taken))
-
-returns-2 : tie.Need-returns-2
-unfolding between
-returns-2 c = rw (lt-leb _ _ (c .if1 .left))
+returns c = refl
 
 pub is-between-spec : {M : Type 1} → statement M
-is-between-spec = tie.close (tie.spec returns returns-2)
+is-between-spec = tie.close (tie.spec returns)

@@ -22,10 +22,10 @@ abbrev sector : List ℤ → List ℕ → List ℕ → ℕ → ℕ → ℤ
 sector charges readings losses i s = chargeAt charges i s *ℤ energyWithLosses readings losses i s
 
 abbrev Inv-loop : tie.InvT-loop
-Inv-loop charges readings losses n i sum₀ s₀ sum s = (s ≤ 8) × (sum ≡ ofZ w64 (signedSumBelow s (sector charges readings losses i)))
+Inv-loop n charges readings losses i sum₀ s₀ sum s = (s ≤ 8) × (sum ≡ ofZ w64 (signedSumBelow s (sector charges readings losses i)))
 
 abbrev μ-loop : tie.MeasureT-loop
-μ-loop charges readings losses n i sum₀ s₀ sum s = 8 - s
+μ-loop n charges readings losses i sum₀ s₀ sum s = 8 - s
 
 -- the bounds of a distributor's sectors
 module _ (d : tie.Start Inv-loop μ-loop) where
@@ -37,11 +37,11 @@ module _ (d : tie.Start Inv-loop μ-loop) where
       size-fits (f s)
       (omega (
         arith,
-        sector-amount (d .args .charges .now) _ _ _ (d .pre .0 .facts (d .args .i) (d .pre .1)) (λ k. d .pre .0 .bounded (d .args .i) k (d .pre .1)) s p,
+        sector-amount (d .args .charges .now) _ _ _ (d .pre .0 .billed .facts (d .args .i) (d .pre .1)) (λ k. d .pre .0 .bounded (d .args .i) k (d .pre .1)) s p,
       ))
 
   size : (s : ℕ) → s ≤ 8 → natAbs (signedSumBelow s f) ≤ 1008000000000000000
-  size = sectors-amount (d .args .charges .now) _ _ _ (d .pre .0 .facts (d .args .i) (d .pre .1)) (λ k. d .pre .0 .bounded (d .args .i) k (d .pre .1))
+  size = sectors-amount (d .args .charges .now) _ _ _ (d .pre .0 .billed .facts (d .args .i) (d .pre .1)) (λ k. d .pre .0 .bounded (d .args .i) k (d .pre .1))
 
   all : (s : ℕ) → s ≤ 8 → SFits w64 (signedSumBelow s f)
   all s p = size-fits (signedSumBelow s f) (omega (arith, size s p))

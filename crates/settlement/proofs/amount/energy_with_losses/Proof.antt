@@ -11,7 +11,8 @@ use mir.Facts.{toZ-ofZ}
 use borrow.Author.Needs.{needs, sfits-of}
 use Rattle.numbers.specs.Rounding.{halfAway}
 use Rattle.numbers.proofs.SignedLaws.{pos-sub-zero, is-fits, sum-bits, product-bits}
-use Rattle.settlement.specs.Amount.{readingOf, highLossOf, lowLossOf, highNet, lowNet, energyWithLosses, BillingFacts}
+use Rattle.settlement.specs.Amount.{readingOf, highLossOf, lowLossOf, highNet, lowNet, energyWithLosses}
+use Rattle.settlement.specs.Required.{BillingFacts}
 use Rattle.settlement.proofs.AmountLaws.{high-first, high-product, low-product, products-size}
 use Rattle.settlement.proofs.amount.energy_with_losses.Statement.{statement}
 use Rattle.settlement.proofs.amount.energy_with_losses.Tie as tie

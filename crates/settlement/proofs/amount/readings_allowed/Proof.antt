@@ -2,19 +2,17 @@
 use Prim.Native.Nat.{_-_}
 use native.Mathlib.Omega.{arith}
 use borrow.Author.Needs.{needs}
-use Rattle.numbers.specs.Bounded.{allBelow}
 use Rattle.numbers.proofs.BoolLaws.{told-true, told-false}
 use Rattle.numbers.proofs.TestLaws.{Tested, tested-none, tested-more, tested-fails, tested-all}
-use Rattle.settlement.specs.Amount.{presentAt, readingOf, readingAllowed, readingsAllowed}
+use Rattle.settlement.specs.Amount.{sectorAllowed, readingsAllowed}
 use Rattle.settlement.proofs.amount.readings_allowed.Statement.{statement}
 use Rattle.settlement.proofs.amount.readings_allowed.Tie as tie
 
 abbrev Inv-loop : tie.InvT-loop
-Inv-loop present readings n i s₀ s =
-    Tested 8 (λ r. allBelow 4 (λ k. readingAllowed (presentAt present i r) (readingOf readings i r k))) s
+Inv-loop n present readings i s₀ s = Tested 8 (sectorAllowed present readings i) s
 
 abbrev μ-loop : tie.MeasureT-loop
-μ-loop present readings n i s₀ s = 8 - s
+μ-loop n present readings i s₀ s = 8 - s
 
 loop-holds : tie.Need-loop-holds Inv-loop μ-loop
 loop-holds c = tested-none _ _

@@ -1,45 +1,26 @@
--- The invariant: each reading passed is allowed.
-use Prim.Native.Nat.{_-_}
+-- The four tests are the definition's, at the greatest reading of the sector.
 use native.Mathlib.Omega.{arith}
 use borrow.Author.Needs.{needs}
-use Rattle.numbers.proofs.BoolLaws.{told-true, told-false}
-use Rattle.numbers.proofs.TestLaws.{Tested, tested-none, tested-more, tested-fails, tested-all}
-use Rattle.settlement.specs.Amount.{readingOf, readingAllowed}
+use Rattle.numbers.specs.Bounded.{allBelow}
+use Rattle.settlement.specs.Amount.{readingAllowed, sectorAllowed}
 use Rattle.settlement.proofs.amount.sector_allowed.Statement.{statement}
 use Rattle.settlement.proofs.amount.sector_allowed.Tie as tie
 
-abbrev Inv-loop : tie.InvT-loop
-Inv-loop present readings n i s here k₀ k = Tested 4 (λ j. readingAllowed here (readingOf readings i s j)) k
-
-abbrev μ-loop : tie.MeasureT-loop
-μ-loop present readings n i s here k₀ k = 4 - k
-
-loop-holds : tie.Need-loop-holds Inv-loop μ-loop
-loop-holds c = tested-none _ _
-
-returns : tie.Need-returns Inv-loop μ-loop
+returns : tie.Need-returns
+unfolding sectorAllowed allBelow readingAllowed
 returns c =
-    tested-fails (c .before .before .before .before .loop .inv) (omega arith)
-    (told-false (rw (c .before .before .reading .ensures) at (c .before .reading-allowed .ensures)) (c .if1 .taken))
-
-loop-again : tie.Need-loop-again Inv-loop μ-loop
-loop-again c =
-    tested-more (c .before .before .before .before .loop .inv) (omega arith)
-    (told-true (rw (c .before .before .reading .ensures) at (c .before .reading-allowed .ensures)) (c .if1 .left))
-
-returns-2 : tie.Need-returns-2 Inv-loop μ-loop
-returns-2 c = tested-all (c .before .loop .inv) (omega arith)
+    rw (
+      c .before .before .before .before .most-reading .ensures,
+      c .before .before .before .reading .ensures,
+      c .before .before .reading2 .ensures,
+      c .before .reading3 .ensures,
+      c .reading4 .ensures,
+    )
 
 pub sector-allowed-spec : {M : Type 1} → statement M
 sector-allowed-spec =
     tie.close
     (tie.spec
-    Inv-loop
-    μ-loop
     (λ c. omega arith) (λ c. omega arith) (λ c. omega arith)
-    loop-holds
-    (λ c κs. search needs) (λ c κs. search needs)
-    returns
-    (λ c. omega arith) (λ c. omega arith)
-    loop-again
-    returns-2)
+    (λ c κs. search needs) (λ c κs. search needs) (λ c κs. search needs) (λ c κs. search needs) (λ c κs. search needs)
+    returns)

@@ -7,7 +7,7 @@ use mir.Syntax.{w64}
 use mir.Val.{SFits, toZ, ofZ}
 use mir.Facts.{toZ-ofZ}
 use Rattle.settlement.specs.Month.{moneyAt, moneyBelow, movedMonth}
-use Rattle.settlement.specs.declared.month.Settled.{Settled}
+use Rattle.settlement.specs.declared.month.SettledMonth.{SettledMonth}
 use Rattle.numbers.proofs.SignedLaws.{is-fits, sum-bits}
 use Rattle.settlement.proofs.MonthLaws.{money-none, money-next, moved-size}
 use Rattle.settlement.proofs.month.moved.Statement.{statement}
@@ -72,7 +72,7 @@ returns : tie.Need-returns Inv-loop μ-loop
 unfolding movedMonth
 returns c =
     let e : c .before .loop .i ≡ c .before .before .args .n = omega arith in
-    ap₂ {C = Settled} (λ b t. record { balances = b; transfers = t }) (rw e at (c .before .loop .inv .1)) (rw e at (c .before .loop .inv .2))
+    ap₂ {C = SettledMonth} (λ b t. record { balances = b; transfers = t }) (rw e at (c .before .loop .inv .1)) (rw e at (c .before .loop .inv .2))
 
 pub moved-spec : {M : Type 1} → statement M
 moved-spec =

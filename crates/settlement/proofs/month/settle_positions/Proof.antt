@@ -8,7 +8,8 @@ use lib.IntN.{ℤ}
 use lib.ListN.{getD}
 use Rattle.settlement.specs.Share.{sideTotal}
 use Rattle.settlement.specs.Settlement.{owing, owed, sideSize, transferred}
-use Rattle.settlement.specs.Month.{moneyAt, shareList, movedMonth, Side}
+use Rattle.settlement.specs.Month.{moneyAt, shareList, movedMonth}
+use Rattle.settlement.specs.Required.{Side}
 use Rattle.settlement.proofs.MonthLaws.{sizes-total, sizes-within, shares-within, moved-settled}
 use borrow.Author.Needs.{needs}
 use Rattle.settlement.proofs.month.settle_positions.Statement.{statement}

@@ -1,6 +1,4 @@
--- Passed, the definition is its last test; a test that fails makes it false, whatever the others say.
-use mathlib.Core.Bool.{and-false}
-use borrow.Author.Tests.{lt-ltb, le-ltb}
+-- The tests are the definition's.
 use borrow.Author.Needs.{needs}
 use Rattle.supply.specs.Range.{headInRange}
 use Rattle.supply.proofs.range.head_in_range.Statement.{statement}
@@ -9,51 +7,16 @@ use Rattle.supply.proofs.range.head_in_range.Tie as tie
 returns : tie.Need-returns
 unfolding headInRange
 returns c =
-    let five = c .before in
-    let four = five .before .before in
-    let three = four .before .before in
-    let two = three .before .before in
-    let one = two .before .before in
     rw (
-      lt-ltb _ _ (one .if1 .taken),
-      ← two .before .is-between .ensures,
-      two .if2 .taken,
-      ← three .before .is-between2 .ensures,
-      three .if3 .taken,
-      ← four .before .is-between3 .ensures,
-      four .if4 .taken,
-      ← five .before .is-between4 .ensures,
-      five .if5 .taken,
+      ← c .before .before .before .before .is-between .ensures,
+      ← c .before .before .before .is-between2 .ensures,
+      ← c .before .before .is-between3 .ensures,
+      ← c .before .is-between4 .ensures,
     )
-
-returns-2 : tie.Need-returns-2
-unfolding headInRange
-returns-2 c = rw (← c .before .is-between4 .ensures, c .if5 .left) (simp and-false)
-
-returns-3 : tie.Need-returns-3
-unfolding headInRange
-returns-3 c = rw (← c .before .is-between3 .ensures, c .if4 .left) (simp and-false)
-
-returns-4 : tie.Need-returns-4
-unfolding headInRange
-returns-4 c = rw (← c .before .is-between2 .ensures, c .if3 .left) (simp and-false)
-
-returns-5 : tie.Need-returns-5
-unfolding headInRange
-returns-5 c = rw (← c .before .is-between .ensures, c .if2 .left) (simp and-false)
-
-returns-6 : tie.Need-returns-6
-unfolding headInRange
-returns-6 c = rw (le-ltb _ _ (c .if1 .left))
 
 pub head-in-range-spec : {M : Type 1} → statement M
 head-in-range-spec =
     tie.close
     (tie.spec
     (λ c κs. search needs) (λ c κs. search needs) (λ c κs. search needs) (λ c κs. search needs)
-    returns
-    returns-2
-    returns-3
-    returns-4
-    returns-5
-    returns-6)
+    returns)
