@@ -13,7 +13,7 @@ use Rattle.numbers.specs.declared.units.Pesos.{Pesos}
 use Rattle.numbers.proofs.ListLaws.{list-length}
 use Rattle.settlement.specs.Month.{moneyAt}
 use Rattle.ledger.specs.Fix.{fixingAnswered}
-use Rattle.ledger.specs.declared.book.Ledger.{Ledger}
+use Rattle.ledger.specs.declared.ledger.Ledger.{Ledger}
 use Rattle.ledger.specs.declared.fix.FixingAnswer.{FixingAnswer}
 use Rattle.ledger.specs.declared.fix.FixingAnswer.the-variants.{Accepted, Refused}
 use Rattle.store.specs.Store.{truthWord, keptCount, presentWords, chargeWords, balanceWords}
@@ -105,16 +105,16 @@ signed-list-size name list =
     rw (length-append, length-append)
     (omega (arith, named-size name (length list), texts-size (length list) 22 (λ k. signedWord (getD list k (pos 0))) (λ k. signed-word-size (getD list k (pos 0)))))
 
-numbers-size : (book : Ledger) → length (numbersText book) ≤ 110
+numbers-size : (ledger : Ledger) → length (numbersText ledger) ≤ 110
 unfolding numbersText
-numbers-size book =
+numbers-size ledger =
     rw (length-append, length-append, length-append, length-append, length-append)
-    (omega (arith, named-size loadName (book .n), word-size (book .months), word-size (book .last), word-size (truthWord (book .fixed)), word-size (book .month)))
+    (omega (arith, named-size loadName (ledger .n), word-size (ledger .months), word-size (ledger .last), word-size (truthWord (ledger .fixed)), word-size (ledger .month)))
 
-pub saving-size : (book : Ledger) → length (savingText book) ≤ 262144
+pub saving-size : (ledger : Ledger) → length (savingText ledger) ≤ 262144
 unfolding savingText presentWords chargeWords balanceWords
-saving-size book =
-    let places = keptCount book * sectorCount in
-    let few : keptCount book ≤ 40 = kept-most book in
+saving-size ledger =
+    let places = keptCount ledger * sectorCount in
+    let few : keptCount ledger ≤ 40 = kept-most ledger in
     rw (length-append, length-append, length-append)
-    (omega (arith, few, numbers-size book, rw list-length at (list-size presentName (presentWords (book .force) places)), rw list-length at (signed-list-size chargesName (chargeWords (book .force) places)), rw list-length at (signed-list-size balancesName (balanceWords (book .balances) (keptCount book)))))
+    (omega (arith, few, numbers-size ledger, rw list-length at (list-size presentName (presentWords (ledger .force) places)), rw list-length at (signed-list-size chargesName (chargeWords (ledger .force) places)), rw list-length at (signed-list-size balancesName (balanceWords (ledger .balances) (keptCount ledger)))))

@@ -14,7 +14,7 @@ use Rattle.numbers.specs.declared.units.PesoPrice.{PesoPrice}
 use Rattle.numbers.specs.declared.units.Pesos.{Pesos}
 use Rattle.settlement.specs.Month.{moneyAt}
 use Rattle.ledger.specs.Fix.{fixingAnswered}
-use Rattle.ledger.specs.declared.book.Ledger.{Ledger}
+use Rattle.ledger.specs.declared.ledger.Ledger.{Ledger}
 use Rattle.ledger.specs.declared.fix.FixingAnswer.{FixingAnswer}
 use Rattle.ledger.specs.declared.fix.FixingAnswer.the-variants.{Accepted, Refused}
 use Rattle.store.specs.Store.{truthWord, keptCount, presentWords, chargeWords, balanceWords}
@@ -108,14 +108,14 @@ signedListText name list =
 
 -- "`save` prints the ledger as a `load` command: N MONTHS LAST FIXED MONTH on the first line"
 unfoldable pub numbersText : Ledger → List ℕ
-numbersText book =
-    named loadName (book .n) ++ word (book .months) ++ word (book .last) ++ word (truthWord (book .fixed))
-    ++ word (book .month) ++ lineEnd ∷ []
+numbersText ledger =
+    named loadName (ledger .n) ++ word (ledger .months) ++ word (ledger .last) ++ word (truthWord (ledger .fixed))
+    ++ word (ledger .month) ++ lineEnd ∷ []
 
 -- "then a line each for present, charges .. and balances"
 unfoldable pub savingText : Ledger → List ℕ
-savingText book =
-    let places = keptCount book * sectorCount in
-    numbersText book ++ listText presentName (presentWords (book .force) places)
-    ++ signedListText chargesName (chargeWords (book .force) places)
-    ++ signedListText balancesName (balanceWords (book .balances) (keptCount book))
+savingText ledger =
+    let places = keptCount ledger * sectorCount in
+    numbersText ledger ++ listText presentName (presentWords (ledger .force) places)
+    ++ signedListText chargesName (chargeWords (ledger .force) places)
+    ++ signedListText balancesName (balanceWords (ledger .balances) (keptCount ledger))

@@ -2,7 +2,7 @@
 ghost use mathlib.Core.Path.{_≡_};
 ghost use Rattle.text.specs.Buffer.{bufferOf, written};
 ghost use Rattle.answers.specs.Answer.{listText, signedListText, numbersText, savingText};
-use ledger::book::Ledger;
+use ledger::ledger::Ledger;
 use numbers::sizes::SECTORS;
 use store::save::save;
 use store::save::truth_word;

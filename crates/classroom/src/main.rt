@@ -75,13 +75,13 @@ fn print_distributor(number: u64, average: i64, price: i64, charge: i64) {
 
 fn main() {
     let opening = open(3);
-    let book = opening.ledger;
+    let ledger = opening.ledger;
     let series = [0u64; 240];
     let lines = lines();
     let sectors = sectors();
     let mut prices = [0i64; 9];
     let outcome = fix(
-        book,
+        ledger,
         0,
         100000,
         10000,

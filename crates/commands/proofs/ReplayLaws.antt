@@ -30,32 +30,32 @@ use Rattle.numbers.specs.Units.{between}
 use Rattle.ledger.specs.Ledger.{emptyLedger, openingChecks, openingVerdict, openingLedger}
 use Rattle.ledger.specs.Fix.{fixingCallOf}
 use Rattle.ledger.specs.Settle.{settlementCallOf}
-use Rattle.ledger.specs.declared.book.Ledger.{Ledger}
+use Rattle.ledger.specs.declared.ledger.Ledger.{Ledger}
 use Rattle.store.specs.Store.{loadedLedger}
 use Rattle.commands.specs.Replay.{unwritten, fixingCall, settlementCall, keptLedger, commandNext, commandLedger, stepOf, stepAfter, readWith, replayFrom, longestText, replayed}
 use Rattle.commands.specs.declared.run.Step.{Step}
 
 abbrev pub stepBy : Ledger → Cursor → Step
-stepBy book next = record { ledger = book; next = next }
+stepBy ledger next = record { ledger = ledger; next = next }
 
 -- a command that is broken is not made; another is
-module _ (command : Command) (text : List ℕ) (cursor : Cursor) (book : Ledger) (next : Cursor) (e : next ≡ commandNext command text cursor) where
-  pub step-broken : next .broken ≡ true → stepBy book next ≡ stepOf command text cursor book
+module _ (command : Command) (text : List ℕ) (cursor : Cursor) (ledger : Ledger) (next : Cursor) (e : next ≡ commandNext command text cursor) where
+  pub step-broken : next .broken ≡ true → stepBy ledger next ≡ stepOf command text cursor ledger
   unfolding stepOf
   step-broken b = rw (← e, b)
 
-  pub step-made : next .broken ≡ false → (after : Ledger) → after ≡ commandLedger command text cursor book → stepBy after next ≡ stepOf command text cursor book
+  pub step-made : next .broken ≡ false → (after : Ledger) → after ≡ commandLedger command text cursor ledger → stepBy after next ≡ stepOf command text cursor ledger
   unfolding stepOf
   step-made b after h = rw (← e, b, h)
 
 -- the step of the command that was read
-module _ (text : List ℕ) (at : ℕ) (book : Ledger) (read : CommandRead) (e : read ≡ commandAfter text at) where
-  pub step-read : (command : Command) → read .command ≡ command → (step : Step) → step ≡ stepOf command text (read .next) book → step ≡ stepAfter text at book
+module _ (text : List ℕ) (at : ℕ) (ledger : Ledger) (read : CommandRead) (e : read ≡ commandAfter text at) where
+  pub step-read : (command : Command) → read .command ≡ command → (step : Step) → step ≡ stepOf command text (read .next) ledger → step ≡ stepAfter text at ledger
   unfolding stepAfter
   step-read command h step s =
       s
-      ∙ ap (λ c. stepOf c text (read .next) book) (sym h)
-      ∙ ap (λ (r : CommandRead). stepOf (r .command) text (r .next) book) e
+      ∙ ap (λ c. stepOf c text (read .next) ledger) (sym h)
+      ∙ ap (λ (r : CommandRead). stepOf (r .command) text (r .next) ledger) e
 
   pub read-within : at ≤ length text → read .next .at ≤ length text
   read-within p = rw e (command-within text at p)
@@ -141,59 +141,59 @@ module _ (text : List ℕ) (at : ℕ) (p : at < length text) where
   unfolding commandAfter
   word-later h = word-by (isUnknown (commandIn text start end)) h
 
-  module _ (book : Ledger) where
-    onward : Onward text (commandAfter text at .next) (stepAfter text at book .next)
+  module _ (ledger : Ledger) where
+    onward : Onward text (commandAfter text at .next) (stepAfter text at ledger .next)
     unfolding stepAfter stepOf
     onward = command-onward (commandAfter text at .command) text (commandAfter text at .next) (command-within text at (omega arith))
 
-    step-within : stepAfter text at book .next .at ≤ length text
+    step-within : stepAfter text at ledger .next .at ≤ length text
     step-within = onward .within
 
-    step-later : stepAfter text at book .next .broken ≡ false → at < stepAfter text at book .next .at
+    step-later : stepAfter text at ledger .next .broken ≡ false → at < stepAfter text at ledger .next .at
     step-later h = omega (arith, word-later (onward .whole h), onward .later h)
 
 -- past the text no command is made
-pub replay-none : (left : ℕ) (text : List ℕ) (at : ℕ) (book : Ledger) → length text ≤ at → replayFrom left text at book ≡ readWith book at
+pub replay-none : (left : ℕ) (text : List ℕ) (at : ℕ) (ledger : Ledger) → length text ≤ at → replayFrom left text at ledger ≡ readWith ledger at
 unfolding replayFrom
-replay-none zero text at book h = refl
-replay-none (suc left) text at book h = rw (le-ltb at (length text) h)
+replay-none zero text at ledger h = refl
+replay-none (suc left) text at ledger h = rw (le-ltb at (length text) h)
 
 -- as many commands as bytes are enough: one command, and those after it
-module _ (k m : ℕ) (text : List ℕ) (same : (at : ℕ) (book : Ledger) → length text - at ≤ k → length text - at ≤ m → replayFrom k text at book ≡ replayFrom m text at book) (at : ℕ) (book : Ledger) (p : length text - at ≤ suc k) (q : length text - at ≤ suc m) where
+module _ (k m : ℕ) (text : List ℕ) (same : (at : ℕ) (ledger : Ledger) → length text - at ≤ k → length text - at ≤ m → replayFrom k text at ledger ≡ replayFrom m text at ledger) (at : ℕ) (ledger : Ledger) (p : length text - at ≤ suc k) (q : length text - at ≤ suc m) where
   abbrev step : Step
-  step = stepAfter text at book
+  step = stepAfter text at ledger
 
   by : (b : Bool) → at < length text → step .next .broken ≡ b → cond b step (replayFrom k text (step .next .at) (step .ledger)) ≡ cond b step (replayFrom m text (step .next .at) (step .ledger))
   by true h e = refl
   by false h e =
-      same (step .next .at) (step .ledger) (omega (arith, step-later text at h book e)) (omega (arith, step-later text at h book e))
+      same (step .next .at) (step .ledger) (omega (arith, step-later text at h ledger e)) (omega (arith, step-later text at h ledger e))
 
-  one-more : Dec (at < length text) → replayFrom (suc k) text at book ≡ replayFrom (suc m) text at book
+  one-more : Dec (at < length text) → replayFrom (suc k) text at ledger ≡ replayFrom (suc m) text at ledger
   unfolding replayFrom
   one-more (yes h) = rw (lt-ltb at (length text) h) (by (step .next .broken) h refl)
   one-more (no h) = rw (le-ltb at (length text) (omega arith))
 
-enough : (k m : ℕ) (text : List ℕ) (at : ℕ) (book : Ledger) → length text - at ≤ k → length text - at ≤ m → replayFrom k text at book ≡ replayFrom m text at book
-enough zero m text at book p q = replay-none zero text at book (omega arith) ∙ sym (replay-none m text at book (omega arith))
-enough (suc k) zero text at book p q = replay-none (suc k) text at book (omega arith) ∙ sym (replay-none zero text at book (omega arith))
-enough (suc k) (suc m) text at book p q = one-more k m text (λ a b r s. enough k m text a b r s) at book p q (decLt at (length text))
+enough : (k m : ℕ) (text : List ℕ) (at : ℕ) (ledger : Ledger) → length text - at ≤ k → length text - at ≤ m → replayFrom k text at ledger ≡ replayFrom m text at ledger
+enough zero m text at ledger p q = replay-none zero text at ledger (omega arith) ∙ sym (replay-none m text at ledger (omega arith))
+enough (suc k) zero text at ledger p q = replay-none (suc k) text at ledger (omega arith) ∙ sym (replay-none zero text at ledger (omega arith))
+enough (suc k) (suc m) text at ledger p q = one-more k m text (λ a b r s. enough k m text a b r s) at ledger p q (decLt at (length text))
 
 -- one command on: the journal's ledger is that of the rest, or, where the command is broken, the ledger at hand
-module _ (text : List ℕ) (at : ℕ) (p : at < length text) (book : Ledger) (step : Step) (e : step ≡ stepAfter text at book) where
-  unrolled : replayFrom (length text - at) text at book ≡ replayFrom (suc (length text - (at + 1))) text at book
-  unrolled = ap (λ k. replayFrom k text at book) (omega arith)
+module _ (text : List ℕ) (at : ℕ) (p : at < length text) (ledger : Ledger) (step : Step) (e : step ≡ stepAfter text at ledger) where
+  unrolled : replayFrom (length text - at) text at ledger ≡ replayFrom (suc (length text - (at + 1))) text at ledger
+  unrolled = ap (λ k. replayFrom k text at ledger) (omega arith)
 
   pub next-within : step .next .at ≤ length text
-  next-within = rw e (step-within text at p book)
+  next-within = rw e (step-within text at p ledger)
 
   pub next-later : step .next .broken ≡ false → at < step .next .at
-  next-later = rw e (step-later text at p book)
+  next-later = rw e (step-later text at p ledger)
 
-  pub replay-broken : step .next .broken ≡ true → replayFrom (length text - at) text at book ≡ step
+  pub replay-broken : step .next .broken ≡ true → replayFrom (length text - at) text at ledger ≡ step
   unfolding replayFrom
   replay-broken b = unrolled ∙ rw (lt-ltb at (length text) p, ← e, b)
 
-  pub replay-on : step .next .broken ≡ false → replayFrom (length text - at) text at book ≡ replayFrom (length text - step .next .at) text (step .next .at) (step .ledger)
+  pub replay-on : step .next .broken ≡ false → replayFrom (length text - at) text at ledger ≡ replayFrom (length text - step .next .at) text (step .next .at) (step .ledger)
   unfolding replayFrom
   replay-on b =
       let later : at < step .next .at = next-later b in
@@ -211,6 +211,6 @@ pub short : (text : List ℕ) → length text ≤ longestText → {step : Step} 
 unfolding replayed
 short text p e = rw (le-ltb longestText (length text) p) e
 
-pub long : (text : List ℕ) → longestText < length text → (book : Ledger) (next : Cursor) → book ≡ emptyLedger 0 → next ≡ brokenAt longestText → stepBy book next ≡ replayed text
+pub long : (text : List ℕ) → longestText < length text → (ledger : Ledger) (next : Cursor) → ledger ≡ emptyLedger 0 → next ≡ brokenAt longestText → stepBy ledger next ≡ replayed text
 unfolding replayed
-long text p book next h k = rw (lt-ltb longestText (length text) p, h, k)
+long text p ledger next h k = rw (lt-ltb longestText (length text) p, h, k)

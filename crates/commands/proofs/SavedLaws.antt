@@ -14,7 +14,7 @@ use Rattle.numbers.proofs.ListLaws.{list-length, list-at}
 use Rattle.settlement.specs.Month.{moneyAt}
 use Rattle.ledger.specs.Ledger.{emptyLedger}
 use Rattle.ledger.specs.Sound.{presentIn, chargeIn}
-use Rattle.ledger.specs.declared.book.Ledger.{Ledger}
+use Rattle.ledger.specs.declared.ledger.Ledger.{Ledger}
 use Rattle.store.specs.Store.{truthWord, keptCount, presentWords, chargeWords, balanceWords}
 use Rattle.store.proofs.StoreLaws.{kept-most, loaded-back}
 use Rattle.text.specs.Text.{lineEnd, word, named}
@@ -32,16 +32,16 @@ use Rattle.commands.specs.Replay.{keptLedger, stepAfter, readWith, repla
 use Rattle.commands.proofs.ReplayLaws.{stepBy, step-made, step-read, replay-none, replay-on, short}
 
 -- what every ledger of the machine meets: its numbers fit 64 bits, and its lists have their lengths
-pub record MachineLedger (book : Ledger) : Type 0 where
-  pub n : book .n < 2 ^ 64
-  pub months : book .months < 2 ^ 64
-  pub last : book .last < 2 ^ 64
-  pub month : book .month < 2 ^ 64
-  pub presences : length (book .force .present) ≡ sectorPlaces
-  pub charged : length (book .force .charges) ≡ sectorPlaces
-  pub balanced : length (book .balances) ≡ mostDistributors
-  pub charges : (k : ℕ) → k < sectorPlaces → SFits w64 (chargeIn (book .force) k)
-  pub balances : (i : ℕ) → i < mostDistributors → SFits w64 (moneyAt (book .balances) i)
+pub record MachineLedger (ledger : Ledger) : Type 0 where
+  pub n : ledger .n < 2 ^ 64
+  pub months : ledger .months < 2 ^ 64
+  pub last : ledger .last < 2 ^ 64
+  pub month : ledger .month < 2 ^ 64
+  pub presences : length (ledger .force .present) ≡ sectorPlaces
+  pub charged : length (ledger .force .charges) ≡ sectorPlaces
+  pub balanced : length (ledger .balances) ≡ mostDistributors
+  pub charges : (k : ℕ) → k < sectorPlaces → SFits w64 (chargeIn (ledger .force) k)
+  pub balances : (i : ℕ) → i < mostDistributors → SFits w64 (moneyAt (ledger .balances) i)
 
 -- a list's text, and what stands after it
 list-text : (name list tail : List ℕ) → lineEnd ∷ (listText name list ++ tail) ≡ listLine name list (lineEnd ∷ tail)
@@ -59,68 +59,68 @@ truth-small : (b : Bool) → truthWord b ≤ 1
 truth-small true = omega arith
 truth-small false = omega arith
 
-module _ (book : Ledger) where
+module _ (ledger : Ledger) where
   abbrev places : ℕ
-  places = keptCount book * sectorCount
+  places = keptCount ledger * sectorCount
 
   -- the words that `save` prints
   abbrev savedWords : LoadWords
   savedWords =
       record {
-        n = book .n;
-        months = book .months;
-        last = book .last;
-        fixed = truthWord (book .fixed);
-        month = book .month;
-        present = presentWords (book .force) places;
-        charges = chargeWords (book .force) places;
-        balances = balanceWords (book .balances) (keptCount book);
+        n = ledger .n;
+        months = ledger .months;
+        last = ledger .last;
+        fixed = truthWord (ledger .fixed);
+        month = ledger .month;
+        present = presentWords (ledger .force) places;
+        charges = chargeWords (ledger .force) places;
+        balances = balanceWords (ledger .balances) (keptCount ledger);
       }
 
-  saved-text : savingText book ≡ loadName ++ loadText savedWords
+  saved-text : savingText ledger ≡ loadName ++ loadText savedWords
   unfolding savingText numbersText named
   saved-text =
       let present : List ℕ = listText presentName (savedWords .present) in
       let charges : List ℕ = signedListText chargesName (savedWords .charges) in
       let balances : List ℕ = signedListText balancesName (savedWords .balances) in
-      let numbers : List ℕ → List ℕ = λ l. loadName ++ (word (book .n) ++ (word (book .months) ++ (word (book .last) ++ (word (truthWord (book .fixed)) ++ (word (book .month) ++ l))))) in
-      append-assoc (numbersText book ++ present) charges balances
-      ∙ append-assoc (numbersText book) present (charges ++ balances)
-      ∙ numbers-text loadName (word (book .n)) (word (book .months)) (word (book .last)) (word (truthWord (book .fixed))) (word (book .month)) (present ++ (charges ++ balances))
+      let numbers : List ℕ → List ℕ = λ l. loadName ++ (word (ledger .n) ++ (word (ledger .months) ++ (word (ledger .last) ++ (word (truthWord (ledger .fixed)) ++ (word (ledger .month) ++ l))))) in
+      append-assoc (numbersText ledger ++ present) charges balances
+      ∙ append-assoc (numbersText ledger) present (charges ++ balances)
+      ∙ numbers-text loadName (word (ledger .n)) (word (ledger .months)) (word (ledger .last)) (word (truthWord (ledger .fixed))) (word (ledger .month)) (present ++ (charges ++ balances))
       ∙ ap numbers (list-text presentName (savedWords .present) (charges ++ balances))
       ∙ ap (λ l. numbers (listLine presentName (savedWords .present) l)) (signed-list-text chargesName (savedWords .charges) balances)
       ∙ ap (λ l. numbers (listLine presentName (savedWords .present) (signedListLine chargesName (savedWords .charges) l)))
       (ap (λ (l : List ℕ). lineEnd ∷ l) (sym (append-nil balances)) ∙ signed-list-text balancesName (savedWords .balances) [])
 
-  module _ (m : MachineLedger book) where
+  module _ (m : MachineLedger ledger) where
     places-few : places ≤ sectorPlaces
-    places-few = omega (arith, kept-most book)
+    places-few = omega (arith, kept-most ledger)
 
     saved-fits : LoadFits savedWords
     unfolding presentWords chargeWords balanceWords
     saved-fits =
-        let present : ℕ → ℕ = λ j. truthWord (presentIn (book .force) j) in
+        let present : ℕ → ℕ = λ j. truthWord (presentIn (ledger .force) j) in
         record {
           n = m .n;
           months = m .months;
           last = m .last;
-          fixed = truth-small (book .fixed);
+          fixed = truth-small (ledger .fixed);
           month = m .month;
           presents = rw (list-length present places) places-few;
-          present = λ i p. let q : i < places = omega (arith, list-length present places) in rw (list-at present places 0 i q) (truth-small (presentIn (book .force) i));
-          charged = rw (list-length (chargeIn (book .force)) places) places-few;
-          charges = λ i p. let q : i < places = omega (arith, list-length (chargeIn (book .force)) places) in rw (list-at (chargeIn (book .force)) places (pos 0) i q) (m .charges i (omega (arith, places-few)));
-          balanced = rw (list-length (moneyAt (book .balances)) (keptCount book)) (kept-most book);
-          balances = λ i p. let q : i < keptCount book = omega (arith, list-length (moneyAt (book .balances)) (keptCount book)) in rw (list-at (moneyAt (book .balances)) (keptCount book) (pos 0) i q) (m .balances i (omega (arith, kept-most book)));
+          present = λ i p. let q : i < places = omega (arith, list-length present places) in rw (list-at present places 0 i q) (truth-small (presentIn (ledger .force) i));
+          charged = rw (list-length (chargeIn (ledger .force)) places) places-few;
+          charges = λ i p. let q : i < places = omega (arith, list-length (chargeIn (ledger .force)) places) in rw (list-at (chargeIn (ledger .force)) places (pos 0) i q) (m .charges i (omega (arith, places-few)));
+          balanced = rw (list-length (moneyAt (ledger .balances)) (keptCount ledger)) (kept-most ledger);
+          balances = λ i p. let q : i < keptCount ledger = omega (arith, list-length (moneyAt (ledger .balances)) (keptCount ledger)) in rw (list-at (moneyAt (ledger .balances)) (keptCount ledger) (pos 0) i q) (m .balances i (omega (arith, kept-most ledger)));
         }
 
     -- read as words it is the ledger
     module _ (text : List ℕ) (cursor : Cursor) (l : LoadStands text cursor savedWords) where
-      kept-same : keptLedger text cursor ≡ book
+      kept-same : keptLedger text cursor ≡ ledger
       unfolding keptLedger
       kept-same =
           rw (l .n, l .months, l .last, l .fixed, l .month, l .present, l .charges, l .balances)
-          (loaded-back book (m .presences) (m .charged) (m .balanced))
+          (loaded-back ledger (m .presences) (m .charged) (m .balanced))
 
     module _ (text : List ℕ) (e : text ≡ loadName ++ loadText savedWords) where
       stands : LoadStands text (readTo (length loadName)) savedWords
@@ -129,24 +129,24 @@ module _ (book : Ledger) where
       abbrev next : Cursor
       next = loadAfter text (readTo (length loadName)) .next
 
-      loaded : stepBy book next ≡ stepAfter text 0 (emptyLedger 0)
+      loaded : stepBy ledger next ≡ stepAfter text 0 (emptyLedger 0)
       loaded =
-          step-read text 0 (emptyLedger 0) (commandRead Load (readTo (length loadName))) (load-command (loadText savedWords) (word-ends (book .n) _) ∙ ap (λ (t : List ℕ). commandAfter t 0) (sym e)) Load refl (stepBy book next)
-          (step-made Load text (readTo (length loadName)) (emptyLedger 0) next refl (stands .next .whole) book (sym (kept-same text (readTo (length loadName)) stands)))
+          step-read text 0 (emptyLedger 0) (commandRead Load (readTo (length loadName))) (load-command (loadText savedWords) (word-ends (ledger .n) _) ∙ ap (λ (t : List ℕ). commandAfter t 0) (sym e)) Load refl (stepBy ledger next)
+          (step-made Load text (readTo (length loadName)) (emptyLedger 0) next refl (stands .next .whole) ledger (sym (kept-same text (readTo (length loadName)) stands)))
 
-      ended : readWith book (length text) ≡ stepAfter text (next .at) book
+      ended : readWith ledger (length text) ≡ stepAfter text (next .at) ledger
       ended =
-          step-read text (next .at) book (commandRead End (readTo (length text))) (end-command text (next .at) lineEnd line-gap (stands .next .after)) End refl (readWith book (length text))
-          (step-made End text (readTo (length text)) book (readTo (length text)) refl refl book refl)
+          step-read text (next .at) ledger (commandRead End (readTo (length text))) (end-command text (next .at) lineEnd line-gap (stands .next .after)) End refl (readWith ledger (length text))
+          (step-made End text (readTo (length text)) ledger (readTo (length text)) refl refl ledger refl)
 
-      read-back : replayFrom (length text) text 0 (emptyLedger 0) ≡ readWith book (length text)
+      read-back : replayFrom (length text) text 0 (emptyLedger 0) ≡ readWith ledger (length text)
       read-back =
           ap (λ (k : ℕ). replayFrom k text 0 (emptyLedger 0)) (sym (sub-zero (length text)))
-          ∙ replay-on text 0 (rw e (omega arith)) (emptyLedger 0) (stepBy book next) loaded (stands .next .whole)
-          ∙ replay-on text (next .at) (place-within text (next .at) lineEnd [] (stands .next .after)) book (readWith book (length text)) ended refl
-          ∙ replay-none (length text - length text) text (length text) book (omega arith)
+          ∙ replay-on text 0 (rw e (omega arith)) (emptyLedger 0) (stepBy ledger next) loaded (stands .next .whole)
+          ∙ replay-on text (next .at) (place-within text (next .at) lineEnd [] (stands .next .after)) ledger (readWith ledger (length text)) ended refl
+          ∙ replay-none (length text - length text) text (length text) ledger (omega arith)
 
 -- what `save` prints, a journal takes back as the same ledger
-pub saved-text-loads : (book : Ledger) → MachineLedger book → replayed (savingText book) ≡ readWith book (length (savingText book))
-saved-text-loads book m =
-    sym (short (savingText book) (omega (arith, saving-size book)) (sym (read-back book m (savingText book) (saved-text book))))
+pub saved-text-loads : (ledger : Ledger) → MachineLedger ledger → replayed (savingText ledger) ≡ readWith ledger (length (savingText ledger))
+saved-text-loads ledger m =
+    sym (short (savingText ledger) (omega (arith, saving-size ledger)) (sym (read-back ledger m (savingText ledger) (saved-text ledger))))

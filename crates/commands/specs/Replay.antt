@@ -19,7 +19,7 @@ use Rattle.journal.specs.declared.command.Command.the-variants.{Open, Fix, Sett
 use Rattle.ledger.specs.Ledger.{emptyLedger, openingVerdict, openingLedger}
 use Rattle.ledger.specs.Fix.{FixingCall, fixingCallOf, fixingAnswer, fixingLedger, fixingList}
 use Rattle.ledger.specs.Settle.{SettlementCall, settlementCallOf, settlementVerdict, settlementLedger, settlementList}
-use Rattle.ledger.specs.declared.book.Ledger.{Ledger}
+use Rattle.ledger.specs.declared.ledger.Ledger.{Ledger}
 use Rattle.store.specs.Store.{loadedLedger}
 use Rattle.text.specs.Buffer.{bufferOf, written}
 use Rattle.answers.specs.Answer.{openingText, loadingText, fixingText, settlementText, savingText}
@@ -71,61 +71,61 @@ commandNext End text cursor = cursor
 
 -- the ledger after a command. "A refused `open` leaves the all-zero ledger"
 abbrev pub commandLedger : Command → List ℕ → Cursor → Ledger → Ledger
-commandLedger Open text cursor book = openingLedger (numberAfter text cursor mostWord .value)
-commandLedger Fix text cursor book = fixingLedger book (fixingCall text cursor)
-commandLedger Settle text cursor book = settlementLedger book (settlementCall text cursor)
-commandLedger Save text cursor book = book
-commandLedger Load text cursor book = keptLedger text cursor
-commandLedger Unknown text cursor book = book
-commandLedger End text cursor book = book
+commandLedger Open text cursor ledger = openingLedger (numberAfter text cursor mostWord .value)
+commandLedger Fix text cursor ledger = fixingLedger ledger (fixingCall text cursor)
+commandLedger Settle text cursor ledger = settlementLedger ledger (settlementCall text cursor)
+commandLedger Save text cursor ledger = ledger
+commandLedger Load text cursor ledger = keptLedger text cursor
+commandLedger Unknown text cursor ledger = ledger
+commandLedger End text cursor ledger = ledger
 
 -- what a fixing and a settlement answer
 unfoldable pub fixingPrinted : Ledger → FixingCall → List ℕ
-fixingPrinted book call = fixingText (fixingAnswer book call) (fixingList book call)
+fixingPrinted ledger call = fixingText (fixingAnswer ledger call) (fixingList ledger call)
 
 unfoldable pub settlementPrinted : Ledger → SettlementCall → List ℕ
-settlementPrinted book call =
-    settlementText (settlementVerdict book call) (settlementList book call) (settlementLedger book call .balances)
+settlementPrinted ledger call =
+    settlementText (settlementVerdict ledger call) (settlementList ledger call) (settlementLedger ledger call .balances)
 
 -- what a command answers
 abbrev pub commandAnswer : Command → List ℕ → Cursor → Ledger → List ℕ
-commandAnswer Open text cursor book = openingText (openingVerdict (numberAfter text cursor mostWord .value))
-commandAnswer Fix text cursor book = fixingPrinted book (fixingCall text cursor)
-commandAnswer Settle text cursor book = settlementPrinted book (settlementCall text cursor)
-commandAnswer Save text cursor book = savingText book
-commandAnswer Load text cursor book = loadingText
-commandAnswer Unknown text cursor book = []
-commandAnswer End text cursor book = []
+commandAnswer Open text cursor ledger = openingText (openingVerdict (numberAfter text cursor mostWord .value))
+commandAnswer Fix text cursor ledger = fixingPrinted ledger (fixingCall text cursor)
+commandAnswer Settle text cursor ledger = settlementPrinted ledger (settlementCall text cursor)
+commandAnswer Save text cursor ledger = savingText ledger
+commandAnswer Load text cursor ledger = loadingText
+commandAnswer Unknown text cursor ledger = []
+commandAnswer End text cursor ledger = []
 
 -- "the broken command is not made"
 unfoldable pub stepOf : Command → List ℕ → Cursor → Ledger → Step
-stepOf command text cursor book =
+stepOf command text cursor ledger =
     let next = commandNext command text cursor in
-    record { ledger = cond (next .broken) book (commandLedger command text cursor book); next = next }
+    record { ledger = cond (next .broken) ledger (commandLedger command text cursor ledger); next = next }
 
 unfoldable pub answerOf : Command → List ℕ → Cursor → Ledger → List ℕ
-answerOf command text cursor book =
-    cond (commandNext command text cursor .broken) [] (commandAnswer command text cursor book)
+answerOf command text cursor ledger =
+    cond (commandNext command text cursor .broken) [] (commandAnswer command text cursor ledger)
 
 -- the command that stands next
 unfoldable pub stepAfter : List ℕ → ℕ → Ledger → Step
-stepAfter text at book = let read = commandAfter text at in stepOf (read .command) text (read .next) book
+stepAfter text at ledger = let read = commandAfter text at in stepOf (read .command) text (read .next) ledger
 
 unfoldable pub answerAfter : List ℕ → ℕ → Ledger → List ℕ
-answerAfter text at book = let read = commandAfter text at in answerOf (read .command) text (read .next) book
+answerAfter text at ledger = let read = commandAfter text at in answerOf (read .command) text (read .next) ledger
 
 -- the text is read up to a place, with a ledger
 abbrev pub readWith : Ledger → ℕ → Step
-readWith book at = record { ledger = book; next = readTo at }
+readWith ledger at = record { ledger = ledger; next = readTo at }
 
 -- command after command from a place on, among so many at most, until one is broken or the text ends
 unfoldable pub replayFrom : ℕ → List ℕ → ℕ → Ledger → Step
-replayFrom zero text at book = readWith book at
-replayFrom (suc left) text at book =
-    let step = stepAfter text at book in
+replayFrom zero text at ledger = readWith ledger at
+replayFrom (suc left) text at ledger =
+    let step = stepAfter text at ledger in
     cond (ltb at (length text))
     (cond (step .next .broken) step (replayFrom left text (step .next .at) (step .ledger)))
-    (readWith book at)
+    (readWith ledger at)
 
 -- "more than 524,288 bytes" cannot be read
 abbrev pub longestText : ℕ
@@ -145,11 +145,11 @@ longestAnswer = 262144
 
 -- a command that cannot be read
 abbrev pub unansweredBy : Ledger → Cursor → Answered
-unansweredBy book next = record { step = record { ledger = book; next = next }; count = 0 }
+unansweredBy ledger next = record { step = record { ledger = ledger; next = next }; count = 0 }
 
 -- a call that was made: its ledger, and its answer at the start of a buffer
-pub record CallMade (made : Made) (book : Ledger) (answer found left : List ℕ) : Type 0 where
-  pub booked : made .ledger ≡ book
+pub record CallMade (made : Made) (ledger : Ledger) (answer found left : List ℕ) : Type 0 where
+  pub booked : made .ledger ≡ ledger
   pub answered : bufferOf left (made .count) ≡ written answer (bufferOf found 0)
 
 -- a command that was read, and made where it is whole

@@ -8,7 +8,7 @@ use answers::outcome::UNWRITTEN;
 use answers::prices::write_fixing;
 use answers::transfers::write_settlement;
 use journal::command::FixRead;
-use ledger::book::Ledger;
+use ledger::ledger::Ledger;
 use ledger::fix::fix;
 use ledger::settle::settle;
 

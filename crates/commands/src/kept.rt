@@ -3,7 +3,7 @@ ghost use mathlib.Core.Path.{_≡_};
 ghost use lib.ListN.{length};
 ghost use Rattle.answers.specs.Answer.{savingText};
 ghost use Rattle.commands.specs.Replay.{readWith, replayed};
-use ledger::book::Ledger;
+use ledger::ledger::Ledger;
 
 // The text that `save` prints of a ledger, sound or not, is a journal that loads the same ledger. The function does
 // nothing; its ensures is the statement.

@@ -21,7 +21,7 @@ use journal::cursor::Cursor;
 use journal::cursor::broken_at;
 use journal::cursor::next_number;
 use journal::cursor::read_to;
-use ledger::book::Ledger;
+use ledger::ledger::Ledger;
 use ledger::open::open;
 use libc::STDOUT_FILENO;
 use store::load::load;

@@ -20,7 +20,7 @@ use Rattle.ledger.specs.Ledger.{openingLedger}
 use Rattle.ledger.specs.Fix.{fixingAnswer, fixingAnswered, fixingList}
 use Rattle.ledger.specs.Settle.{SettlementCall, settlementVerdict, settlementLedger, settlementList}
 use Rattle.ledger.specs.Example.{plainLine, plainCall, printCall, printLedger, firstBilling, secondBilling, firstLedger}
-use Rattle.ledger.specs.declared.book.Ledger.{Ledger}
+use Rattle.ledger.specs.declared.ledger.Ledger.{Ledger}
 use Rattle.examples.specs.Table.{Example, whole}
 
 -- a month as a value: -1 where it is below 0
@@ -60,7 +60,7 @@ printAnswered = fixingAnswered (fixingAnswer (openingLedger 3) printCall)
 
 -- 01's number of a settlement
 unfoldable pub settledNumber : Ledger → SettlementCall → ℕ
-settledNumber book call = verdictAnswered [] (settlementVerdict book call) .number
+settledNumber ledger call = verdictAnswered [] (settlementVerdict ledger call) .number
 
 unfoldable pub firstMoney : ℕ → List Pesos → List ℤ
 firstMoney n list = listBelow n (moneyAt list)

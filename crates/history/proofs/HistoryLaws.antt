@@ -21,7 +21,7 @@ use Rattle.ledger.specs.Ledger.{noBalances, emptyLedger, openingChecks, opening
 use Rattle.ledger.specs.Sound.{sound}
 use Rattle.ledger.specs.Fix.{FixingCall, fixingList}
 use Rattle.ledger.specs.Settle.{SettlementCall}
-use Rattle.ledger.specs.declared.book.Ledger.{Ledger}
+use Rattle.ledger.specs.declared.ledger.Ledger.{Ledger}
 use Rattle.ledger.proofs.SoundFacts.{sound-facts}
 use Rattle.ledger.proofs.MoneyLaws.{money-sum}
 use Rattle.ledger.proofs.KeptLaws.{opened-sound, fixing-keeps, settlement-keeps, settlement-adds}
@@ -44,12 +44,12 @@ answer-same plain (settlement call) h = settlement-same plain call h .answer
 
 -- the balances' total
 abbrev total : Ledger → ℤ
-total book = signedSumBelow mostDistributors (moneyAt (book .balances))
+total ledger = signedSumBelow mostDistributors (moneyAt (ledger .balances))
 
-step-keeps : (book : Ledger) (call : Call) → sound book ≡ true → sound (step book call) ≡ true
+step-keeps : (ledger : Ledger) (call : Call) → sound ledger ≡ true → sound (step ledger call) ≡ true
 unfolding step
-step-keeps book (fixing call) h = fixing-keeps book call h
-step-keeps book (settlement call) h = settlement-keeps book call h
+step-keeps ledger (fixing call) h = fixing-keeps ledger call h
+step-keeps ledger (settlement call) h = settlement-keeps ledger call h
 
 module _ (plain : Plain) where
   step-sound : (call : Call) → sound (image plain) ≡ true → sound (image (plainStep plain call)) ≡ true

@@ -22,7 +22,7 @@ use Rattle.fixing.proofs.LimitLaws.{final-limit, rounds-few, collects, smallest
 use Rattle.fixing.proofs.FixingLaws.{final-at, charge-at}
 use Rattle.ledger.specs.Sound.{sound}
 use Rattle.ledger.specs.Fix.{FixingCall, fixingVerdict, fixingList, priceList, priceWord, third}
-use Rattle.ledger.specs.declared.book.Ledger.{Ledger}
+use Rattle.ledger.specs.declared.ledger.Ledger.{Ledger}
 use Rattle.ledger.proofs.SoundFacts.{sound-facts}
 use Rattle.ledger.proofs.MoneyLaws.{signed-sum-same}
 use Rattle.ledger.proofs.CallLaws.{fixing-passed, passed-range}
@@ -59,12 +59,12 @@ module _ (n : ℕ) (averages finals : List PesoPrice) (charges : List ℤ) (i : 
       list-at (priceWord averages finals charges) (n * 3) (pos 0) j (omega arith) ∙ rw (whole, part)
 
 -- a fixing that was accepted
-module _ (book : Ledger) (call : FixingCall) (h : sound book ≡ true) (e : isPassed (fixingVerdict book call) ≡ true) where
+module _ (ledger : Ledger) (call : FixingCall) (h : sound ledger ≡ true) (e : isPassed (fixingVerdict ledger call) ≡ true) where
   abbrev d : Distributors
-  d = inputDistributors (book .n) (call .input)
+  d = inputDistributors (ledger .n) (call .input)
 
   abbrev averages : List PesoPrice
-  averages = inputAverages (book .n) (call .input)
+  averages = inputAverages (ledger .n) (call .input)
 
   abbrev finals : List PesoPrice
   finals = fixedPrices d .finals
@@ -75,51 +75,51 @@ module _ (book : Ledger) (call : FixingCall) (h : sound book ≡ true) (e : isPa
   range : InRange d
   unfolding inputDistributors
   range =
-      let g = sound-facts book h in
-      let f = fixing-passed book call e in
-      passed-range (book .n) call (g .some) (g .few) (f .lengths) (f .passed)
+      let g = sound-facts ledger h in
+      let f = fixing-passed ledger call e in
+      passed-range (ledger .n) call (g .some) (g .few) (f .lengths) (f .passed)
 
-  list-is : fixingList book call ≡ listBelow (book .n * 3) (priceWord averages finals charges)
+  list-is : fixingList ledger call ≡ listBelow (ledger .n * 3) (priceWord averages finals charges)
   unfolding fixingList priceList acceptedFixing inputDistributors
   list-is =
       rw e
-      (ap (λ (x : Fixing). listBelow (book .n * 3) (priceWord (x .averages) (x .prices .finals) (x .charges)))
-      (passed-fixing (book .n) (call .input) (fixing-passed book call e .passed)))
+      (ap (λ (x : Fixing). listBelow (ledger .n * 3) (priceWord (x .averages) (x .prices .finals) (x .charges)))
+      (passed-fixing (ledger .n) (call .input) (fixing-passed ledger call e .passed)))
 
-  final-is : (i : ℕ) → i < book .n → getD finals i noPrice .0 ≡ finalPrice d i
+  final-is : (i : ℕ) → i < ledger .n → getD finals i noPrice .0 ≡ finalPrice d i
   unfolding inputDistributors
-  final-is i p = final-at (book .n) averages (inputEnergies (book .n) (call .input)) range i p
+  final-is i p = final-at (ledger .n) averages (inputEnergies (ledger .n) (call .input)) range i p
 
-  charge-is : (i : ℕ) → i < book .n → getD charges i (pos 0) ≡ charge d i
+  charge-is : (i : ℕ) → i < ledger .n → getD charges i (pos 0) ≡ charge d i
   unfolding inputDistributors
-  charge-is i p = charge-at (book .n) averages (inputEnergies (book .n) (call .input)) range i p
+  charge-is i p = charge-at (ledger .n) averages (inputEnergies (ledger .n) (call .input)) range i p
 
-  final-written : (i : ℕ) → i < book .n → writtenFinal (fixingList book call) i ≡ pos (finalPrice d i)
+  final-written : (i : ℕ) → i < ledger .n → writtenFinal (fixingList ledger call) i ≡ pos (finalPrice d i)
   final-written i p =
       ap (λ l. writtenFinal l i) list-is
-      ∙ word-at (book .n) averages finals charges i p (i * 3 + 1) 1 refl (omega arith)
+      ∙ word-at (ledger .n) averages finals charges i p (i * 3 + 1) 1 refl (omega arith)
       ∙ ap pos (final-is i p)
 
-  pub written : WrittenPrices (book .n) d (fixingList book call)
+  pub written : WrittenPrices (ledger .n) d (fixingList ledger call)
   unfolding inputDistributors collected
   written =
       let same = final-written in
       record {
-        words = ap length list-is ∙ list-length (priceWord averages finals charges) (book .n * 3);
+        words = ap length list-is ∙ list-length (priceWord averages finals charges) (ledger .n * 3);
         average = λ i p.
             ap (λ l. getD l (i * 3) (pos 0)) list-is
-            ∙ word-at (book .n) averages finals charges i p (i * 3) 0 (omega arith) (omega arith);
+            ∙ word-at (ledger .n) averages finals charges i p (i * 3) 0 (omega arith) (omega arith);
         final = same;
         charged = λ i p.
             ap (λ l. getD l (i * 3 + 2) (pos 0)) list-is
-            ∙ word-at (book .n) averages finals charges i p (i * 3 + 2) 2 refl (omega arith)
+            ∙ word-at (ledger .n) averages finals charges i p (i * 3 + 2) 2 refl (omega arith)
             ∙ charge-is i p;
         limited = λ i p. rw (same i p) (pos-le (finalPrice d i) (limit d) (final-limit d range i p));
         collects =
-            rw (collect-same d (writtenFinal (fixingList book call)) (λ i. pos (finalPrice d i)) same, collect-whole d (finalPrice d))
+            rw (collect-same d (writtenFinal (fixingList ledger call)) (λ i. pos (finalPrice d i)) same, collect-whole d (finalPrice d))
             (pos-le (contractTotal d) (collected d) (collects d range));
         smallest = λ price below enough.
-            rw (largest-same d (writtenFinal (fixingList book call)) (λ i. pos (finalPrice d i)) same (range .some))
+            rw (largest-same d (writtenFinal (fixingList ledger call)) (λ i. pos (finalPrice d i)) same (range .some))
             (smallest-largest d range price below enough);
         few = rounds-few d range;
       }

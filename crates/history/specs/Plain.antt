@@ -22,7 +22,7 @@ use Rattle.ledger.specs.Sound.{sound}
 use Rattle.ledger.specs.Turn.{fixingTurn, settlementTurn}
 use Rattle.ledger.specs.Fix.{FixingCall, fixingLengths}
 use Rattle.ledger.specs.Settle.{SettlementCall, settlementLengths}
-use Rattle.ledger.specs.declared.book.Ledger.{Ledger}
+use Rattle.ledger.specs.declared.ledger.Ledger.{Ledger}
 use Rattle.history.specs.Run.{Call, fixing, settlement}
 
 -- "It holds n, the count of settled months, the last month, the latest accepted fixing's arguments and n balances"

@@ -6,7 +6,7 @@ use Rattle.numbers.specs.Refusal.{Answered, verdictAnswered}
 use Rattle.ledger.specs.Ledger.{openingLedger}
 use Rattle.ledger.specs.Fix.{FixingCall, fixingAnswer, fixingAnswered, fixingLedger}
 use Rattle.ledger.specs.Settle.{SettlementCall, settlementVerdict, settlementLedger}
-use Rattle.ledger.specs.declared.book.Ledger.{Ledger}
+use Rattle.ledger.specs.declared.ledger.Ledger.{Ledger}
 
 -- a fixing or a settlement, with any arguments
 pub data Call : Type 0 where
@@ -18,19 +18,19 @@ unfoldable pub opened : ℕ → Ledger
 opened n = openingLedger n
 
 unfoldable pub step : Ledger → Call → Ledger
-step book (fixing call) = fixingLedger book call
-step book (settlement call) = settlementLedger book call
+step ledger (fixing call) = fixingLedger ledger call
+step ledger (settlement call) = settlementLedger ledger call
 
 -- the number and values of a call's answer
 unfoldable pub answer : Ledger → Call → Answered
-answer book (fixing call) = fixingAnswered (fixingAnswer book call)
-answer book (settlement call) = verdictAnswered [] (settlementVerdict book call)
+answer ledger (fixing call) = fixingAnswered (fixingAnswer ledger call)
+answer ledger (settlement call) = verdictAnswered [] (settlementVerdict ledger call)
 
 -- the ledger after a list of calls, and their answers
 unfoldable pub after : Ledger → List Call → Ledger
-after book [] = book
-after book (call ∷ calls) = after (step book call) calls
+after ledger [] = ledger
+after ledger (call ∷ calls) = after (step ledger call) calls
 
 unfoldable pub answers : Ledger → List Call → List Answered
-answers book [] = []
-answers book (call ∷ calls) = answer book call ∷ answers (step book call) calls
+answers ledger [] = []
+answers ledger (call ∷ calls) = answer ledger call ∷ answers (step ledger call) calls

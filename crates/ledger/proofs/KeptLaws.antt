@@ -15,14 +15,13 @@ use Rattle.numbers.specs.Signed.{signedSumBelow}
 use Rattle.numbers.specs.Refusal.{isPassed}
 use Rattle.numbers.specs.Rounding.{halfUp}
 use Rattle.numbers.specs.Sizes.{mostDistributors, sectorCount, sectorPlaces}
-use Rattle.numbers.proofs.BoolLaws.{and-left, and-right}
+use Rattle.numbers.proofs.BoolLaws.{and-left, and-right, or-else}
 use Rattle.numbers.proofs.ListLaws.{filled-at, filled-past}
 use Rattle.numbers.proofs.RoundingLaws.{away-size}
-use Rattle.numbers.proofs.SignedLaws.{size-mul, signed-sum-add}
+use Rattle.numbers.proofs.SignedLaws.{zero-size, size-mul, signed-sum-add, signed-sum-same, sum-wide}
 use Rattle.series.specs.Series.{lastMonth}
 use Rattle.fixing.specs.Limit.{Distributors, InRange, charge}
-use Rattle.fixing.specs.Charge.{sectorCharge}
-use Rattle.fixing.specs.Sector.{mostFactor, factorAt, sectorPresent, chargedPlaces, sectorCharges, noCharges}
+use Rattle.fixing.specs.Sector.{mostFactor, factorAt, sectorPresent, sectorCharge, chargedPlaces, sectorCharges, noCharges}
 use Rattle.fixing.specs.Input.{inputDistributors}
 use Rattle.fixing.specs.Fixing.{acceptedFixing, fixingOf}
 use Rattle.fixing.specs.declared.fix.Fixing.{Fixing}
@@ -34,14 +33,15 @@ use Rattle.settlement.specs.Settlement.{positionOf, newBalance, oneSign}
 use Rattle.settlement.specs.Month.{moneyAt, moneyBelow, positionList, settledMonth}
 use Rattle.settlement.proofs.SettlementLaws.{balances-sign, balances-total}
 use Rattle.settlement.proofs.MonthLaws.{money-at, positions-within, balances-within}
-use Rattle.ledger.specs.Ledger.{anySettled, noBalances, emptyLedger, fixedLedger, settledLedger}
+use Rattle.ledger.specs.Ledger.{anySettled, nextMonth, billedUnder, noBalances, emptyLedger, fixedLedger, settledLedger}
 use Rattle.ledger.specs.Sound.{presentIn, chargeIn, sound}
 use Rattle.ledger.specs.Turn.{fixingTurn, settlementTurn}
 use Rattle.ledger.specs.Fix.{FixingCall, fixingVerdict, fixingLedger}
 use Rattle.ledger.specs.Settle.{SettlementCall, settlementVerdict, settlementLedger, positionsOf}
-use Rattle.ledger.specs.declared.book.Ledger.{Ledger}
-use Rattle.ledger.proofs.SoundFacts.{or-else, zero-size, some-settled, none-settled, PlaceFacts, BalanceFacts, sound-facts, sound-test}
-use Rattle.ledger.proofs.MoneyLaws.{signed-sum-same, sum-wide, money-past, money-sum, money-sign}
+use Rattle.ledger.specs.declared.ledger.Ledger.{Ledger}
+use Rattle.ledger.proofs.SoundFacts.{PlaceFacts, BalanceFacts, sound-facts, sound-test}
+use Rattle.ledger.proofs.SoundLaws.{none-settled, opened-settled, month-settled}
+use Rattle.ledger.proofs.MoneyLaws.{money-past, money-sum, money-sign}
 use Rattle.ledger.proofs.CallLaws.{FixingPassed, fixing-passed, passed-range, SettlementPassed, settlement-passed}
 
 -- the places of charged sectors: those of the first k hold presence and charge, the others nothing
@@ -66,8 +66,8 @@ module _ (k : ℕ) (charge : ℕ → ℤ) (sectors : List ℕ) (j : ℕ) (p : j 
 empty-place : (n : ℕ) (present : Bool) (z : ℤ) (k : ℕ) → present ≡ false → z ≡ pos 0 → PlaceFacts n present z k
 empty-place n present z k e h = record { past = λ p. e; absent = λ p. h; within = rw h (omega arith) }
 
-empty-balance : (n months : ℕ) (z : ℤ) (i : ℕ) → z ≡ pos 0 → BalanceFacts n months z i
-empty-balance n months z i h = record { past = λ p. h; till = λ p. h; within = rw h (omega arith) }
+empty-balance : (n : ℕ) (settled : Bool) (z : ℤ) (i : ℕ) → z ≡ pos 0 → BalanceFacts n settled z i
+empty-balance n settled z i h = record { past = λ p. h; till = λ p. h; within = rw h (omega arith) }
 
 nothing-at : (k : ℕ) → k < sectorPlaces → (presentIn noCharges k ≡ false) × (chargeIn noCharges k ≡ pos 0)
 unfolding noCharges
@@ -77,7 +77,7 @@ none-sign : (f : ℕ → ℤ) → oneSign 0 f ≡ true
 unfolding oneSign anyBelow
 none-sign f = refl
 
-pub opened-sound : (n : ℕ) → 1 ≤ n → n ≤ 40 → sound (emptyLedger n) ≡ true
+pub opened-sound : (n : ℕ) → 1 ≤ n → n ≤ mostDistributors → sound (emptyLedger n) ≡ true
 unfolding emptyLedger noBalances
 opened-sound n p q =
     sound-test (emptyLedger n)
@@ -90,11 +90,11 @@ opened-sound n p q =
           record {
             lastMost = omega arith;
             monthMost = omega arith;
-            few = λ r. absurd (omega arith);
-            due = λ r. absurd (omega arith);
-            inForce = λ r. absurd (omega arith);
+            few = λ r. absurd (true≢false (sym r ∙ opened-settled n));
+            due = λ r. absurd (true≢false (sym r ∙ opened-settled n));
+            inForce = λ r. absurd (true≢false (sym r ∙ opened-settled n));
           };
-      balance = λ i r. empty-balance n 0 _ i (money-past (λ j. pos 0) 0 i (omega arith) r);
+      balance = λ i r. empty-balance n _ _ i (money-past (λ j. pos 0) 0 i (omega arith) r);
       signs = money-sign 0 (omega arith) (λ j. pos 0) (none-sign (λ j. pos 0));
     })
 
@@ -106,7 +106,7 @@ sector-none z f e =
     (rw (away-size (z *ℤ pos f) 10000, size-mul z (pos f), e, mul-zero (natAbs z)))
 
 -- an accepted fixing's sectors
-charged-place : (n : ℕ) (d : Distributors) (sectors : List ℕ) → n ≤ 40 → ((i : ℕ) → i < n → natAbs (charge d i) ≤ 2000000) → ((k : ℕ) → k < n * sectorCount → factorAt sectors k ≤ mostFactor) → (k : ℕ) → k < sectorPlaces → PlaceFacts n (presentIn (sectorCharges n (charge d) sectors) k) (chargeIn (sectorCharges n (charge d) sectors) k) k
+charged-place : (n : ℕ) (d : Distributors) (sectors : List ℕ) → n ≤ mostDistributors → ((i : ℕ) → i < n → natAbs (charge d i) ≤ 2000000) → ((k : ℕ) → k < n * sectorCount → factorAt sectors k ≤ mostFactor) → (k : ℕ) → k < sectorPlaces → PlaceFacts n (presentIn (sectorCharges n (charge d) sectors) k) (chargeIn (sectorCharges n (charge d) sectors) k) k
 unfolding sectorCharges sectorPresent
 charged-place n d sectors few size factor k p = go (decLt k (n * sectorCount))
   where
@@ -126,41 +126,38 @@ charged-place n d sectors few size factor k p = go (decLt k (n * sectorCount))
         })
 
 -- what a fixing's turn says
-module _ (months last month : ℕ) (h : fixingTurn months last month ≡ true) where
-  abbrev dueNext : Bool
-  dueNext = not (anySettled months) || eqb month (last + 1)
-
+module _ (settled : Bool) (next month : ℕ) (h : fixingTurn settled next month ≡ true) where
   fixing-most : month ≤ lastMonth
   unfolding fixingTurn
-  fixing-most = leb-true month lastMonth (and-left (leb month lastMonth) dueNext h)
+  fixing-most = leb-true month lastMonth (and-left (leb month lastMonth) (not settled || eqb month next) h)
 
-  fixing-next : 1 ≤ months → month ≡ last + 1
+  fixing-next : settled ≡ true → month ≡ next
   unfolding fixingTurn
-  fixing-next p =
-      eqb-true month (last + 1)
-      (or-else (not (anySettled months)) (eqb month (last + 1)) (and-right (leb month lastMonth) dueNext h) (ap not (some-settled months p)))
+  fixing-next e =
+      eqb-true month next
+      (or-else (not settled) (eqb month next) (and-right (leb month lastMonth) (not settled || eqb month next) h) (ap not e))
 
-pub fixing-keeps : (book : Ledger) (call : FixingCall) → sound book ≡ true → sound (fixingLedger book call) ≡ true
-unfolding fixingLedger fixedLedger acceptedFixing inputDistributors
-fixing-keeps book call h = go (isPassed (fixingVerdict book call)) refl
+pub fixing-keeps : (ledger : Ledger) (call : FixingCall) → sound ledger ≡ true → sound (fixingLedger ledger call) ≡ true
+unfolding fixingLedger fixedLedger acceptedFixing inputDistributors anySettled nextMonth
+fixing-keeps ledger call h = go (isPassed (fixingVerdict ledger call)) refl
   where
     d : Distributors
-    d = inputDistributors (book .n) (call .input)
+    d = inputDistributors (ledger .n) (call .input)
 
-    accepted : FixingPassed book call → sound (fixedLedger book (call .input .month) (fixingOf (book .n) (call .input) .sectors)) ≡ true
+    accepted : FixingPassed ledger call → sound (fixedLedger ledger (call .input .numbers .month) (fixingOf (ledger .n) (call .input) .sectors)) ≡ true
     accepted f =
-        let g = sound-facts book h in
-        let r : InRange d = passed-range (book .n) call (g .some) (g .few) (f .lengths) (f .passed) in
-        let e : fixingOf (book .n) (call .input) .sectors ≡ sectorCharges (book .n) (charge d) (call .input .sectors) =
-        ap (λ (x : Fixing). x .sectors) (passed-fixing (book .n) (call .input) (f .passed)) in
+        let g = sound-facts ledger h in
+        let r : InRange d = passed-range (ledger .n) call (g .some) (g .few) (f .lengths) (f .passed) in
+        let e : fixingOf (ledger .n) (call .input) .sectors ≡ sectorCharges (ledger .n) (charge d) (call .input .sectors) =
+        ap (λ (x : Fixing). x .sectors) (passed-fixing (ledger .n) (call .input) (f .passed)) in
         rw e
-        (sound-test (fixedLedger book (call .input .month) (sectorCharges (book .n) (charge d) (call .input .sectors)))
+        (sound-test (fixedLedger ledger (call .input .numbers .month) (sectorCharges (ledger .n) (charge d) (call .input .sectors)))
         (record {
           some = g .some;
           few = g .few;
           place =
-              charged-place (book .n) d (call .input .sectors) (g .few) (charge-size d r)
-              (allowed-factor (book .n) (call .input .sectors) (passed-sectors (book .n) (call .input) (f .passed)));
+              charged-place (ledger .n) d (call .input .sectors) (g .few) (charge-size d r)
+              (allowed-factor (ledger .n) (call .input .sectors) (passed-sectors (ledger .n) (call .input) (f .passed)));
           unset =
               record {
                 unfixed = λ t. absurd (true≢false t);
@@ -170,39 +167,39 @@ fixing-keeps book call h = go (isPassed (fixingVerdict book call)) refl
           month =
               record {
                 lastMost = g .month .lastMost;
-                monthMost = fixing-most (book .months) (book .last) (call .input .month) (f .turn);
+                monthMost = fixing-most (anySettled ledger) (nextMonth ledger) (call .input .numbers .month) (f .turn);
                 few = g .month .few;
-                due = λ p. omega (arith, fixing-next (book .months) (book .last) (call .input .month) (f .turn) p);
+                due = λ p. omega (arith, fixing-next (anySettled ledger) (nextMonth ledger) (call .input .numbers .month) (f .turn) p);
                 inForce = λ p. refl;
               };
           balance = g .balance;
           signs = g .signs;
         }))
 
-    go : (b : Bool) → isPassed (fixingVerdict book call) ≡ b → sound (cond b (fixedLedger book (call .input .month) (fixingOf (book .n) (call .input) .sectors)) book) ≡ true
-    go true e = accepted (fixing-passed book call e)
+    go : (b : Bool) → isPassed (fixingVerdict ledger call) ≡ b → sound (cond b (fixedLedger ledger (call .input .numbers .month) (fixingOf (ledger .n) (call .input) .sectors)) ledger) ≡ true
+    go true e = accepted (fixing-passed ledger call e)
     go false e = h
 
 -- an accepted settlement's balances add up to the old ones plus the collected amounts
-pub settlement-adds : (book : Ledger) (call : SettlementCall) → sound book ≡ true → isPassed (settlementVerdict book call) ≡ true → signedSumBelow mostDistributors (moneyAt (settlementLedger book call .balances)) ≡ signedSumBelow mostDistributors (moneyAt (book .balances)) +ℤ signedSumBelow (book .n) (collectedAmount (book .force .charges) (call .readings) (call .losses))
+pub settlement-adds : (ledger : Ledger) (call : SettlementCall) → sound ledger ≡ true → isPassed (settlementVerdict ledger call) ≡ true → signedSumBelow mostDistributors (moneyAt (settlementLedger ledger call .balances)) ≡ signedSumBelow mostDistributors (moneyAt (ledger .balances)) +ℤ signedSumBelow (ledger .n) (collectedAmount (billedUnder ledger .charges) (call .readings) (call .losses))
 unfolding settlementLedger settledLedger settledMonth positionsOf positionList positionOf
-settlement-adds book call h e =
-    let g = sound-facts book h in
-    let amount : ℕ → ℤ = collectedAmount (book .force .charges) (call .readings) (call .losses) in
-    let position : ℕ → ℤ = λ i. moneyAt (book .balances) i +ℤ amount i in
-    let held : ℕ → ℤ = moneyAt (moneyBelow (book .n) position) in
+settlement-adds ledger call h e =
+    let g = sound-facts ledger h in
+    let amount : ℕ → ℤ = collectedAmount (billedUnder ledger .charges) (call .readings) (call .losses) in
+    let position : ℕ → ℤ = λ i. moneyAt (ledger .balances) i +ℤ amount i in
+    let held : ℕ → ℤ = moneyAt (moneyBelow (ledger .n) position) in
     rw e
-    (money-sum (book .n) (g .few) (newBalance (book .n) held)
-    ∙ balances-total (book .n) held
-    ∙ signed-sum-same (book .n) held position (λ i p. money-at position (book .n) i p (omega (arith, g .few)))
-    ∙ signed-sum-add (book .n) (moneyAt (book .balances)) amount
-    ∙ ap (λ (z : ℤ). z +ℤ signedSumBelow (book .n) amount)
-    (sym (sum-wide (book .n) mostDistributors (moneyAt (book .balances)) (g .few) (λ i p q. g .balance i q .past p))))
+    (money-sum (ledger .n) (g .few) (newBalance (ledger .n) held)
+    ∙ balances-total (ledger .n) held
+    ∙ signed-sum-same (ledger .n) held position (λ i p. money-at position (ledger .n) i p (omega (arith, g .few)))
+    ∙ signed-sum-add (ledger .n) (moneyAt (ledger .balances)) amount
+    ∙ ap (λ (z : ℤ). z +ℤ signedSumBelow (ledger .n) amount)
+    (sym (sum-wide (ledger .n) mostDistributors (moneyAt (ledger .balances)) (g .few) (λ i p q. g .balance i q .past p))))
 
 -- what a settled month's turn says
-module _ (months last : ℕ) (fixed : Bool) (fixingMonth month : ℕ) (h : settlementTurn months last fixed fixingMonth month ≡ true) where
+module _ (settled : Bool) (next : ℕ) (fixed : Bool) (fixingMonth month : ℕ) (h : settlementTurn settled next fixed fixingMonth month ≡ true) where
   abbrev due : Bool
-  due = cond (anySettled months) (eqb month (last + 1)) (not fixed || eqb month fixingMonth)
+  due = cond settled (eqb month next) (not fixed || eqb month fixingMonth)
 
   turn-most : month ≤ lastMonth
   unfolding settlementTurn
@@ -212,31 +209,30 @@ module _ (months last : ℕ) (fixed : Bool) (fixingMonth month : ℕ) (h : settl
   unfolding settlementTurn
   turn-due = and-right (leb month lastMonth) due h
 
-  turn-later : 1 ≤ months → month ≡ last + 1
-  turn-later p = eqb-true month (last + 1) (rw (some-settled months p) at turn-due)
+  turn-later : settled ≡ true → month ≡ next
+  turn-later e = eqb-true month next (rw e at turn-due)
 
-  turn-first : months ≡ 0 → fixed ≡ true → month ≡ fixingMonth
-  turn-first p e =
-      eqb-true month fixingMonth (or-else (not fixed) (eqb month fixingMonth) (rw (none-settled months p) at turn-due) (ap not e))
+  turn-first : settled ≡ false → fixed ≡ true → month ≡ fixingMonth
+  turn-first p e = eqb-true month fixingMonth (or-else (not fixed) (eqb month fixingMonth) (rw p at turn-due) (ap not e))
 
-pub settlement-keeps : (book : Ledger) (call : SettlementCall) → sound book ≡ true → sound (settlementLedger book call) ≡ true
-unfolding settlementLedger settledLedger settledMonth
-settlement-keeps book call h = go (isPassed (settlementVerdict book call)) refl
+pub settlement-keeps : (ledger : Ledger) (call : SettlementCall) → sound ledger ≡ true → sound (settlementLedger ledger call) ≡ true
+unfolding settlementLedger settledLedger settledMonth nextMonth
+settlement-keeps ledger call h = go (isPassed (settlementVerdict ledger call)) refl
   where
-    accepted : SettlementPassed book call → sound (settledLedger book (call .month) (settledMonth (book .n) (positionsOf book call) .balances)) ≡ true
+    accepted : SettlementPassed ledger call → sound (settledLedger ledger (call .month) (settledMonth (ledger .n) (positionsOf ledger call) .balances)) ≡ true
     accepted f =
-        let g = sound-facts book h in
-        let balance : ℕ → ℤ = newBalance (book .n) (moneyAt (positionsOf book call)) in
-        let small = balances-within (book .n) (positionsOf book call) (positions-within (book .n) (positionsOf book call) (g .few) (f .within)) in
-        let most = turn-most (book .months) (book .last) (book .fixed) (book .month) (call .month) (f .due .turn) in
-        let later = turn-later (book .months) (book .last) (book .fixed) (book .month) (call .month) (f .due .turn) in
-        let first = turn-first (book .months) (book .last) (book .fixed) (book .month) (call .month) (f .due .turn) in
+        let g = sound-facts ledger h in
+        let balance : ℕ → ℤ = newBalance (ledger .n) (moneyAt (positionsOf ledger call)) in
+        let small = balances-within (ledger .n) (positionsOf ledger call) (positions-within (ledger .n) (positionsOf ledger call) (g .few) (f .within)) in
+        let most = turn-most (anySettled ledger) (nextMonth ledger) (ledger .fixed) (ledger .month) (call .month) (f .due .turn) in
+        let later = turn-later (anySettled ledger) (nextMonth ledger) (ledger .fixed) (ledger .month) (call .month) (f .due .turn) in
+        let first = turn-first (anySettled ledger) (nextMonth ledger) (ledger .fixed) (ledger .month) (call .month) (f .due .turn) in
         -- the first settled month is the fixing's own, a later one the month after the last
-        let next : Dec (0 < book .months) → (book .months ≤ call .month) × (book .month ≤ call .month + 1) =
-        elim [ yes p ↦ (omega (arith, later p, g .month .few p), omega (arith, later p, g .month .due p)) | no p ↦ (omega arith, omega (arith, first (omega arith) (f .due .inForce))) ] in
-        let held : (i : ℕ) → i < mostDistributors → Dec (i < book .n) → BalanceFacts (book .n) (book .months + 1) (moneyAt (moneyBelow (book .n) balance) i) i =
-        λ i p. elim [ yes q ↦ record { past = λ r. absurd (omega arith); till = λ r. absurd (omega arith); within = small .within i q } | no q ↦ empty-balance (book .n) (book .months + 1) _ i (money-past balance (book .n) i (omega arith) p) ] in
-        sound-test (settledLedger book (call .month) (moneyBelow (book .n) balance))
+        let next : (b : Bool) → anySettled ledger ≡ b → (ledger .months ≤ call .month) × (ledger .month ≤ call .month + 1) =
+        elim [ true ↦ λ e. (omega (arith, later e, g .month .few e), omega (arith, later e, g .month .due e)) | false ↦ λ e. (omega (arith, none-settled ledger e), omega (arith, first e (f .due .inForce))) ] in
+        let held : (i : ℕ) → i < mostDistributors → Dec (i < ledger .n) → BalanceFacts (ledger .n) true (moneyAt (moneyBelow (ledger .n) balance) i) i =
+        λ i p. elim [ yes q ↦ record { past = λ r. absurd (omega arith); till = λ r. absurd (true≢false r); within = small .within i q } | no q ↦ empty-balance (ledger .n) true _ i (money-past balance (ledger .n) i (omega arith) p) ] in
+        sound-test (settledLedger ledger (call .month) (moneyBelow (ledger .n) balance))
         (record {
           some = g .some;
           few = g .few;
@@ -245,20 +241,20 @@ settlement-keeps book call h = go (isPassed (settlementVerdict book call)) refl
               record {
                 unfixed = g .unset .unfixed;
                 nobody = g .unset .nobody;
-                unsettled = λ e. absurd (omega arith);
+                unsettled = λ e. absurd (true≢false (sym (month-settled ledger _ _) ∙ e));
               };
           month =
               record {
                 lastMost = most;
                 monthMost = g .month .monthMost;
-                few = λ p. omega (arith, next (decLt 0 (book .months)));
-                due = λ p. omega (arith, next (decLt 0 (book .months)));
+                few = λ p. omega (arith, next (anySettled ledger) refl);
+                due = λ p. omega (arith, next (anySettled ledger) refl);
                 inForce = λ p. f .due .inForce;
               };
-          balance = λ i p. held i p (decLt i (book .n));
-          signs = money-sign (book .n) (g .few) balance (balances-sign (book .n) (moneyAt (positionsOf book call)));
+          balance = λ i p. rw (month-settled ledger (call .month) (moneyBelow (ledger .n) balance)) (held i p (decLt i (ledger .n)));
+          signs = money-sign (ledger .n) (g .few) balance (balances-sign (ledger .n) (moneyAt (positionsOf ledger call)));
         })
 
-    go : (b : Bool) → isPassed (settlementVerdict book call) ≡ b → sound (cond b (settledLedger book (call .month) (settledMonth (book .n) (positionsOf book call) .balances)) book) ≡ true
-    go true e = accepted (settlement-passed book call e)
+    go : (b : Bool) → isPassed (settlementVerdict ledger call) ≡ b → sound (cond b (settledLedger ledger (call .month) (settledMonth (ledger .n) (positionsOf ledger call) .balances)) ledger) ≡ true
+    go true e = accepted (settlement-passed ledger call e)
     go false e = h

@@ -1,4 +1,4 @@
--- Laws of money over all 40 places where only the first n are filled: sums, signs; and that a month's balances depend on
+-- Laws of money over all places where only the first n are filled: sums, signs; and that a month's balances depend on
 -- the positions of the n distributors alone. Assumes nothing.
 use mathlib.Core.Path.{_≡_, refl, _∙_, ap, ap₂}
 use mathlib.Core.Bool.{Bool, true, false, and-false}
@@ -13,7 +13,9 @@ use Rattle.numbers.specs.Signed.{signedSumBelow, positivePart, negativePart, wi
 use Rattle.numbers.specs.Units.{noMoney}
 use Rattle.numbers.specs.Sizes.{mostDistributors}
 use Rattle.numbers.specs.declared.units.Pesos.{Pesos}
-use Rattle.numbers.proofs.TestLaws.{any-none, any-never}
+use Rattle.numbers.proofs.BoolLaws.{not-both}
+use Rattle.numbers.proofs.TestLaws.{all-same, any-none, any-never}
+use Rattle.numbers.proofs.SignedLaws.{signed-sum-same, sum-wide}
 use Rattle.numbers.proofs.SumLaws.{sum-same}
 use Rattle.numbers.proofs.ListLaws.{filled-past}
 use Rattle.settlement.specs.Share.{sideTotal}
@@ -21,33 +23,6 @@ use Rattle.settlement.specs.Settlement.{mostPosition, positionsInRange, owing, 
 use Rattle.settlement.specs.Month.{moneyAt, moneyBelow}
 use Rattle.settlement.proofs.ShareLaws.{share-same}
 use Rattle.settlement.proofs.MonthLaws.{money-at}
-use Rattle.ledger.proofs.SoundFacts.{not-both}
-
--- functions that agree below the bound: one sum, one test of all
-pub signed-sum-same : (k : ℕ) (f g : ℕ → ℤ) → ((i : ℕ) → i < k → f i ≡ g i) → signedSumBelow k f ≡ signedSumBelow k g
-unfolding signedSumBelow
-signed-sum-same zero f g h = refl
-signed-sum-same (suc k) f g h =
-    ap₂ (λ (y z : ℤ). y +ℤ z) (signed-sum-same k f g (λ i p. h i (omega arith))) (h k (omega arith))
-
-pub all-same : (k : ℕ) (t u : ℕ → Bool) → ((i : ℕ) → i < k → t i ≡ u i) → allBelow k t ≡ allBelow k u
-unfolding allBelow
-all-same zero t u h = refl
-all-same (suc k) t u h = rw (all-same k t u (λ i p. h i (omega arith)), h k (omega arith))
-
--- places that hold 0 add nothing
-sum-up : (n k : ℕ) (f : ℕ → ℤ) → ((i : ℕ) → n ≤ i → i < k + n → f i ≡ pos 0) → signedSumBelow (k + n) f ≡ signedSumBelow n f
-unfolding signedSumBelow
-sum-up n zero f h = rw zero-add
-sum-up n (suc k) f h =
-    rw suc-add
-    (ap₂ (λ (y z : ℤ). y +ℤ z) (sum-up n k f (λ i p q. h i p (omega arith))) (h (k + n) (omega arith) (omega arith))
-    ∙ +ℤ-idr (signedSumBelow n f))
-
-pub sum-wide : (n m : ℕ) (f : ℕ → ℤ) → n ≤ m → ((i : ℕ) → n ≤ i → i < m → f i ≡ pos 0) → signedSumBelow m f ≡ signedSumBelow n f
-sum-wide n m f p h =
-    let e : m - n + n ≡ m = omega arith in
-    rw e at (sum-up n (m - n) f (λ i q r. h i q (omega arith)))
 
 -- what stands past the filled places
 pub money-past : (f : ℕ → ℤ) (n i : ℕ) → n ≤ i → i < mostDistributors → moneyAt (moneyBelow n f) i ≡ pos 0

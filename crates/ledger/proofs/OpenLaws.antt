@@ -10,7 +10,7 @@ use Rattle.numbers.specs.declared.refusal.Refusal.the-variants.{WrongCount}
 use Rattle.numbers.specs.declared.refusal.Verdict.the-variants.{Passed, Refused}
 use Rattle.numbers.proofs.CheckLaws.{FirstPass, AllTold, passes, check-told, verdict-passed, refused-unless, judged}
 use Rattle.ledger.specs.Ledger.{emptyLedger, openingChecks, openingVerdict, openingLedger, OpeningPromise}
-use Rattle.ledger.specs.declared.book.Ledger.{Ledger}
+use Rattle.ledger.specs.declared.ledger.Ledger.{Ledger}
 
 module _ (n : ℕ) (next : Ledger) where
   opening-told : AllTold (openingChecks n)

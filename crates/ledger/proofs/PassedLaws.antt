@@ -11,14 +11,15 @@ use Rattle.numbers.specs.declared.units.PesoPrice.{PesoPrice}
 use Rattle.numbers.proofs.ListLaws.{filled-length, filled-past}
 use Rattle.fixing.specs.Average.{averageList}
 use Rattle.fixing.specs.Prices.{distributors, finalPrices, fixedPrices}
-use Rattle.fixing.specs.Input.{FixingInput, RightLengths, inputVerdict, inputAverages, inputEnergies}
+use Rattle.fixing.specs.Input.{FixingInput, inputVerdict, inputAverages, inputEnergies}
+use Rattle.fixing.specs.Required.{RightLengths}
 use Rattle.fixing.specs.Fixing.{acceptedFixing, fixingOf}
 use Rattle.fixing.specs.declared.fix.Fixing.{Fixing}
 use Rattle.numbers.specs.declared.refusal.Verdict.the-variants.{Passed}
 use Rattle.fixing.proofs.FixingLaws.{final-at}
 use Rattle.fixing.proofs.LimitLaws.{final-most}
 use Rattle.fixing.proofs.VerdictLaws.{passed-fixing, input-range}
-use Rattle.ledger.specs.Fix.{PricesSmall}
+use Rattle.ledger.specs.Required.{PricesSmall}
 
 -- prices that are at most so much where they are filled in are so at every place
 filled-most : (k : ℕ) (f : ℕ → PesoPrice) → ((i : ℕ) → i < k → getD (filledBelow 40 noPrice k f) i noPrice .0 ≤ mostPrice) → (i : ℕ) → getD (filledBelow 40 noPrice k f) i noPrice .0 < 2 ^ 62
@@ -34,7 +35,7 @@ filled-most k f h i = go (decLt i k) (decLt i 40)
         )
 
 module _ (n : ℕ) (input : FixingInput) (right : RightLengths n input) (passed : inputVerdict n input ≡ Passed) where
-  accepted-small : PricesSmall (inputAverages n input) (fixedPrices (distributors n (inputAverages n input) (inputEnergies n input)) .finals)
+  accepted-small : PricesSmall (inputAverages n input) (fixedPrices (distributors n (inputAverages n input) (inputEnergies input)) .finals)
   unfolding inputAverages averageList fixedPrices finalPrices
   accepted-small =
       let r = input-range n input passed right in
@@ -43,8 +44,8 @@ module _ (n : ℕ) (input : FixingInput) (right : RightLengths n input) (passed 
         final = filled-most n _ (λ i p.
             omega (
               arith,
-              final-at n (inputAverages n input) (inputEnergies n input) r i p,
-              final-most (distributors n (inputAverages n input) (inputEnergies n input)) r i p,
+              final-at n (inputAverages n input) (inputEnergies input) r i p,
+              final-most (distributors n (inputAverages n input) (inputEnergies input)) r i p,
             ));
       }
 

@@ -1,7 +1,7 @@
 -- Laws of the open call of settlement: what a month that is due is worked from, and what is promised where the call refuses
 -- and where it settles. Assumes nothing.
 use mathlib.Core.Path.{_≡_, refl, sym, _∙_, ap}
-use mathlib.Core.Bool.{true, false, _&&_}
+use mathlib.Core.Bool.{true, false}
 use mathlib.Core.List.{List, []}
 use Prim.Native.Nat.{_*_}
 use lib.Dec.{eqb}
@@ -14,36 +14,38 @@ use Rattle.numbers.specs.declared.refusal.Refusal.{Refusal}
 use Rattle.numbers.specs.declared.refusal.Refusal.the-variants.{Unsound, WrongLength, OutOfTurn, NoFixing, WrongReading, PositionBeyond}
 use Rattle.numbers.specs.declared.refusal.Verdict.the-variants.{Passed, Refused}
 use Rattle.numbers.specs.declared.units.Pesos.{Pesos}
-use Rattle.numbers.proofs.BoolLaws.{and-left, and-right}
+use Rattle.numbers.proofs.BoolLaws.{and-three}
 use Rattle.numbers.proofs.CheckLaws.{FirstPass, AllTold, passes, check-told, verdict-from, verdict-passed, refused-unless, judged}
-use Rattle.settlement.specs.Amount.{billingInRange, BillingLists, Billed}
+use Rattle.settlement.specs.Amount.{billingInRange}
+use Rattle.settlement.specs.Required.{BillingLists, Billed}
 use Rattle.settlement.specs.Settlement.{positionsInRange}
 use Rattle.settlement.specs.Month.{moneyAt, settledMonth}
-use Rattle.settlement.specs.declared.month.Settled.{Settled}
+use Rattle.settlement.specs.declared.month.SettledMonth.{SettledMonth}
 use Rattle.settlement.proofs.AmountLaws.{billing-facts}
-use Rattle.ledger.specs.Ledger.{settledLedger}
+use Rattle.ledger.specs.Ledger.{anySettled, nextMonth, billedUnder, settledLedger}
 use Rattle.ledger.specs.Sound.{sound}
 use Rattle.ledger.specs.Turn.{settlementTurn}
-use Rattle.ledger.specs.Settle.{SettlementCall, settlementLengths, positionsOf, settlementChecks, Due, settlementVerdict, settlementLedger, settlementList, SettlementPromise}
-use Rattle.ledger.specs.declared.book.Ledger.{Ledger}
+use Rattle.ledger.specs.Settle.{SettlementCall, settlementLengths, billingLengths, positionsOf, settlementChecks, settlementVerdict, settlementLedger, settlementList, SettlementPromise}
+use Rattle.ledger.specs.Required.{Due}
+use Rattle.ledger.specs.declared.ledger.Ledger.{Ledger}
 use Rattle.ledger.specs.declared.settle.SettlementOutcome.{SettlementOutcome}
 use Rattle.ledger.proofs.SoundLaws.{sound-few, sound-charges}
 
-module _ (book : Ledger) (call : SettlementCall) where
+module _ (ledger : Ledger) (call : SettlementCall) where
   -- every verdict has the number and values of the checks
-  pub settlement-told : AllTold (settlementChecks book call)
+  pub settlement-told : AllTold (settlementChecks ledger call)
   unfolding AllTold settlementChecks
   settlement-told = (
-    check-told 2 (sound book) Unsound refl,
+    check-told 2 (sound ledger) Unsound refl,
     (
-      check-told 3 (settlementLengths (book .n) call) WrongLength refl,
+      check-told 3 (billingLengths (ledger .n) call) WrongLength refl,
       (
-        check-told 4 (settlementTurn (book .months) (book .last) (book .fixed) (book .month) (call .month)) OutOfTurn refl,
+        check-told 4 (settlementTurn (anySettled ledger) (nextMonth ledger) (ledger .fixed) (ledger .month) (call .month)) OutOfTurn refl,
         (
-          check-told 5 (book .fixed) NoFixing refl,
+          check-told 5 (ledger .fixed) NoFixing refl,
           (
-            check-told 12 (billingInRange (book .n) (book .force .present) (call .readings) (call .losses)) WrongReading refl,
-            (check-told 13 (positionsInRange (book .n) (moneyAt (positionsOf book call))) PositionBeyond refl, tt),
+            check-told 12 (billingInRange (ledger .n) (billedUnder ledger .present) (call .readings) (call .losses)) WrongReading refl,
+            (check-told 13 (positionsInRange (ledger .n) (moneyAt (positionsOf ledger call))) PositionBeyond refl, tt),
           ),
         ),
       ),
@@ -51,75 +53,75 @@ module _ (book : Ledger) (call : SettlementCall) where
   )
 
   -- what is promised of a refusal: ledger and list as they were
-  pub month-refused : (refusal : Refusal) → verdictOf (settlementChecks book call) ≡ Refused refusal → (r : SettlementOutcome) → r ≡ record { verdict = Refused refusal; ledger = book } → SettlementPromise book call (r .verdict) (r .ledger) (call .transfers)
+  pub month-refused : (refusal : Refusal) → verdictOf (settlementChecks ledger call) ≡ Refused refusal → (r : SettlementOutcome) → r ≡ record { verdict = Refused refusal; ledger = ledger } → SettlementPromise ledger call (r .verdict) (r .ledger) (call .transfers)
   unfolding settlementLedger settlementList settlementVerdict
   month-refused refusal v r e =
       record {
-        judged = judged (settlementChecks book call) settlement-told (r .verdict) (ap (λ (o : SettlementOutcome). o .verdict) e ∙ sym v);
+        judged = judged (settlementChecks ledger call) settlement-told (r .verdict) (ap (λ (o : SettlementOutcome). o .verdict) e ∙ sym v);
         booked = ap (λ (o : SettlementOutcome). o .ledger) e ∙ rw v;
         listed = rw v;
       }
 
   -- a month that is due
-  module _ (due : Due book call) where
-    pub lists-due : BillingLists (book .n) (call .readings) (call .losses)
+  module _ (due : Due ledger call) where
+    lengths-due : (eqb (length (call .readings)) (ledger .n * 32) ≡ true) × (eqb (length (call .losses)) (ledger .n * 2) ≡ true)
+        × (eqb (length (call .transfers)) (ledger .n) ≡ true)
     unfolding settlementLengths
+    lengths-due =
+        and-three (eqb (length (call .readings)) (ledger .n * 32)) (eqb (length (call .losses)) (ledger .n * 2)) (eqb (length (call .transfers)) (ledger .n)) (due .lengths)
+
+    pub lists-due : BillingLists (ledger .n) (call .readings) (call .losses)
     lists-due =
-        let read = eqb (length (call .readings)) (book .n * 32) in
-        let lost = eqb (length (call .losses)) (book .n * 2) in
-        let written = eqb (length (call .transfers)) (book .n) in
         record {
-          few = sound-few book (due .whole);
-          read = eqb-true _ _ (and-left read (lost && written) (due .lengths));
-          lost = eqb-true _ _ (and-left lost written (and-right read (lost && written) (due .lengths)));
+          few = sound-few ledger (due .whole);
+          read = eqb-true _ _ (lengths-due .0);
+          lost = eqb-true _ _ (lengths-due .1);
         }
 
-    pub transfers-length : length (call .transfers) ≡ book .n
-    unfolding settlementLengths
-    transfers-length =
-        let read = eqb (length (call .readings)) (book .n * 32) in
-        let lost = eqb (length (call .losses)) (book .n * 2) in
-        let written = eqb (length (call .transfers)) (book .n) in
-        eqb-true _ _ (and-right lost written (and-right read (lost && written) (due .lengths)))
+    pub transfers-length : length (call .transfers) ≡ ledger .n
+    transfers-length = eqb-true _ _ (lengths-due .2)
 
     -- the checks that a month which is due has passed
-    pub first-due : FirstPass 4 (settlementChecks book call)
+    pub first-due : FirstPass 4 (settlementChecks ledger call)
     unfolding FirstPass settlementChecks
     first-due =
         (passes Unsound (due .whole), (passes WrongLength (due .lengths), (passes OutOfTurn (due .turn), (passes NoFixing (due .inForce), tt))))
 
-    module _ (billed : billingInRange (book .n) (book .force .present) (call .readings) (call .losses) ≡ true) where
-      pub billed-due : Billed (book .n) (book .force .charges) (call .readings) (call .losses)
+    module _ (billed : billingInRange (ledger .n) (billedUnder ledger .present) (call .readings) (call .losses) ≡ true) where
+      pub billed-due : Billed (ledger .n) (billedUnder ledger .charges) (call .readings) (call .losses)
       billed-due =
           record {
-            lists = lists-due;
-            facts = billing-facts (book .n) (book .force .present) (call .readings) (call .losses) billed;
-            bounded = sound-charges book (due .whole);
+            billed =
+                record {
+                  lists = lists-due;
+                  facts = billing-facts (ledger .n) (billedUnder ledger .present) (call .readings) (call .losses) billed;
+                };
+            bounded = sound-charges ledger (due .whole);
           }
 
-      pub first-billed : FirstPass 5 (settlementChecks book call)
+      pub first-billed : FirstPass 5 (settlementChecks ledger call)
       unfolding FirstPass settlementChecks
       first-billed =
           (passes Unsound (due .whole), (passes WrongLength (due .lengths), (passes OutOfTurn (due .turn), (passes NoFixing (due .inForce), (passes WrongReading billed, tt)))))
 
-      module _ (positions : List Pesos) (e : positions ≡ positionsOf book call) where
-        pub position-beyond : positionsInRange (book .n) (moneyAt positions) ≡ false → verdictOf (settlementChecks book call) ≡ Refused PositionBeyond
+      module _ (positions : List Pesos) (e : positions ≡ positionsOf ledger call) where
+        pub position-beyond : positionsInRange (ledger .n) (moneyAt positions) ≡ false → verdictOf (settlementChecks ledger call) ≡ Refused PositionBeyond
         unfolding FirstPass settlementChecks
         position-beyond f =
-            refused-unless 5 (settlementChecks book call) 13 _ PositionBeyond [] first-billed refl
-            (ap (λ (l : List Pesos). positionsInRange (book .n) (moneyAt l)) (sym e) ∙ f)
+            refused-unless 5 (settlementChecks ledger call) 13 _ PositionBeyond [] first-billed refl
+            (ap (λ (l : List Pesos). positionsInRange (ledger .n) (moneyAt l)) (sym e) ∙ f)
 
         -- what is promised of a settled month
-        pub month-settled : positionsInRange (book .n) (moneyAt positions) ≡ true → (settled : Settled) (next : Ledger) (list : List ℤ) → settled ≡ settledMonth (book .n) positions → next ≡ settledLedger book (call .month) (settled .balances) → list ≡ listBelow (book .n) (moneyAt (settled .transfers)) → SettlementPromise book call Passed next list
+        pub month-settled : positionsInRange (ledger .n) (moneyAt positions) ≡ true → (settled : SettledMonth) (next : Ledger) (list : List ℤ) → settled ≡ settledMonth (ledger .n) positions → next ≡ settledLedger ledger (call .month) (settled .balances) → list ≡ listBelow (ledger .n) (moneyAt (settled .transfers)) → SettlementPromise ledger call Passed next list
         unfolding settlementLedger settlementList settlementVerdict settlementChecks FirstPass
         month-settled f settled next list g q r =
-            let within = ap (λ (l : List Pesos). positionsInRange (book .n) (moneyAt l)) (sym e) ∙ f in
-            let last : verdictOf (drop 5 (settlementChecks book call)) ≡ Passed =
-            verdict-passed (drop 5 (settlementChecks book call)) (passes PositionBeyond within, tt) in
-            let v = verdict-from 5 (settlementChecks book call) first-billed ∙ last in
-            let month : settled ≡ settledMonth (book .n) (positionsOf book call) = g ∙ ap (settledMonth (book .n)) e in
+            let within = ap (λ (l : List Pesos). positionsInRange (ledger .n) (moneyAt l)) (sym e) ∙ f in
+            let last : verdictOf (drop 5 (settlementChecks ledger call)) ≡ Passed =
+            verdict-passed (drop 5 (settlementChecks ledger call)) (passes PositionBeyond within, tt) in
+            let v = verdict-from 5 (settlementChecks ledger call) first-billed ∙ last in
+            let month : settled ≡ settledMonth (ledger .n) (positionsOf ledger call) = g ∙ ap (settledMonth (ledger .n)) e in
             record {
-              judged = judged (settlementChecks book call) settlement-told Passed (sym v);
-              booked = q ∙ ap (λ (s : Settled). settledLedger book (call .month) (s .balances)) month ∙ rw v;
-              listed = r ∙ ap (λ (s : Settled). listBelow (book .n) (moneyAt (s .transfers))) month ∙ rw v;
+              judged = judged (settlementChecks ledger call) settlement-told Passed (sym v);
+              booked = q ∙ ap (λ (s : SettledMonth). settledLedger ledger (call .month) (s .balances)) month ∙ rw v;
+              listed = r ∙ ap (λ (s : SettledMonth). listBelow (ledger .n) (moneyAt (s .transfers))) month ∙ rw v;
             }

@@ -1,62 +1,62 @@
--- Laws of soundness: the machine's test of zero, a loop that keeps a test of any, and what the code uses of a sound
--- ledger. Assumes nothing.
-use mathlib.Core.Path.{_≡_, refl, sym, _∙_}
-use mathlib.Core.Bool.{Bool, true, false}
-use Prim.Native.Nat.{ℕ, suc, _+_, _-_, _*_, _^_, _≤_, _<_}
+-- Laws of the names that speak of settled months, and what the code uses of a sound ledger. Assumes nothing.
+use mathlib.Core.Path.{_≡_, refl, ap}
+use mathlib.Core.Bool.{Bool, true, false, not}
+use mathlib.Core.List.{List}
+use Prim.Native.Nat.{ℕ, _+_, _*_, _≤_, _<_}
 use native.Mathlib.Omega.{arith}
-use native.Mathlib.Decide.{decLt}
-use native.Mathlib.Numerals.{add-one}
 use lib.Dec.{eqb}
-use lib.IntN.{ℤ, pos, negsuc, natAbs}
-use mir.Syntax.{w64}
-use mir.Val.{SFits, ofZ}
-use borrow.Author.Tests.{ne-eqb}
-use Rattle.numbers.specs.Bounded.{anyBelow}
-use Rattle.numbers.specs.Sizes.{sectorCount}
+use lib.IntN.{natAbs}
+use borrow.Author.Tests.{eqb-true, ne-eqb, not-false}
+use Rattle.numbers.specs.Sizes.{mostDistributors, sectorCount}
+use Rattle.numbers.specs.declared.units.Pesos.{Pesos}
+use Rattle.series.specs.Series.{lastMonth}
+use Rattle.fixing.specs.declared.sector.SectorCharges.{SectorCharges}
 use Rattle.settlement.specs.Amount.{mostCharge, chargeAt}
-use Rattle.settlement.specs.Month.{MoneyWithin}
-use Rattle.ledger.specs.Sound.{isZero, sound}
-use Rattle.ledger.specs.declared.book.Ledger.{Ledger}
+use Rattle.settlement.specs.Required.{MoneyWithin}
+use Rattle.ledger.specs.Ledger.{anySettled, billedUnder, emptyLedger, fixedLedger, settledLedger}
+use Rattle.ledger.specs.Sound.{sound}
+use Rattle.ledger.specs.declared.ledger.Ledger.{Ledger}
 use Rattle.ledger.proofs.SoundFacts.{sound-facts}
 
--- a signed word is zero where its bits are
-pub zero-bits : (z : ℤ) → SFits w64 z → eqb (ofZ w64 z) 0 ≡ isZero z
-unfolding isZero
-zero-bits (pos n) f = refl
-zero-bits (negsuc n) f =
-    ne-eqb (2 ^ 64 - suc n) 0 (λ e. omega (arith, f .sfits)) ∙ sym (ne-eqb (suc n) 0 (λ e. omega arith))
+-- the names that speak of settled months: none yet, one more
+pub none-settled : (ledger : Ledger) → anySettled ledger ≡ false → ledger .months ≡ 0
+unfolding anySettled
+none-settled ledger h = eqb-true (ledger .months) 0 (not-false (eqb (ledger .months) 0) h)
 
--- a loop that keeps whether any test held: kept, or told by the test at hand
-module _ (k : ℕ) (t : ℕ → Bool) (a b : Bool) (h : a ≡ anyBelow k t) where
-  pub any-kept : a ≡ true → b ≡ a → b ≡ anyBelow (k + 1) t
-  unfolding anyBelow
-  any-kept e f = rw (add-one, sym h ∙ e) (f ∙ e)
+pub opened-settled : (n : ℕ) → anySettled (emptyLedger n) ≡ false
+unfolding anySettled emptyLedger
+opened-settled n = refl
 
-  pub any-here : a ≡ false → b ≡ t k → b ≡ anyBelow (k + 1) t
-  unfolding anyBelow
-  any-here e f = rw (add-one, sym h ∙ e) f
+pub fixed-settled : (ledger : Ledger) (month : ℕ) (force : SectorCharges) → anySettled (fixedLedger ledger month force) ≡ anySettled ledger
+unfolding anySettled fixedLedger
+fixed-settled ledger month force = refl
+
+pub month-settled : (ledger : Ledger) (month : ℕ) (balances : List Pesos) → anySettled (settledLedger ledger month balances) ≡ true
+unfolding anySettled settledLedger
+month-settled ledger month balances = ap not (ne-eqb (ledger .months + 1) 0 (λ e. omega arith))
 
 -- what the code uses of a sound ledger
-module _ (book : Ledger) (h : sound book ≡ true) where
-  pub sound-some : 1 ≤ book .n
-  sound-some = sound-facts book h .some
+module _ (ledger : Ledger) (h : sound ledger ≡ true) where
+  pub sound-some : 1 ≤ ledger .n
+  sound-some = sound-facts ledger h .some
 
-  pub sound-few : book .n ≤ 40
-  sound-few = sound-facts book h .few
+  pub sound-few : ledger .n ≤ mostDistributors
+  sound-few = sound-facts ledger h .few
 
-  pub sound-last : book .last ≤ 1199
-  sound-last = sound-facts book h .month .lastMost
+  pub sound-last : ledger .last ≤ lastMonth
+  sound-last = sound-facts ledger h .month .lastMost
 
-  pub sound-months : book .months ≤ 1200
-  sound-months = go (decLt 0 (book .months))
+  pub sound-months : ledger .months ≤ 1200
+  sound-months = go (anySettled ledger) refl
     where
-      go : Dec (0 < book .months) → book .months ≤ 1200
-      go (yes p) = omega (arith, sound-last, sound-facts book h .month .few (omega arith))
-      go (no p) = omega arith
+      go : (b : Bool) → anySettled ledger ≡ b → ledger .months ≤ 1200
+      go true e = omega (arith, sound-last, sound-facts ledger h .month .few e)
+      go false e = omega (arith, none-settled ledger e)
 
-  pub sound-charges : (i s : ℕ) → i < book .n → s < sectorCount → natAbs (chargeAt (book .force .charges) i s) ≤ mostCharge
-  sound-charges i s p q = sound-facts book h .place (i * sectorCount + s) (omega (arith, sound-few)) .within
+  pub sound-charges : (i s : ℕ) → i < ledger .n → s < sectorCount → natAbs (chargeAt (billedUnder ledger .charges) i s) ≤ mostCharge
+  unfolding billedUnder
+  sound-charges i s p q = sound-facts ledger h .place (i * sectorCount + s) (omega (arith, sound-few)) .within
 
-  pub sound-balances : MoneyWithin (book .n) (book .balances)
+  pub sound-balances : MoneyWithin (ledger .n) (ledger .balances)
   sound-balances =
-      record { few = sound-few; within = λ i p. sound-facts book h .balance i (omega (arith, sound-few)) .within }
+      record { few = sound-few; within = λ i p. sound-facts ledger h .balance i (omega (arith, sound-few)) .within }

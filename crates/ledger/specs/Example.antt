@@ -4,20 +4,25 @@ use mathlib.Core.List.{List, [], _∷_, _++_}
 use Prim.Native.Nat.{ℕ}
 use lib.ListN.{replicate}
 use lib.IntN.{pos}
+use Rattle.supply.specs.declared.market.FixingNumbers.{FixingNumbers}
 use Rattle.settlement.specs.Example.{inSectorZero, billedReadings, evenLosses}
 use Rattle.ledger.specs.Ledger.{openingLedger}
 use Rattle.ledger.specs.Fix.{FixingCall, fixingCallOf, fixingLedger}
 use Rattle.ledger.specs.Settle.{SettlementCall, settlementCallOf, settlementLedger}
-use Rattle.ledger.specs.declared.book.Ledger.{Ledger}
+use Rattle.ledger.specs.declared.ledger.Ledger.{Ledger}
 
 -- a line of no terms: distributor, base price, factors 10,000, energy
 unfoldable pub plainLine : ℕ → ℕ → ℕ → List ℕ
 plainLine distributor base energy = (distributor ∷ base ∷ 10000 ∷ 10000 ∷ energy ∷ []) ++ replicate 21 0
 
+unfoldable pub plainNumbers : FixingNumbers
+plainNumbers = record { month = 0; dollar = 100000; «reference_factor» = 10000; «first_month» = 0 }
+
 -- a fixing in month 0 of plain lines at D 100,000 and F 10,000, whose references are their base prices; so many words are
 -- lent for the prices
 unfoldable pub plainCall : ℕ → List ℕ → List ℕ → FixingCall
-plainCall words lines sectors = fixingCallOf 0 100000 10000 0 (replicate 240 0) lines sectors (replicate words (pos 0))
+plainCall words lines sectors =
+    fixingCallOf plainNumbers (replicate 240 0) lines sectors (replicate words (pos 0))
 
 -- "the print": base prices 100,000, 83,000, 60,000 and energies 10, 10, 11, sector 0 alone present
 unfoldable pub printCall : FixingCall

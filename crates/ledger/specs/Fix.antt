@@ -3,10 +3,10 @@
 use mathlib.Core.Path.{_≡_}
 use mathlib.Core.Bool.{Bool, true, cond, _&&_}
 use mathlib.Core.List.{List, [], _∷_}
-use Prim.Native.Nat.{ℕ, zero, suc, _*_, _/_, _%_, _^_, _<_}
+use Prim.Native.Nat.{ℕ, zero, suc, _*_, _/_, _%_}
 use lib.Dec.{eqb, ltb}
 use lib.ListN.{length, getD}
-use lib.IntN.{ℤ, pos, natAbs}
+use lib.IntN.{ℤ, pos}
 use Rattle.numbers.specs.Bounded.{listBelow}
 use Rattle.numbers.specs.Refusal.{Answered, accepted, refusalAnswered, isPassed}
 use Rattle.numbers.specs.Checks.{Check, check, verdictOf, answeredBy}
@@ -17,16 +17,17 @@ use Rattle.numbers.specs.Units.{between, noPrice}
 use Rattle.numbers.specs.Sizes.{sectorCount}
 use Rattle.numbers.specs.declared.units.PesoPrice.{PesoPrice}
 use Rattle.series.specs.Series.{wordCount}
-use Rattle.supply.specs.Line.{lineWords, mostLines}
+use Rattle.supply.specs.Line.{lineWords, mostLines, lineCount}
+use Rattle.supply.specs.declared.market.FixingNumbers.{FixingNumbers}
 use Rattle.fixing.specs.Input.{FixingInput, inputOf, inputChecks, inputDistributors}
 use Rattle.fixing.specs.Prices.{returnedValues}
 use Rattle.fixing.specs.Fixing.{fixingOf}
 use Rattle.fixing.specs.declared.fix.Fixing.{Fixing}
 use Rattle.fixing.specs.declared.prices.FixedPrices.{FixedPrices}
-use Rattle.ledger.specs.Ledger.{fixedLedger}
+use Rattle.ledger.specs.Ledger.{anySettled, nextMonth, fixedLedger}
 use Rattle.ledger.specs.Sound.{sound}
 use Rattle.ledger.specs.Turn.{fixingTurn}
-use Rattle.ledger.specs.declared.book.Ledger.{Ledger}
+use Rattle.ledger.specs.declared.ledger.Ledger.{Ledger}
 use Rattle.ledger.specs.declared.fix.FixingAnswer.{FixingAnswer}
 use Rattle.ledger.specs.declared.fix.FixingAnswer.the-variants as answer
 
@@ -36,31 +37,36 @@ pub record FixingCall : Type 0 where
   pub prices : List ℤ
 
 -- a call from its parts
-abbrev pub fixingCallOf : ℕ → ℕ → ℕ → ℕ → List ℕ → List ℕ → List ℕ → List ℤ → FixingCall
-fixingCallOf month dollar factor first series lines sectors prices =
-    record { input = inputOf month dollar factor first series lines sectors; prices = prices }
+abbrev pub fixingCallOf : FixingNumbers → List ℕ → List ℕ → List ℕ → List ℤ → FixingCall
+fixingCallOf numbers series lines sectors prices =
+    record { input = inputOf numbers series lines sectors; prices = prices }
 
 -- "a lent list of wrong length or line count": whole lines, 1 to 256 of them
 unfoldable pub linesWhole : List ℕ → Bool
-linesWhole lines = eqb (length lines % lineWords) 0 && between 1 mostLines (length lines / lineWords)
+linesWhole lines = eqb (length lines % lineWords) 0 && between 1 mostLines (lineCount lines)
 
-unfoldable pub fixingLengths : ℕ → FixingCall → Bool
-fixingLengths n call =
-    eqb (length (call .input .series)) wordCount
-    && (linesWhole (call .input .lines)
-    && (eqb (length (call .input .sectors)) (n * sectorCount) && eqb (length (call .prices)) (n * 3)))
+unfoldable pub fixingLengths : ℕ → List ℕ → List ℕ → List ℕ → List ℤ → Bool
+fixingLengths n series lines sectors prices =
+    eqb (length series) wordCount
+    && linesWhole lines
+    && eqb (length sectors) (n * sectorCount)
+    && eqb (length prices) (n * 3)
+
+-- of a call
+abbrev pub callLengths : ℕ → FixingCall → Bool
+callLengths n call = fixingLengths n (call .input .series) (call .input .lines) (call .input .sectors) (call .prices)
 
 -- the checks of a fixing in their order: unsound ledger, a lent list of wrong length or line count, month above 1,199 or
 -- out of turn, then those of its input
 unfoldable pub fixingChecks : Ledger → FixingCall → List Check
-fixingChecks book call =
-    check 2 (sound book) Unsound
-    ∷ check 3 (fixingLengths (book .n) call) WrongLength
-    ∷ check 4 (fixingTurn (book .months) (book .last) (call .input .month)) OutOfTurn
-    ∷ inputChecks (book .n) (call .input)
+fixingChecks ledger call =
+    check 2 (sound ledger) Unsound
+    ∷ check 3 (callLengths (ledger .n) call) WrongLength
+    ∷ check 4 (fixingTurn (anySettled ledger) (nextMonth ledger) (call .input .numbers .month)) OutOfTurn
+    ∷ inputChecks (ledger .n) (call .input)
 
 unfoldable pub fixingVerdict : Ledger → FixingCall → Verdict
-fixingVerdict book call = verdictOf (fixingChecks book call)
+fixingVerdict ledger call = verdictOf (fixingChecks ledger call)
 
 -- an accepted fixing "returns L, r (0 if none), rounds, residue"
 unfoldable pub acceptedAnswer : FixedPrices → FixingAnswer
@@ -71,12 +77,12 @@ answerBy Passed accepted = accepted
 answerBy (Refused refusal) accepted = answer.Refused refusal
 
 unfoldable pub fixingAnswer : Ledger → FixingCall → FixingAnswer
-fixingAnswer book call = answerBy (fixingVerdict book call) (acceptedAnswer (fixingOf (book .n) (call .input) .prices))
+fixingAnswer ledger call = answerBy (fixingVerdict ledger call) (acceptedAnswer (fixingOf (ledger .n) (call .input) .prices))
 
 -- 01's number for each answer (0: accepted), and the values returned with it
 abbrev pub fixingAnswered : FixingAnswer → Answered
 fixingAnswered (answer.Accepted limit surcharge rounds residue) =
-    accepted (limit .0 ∷ surcharge .0 ∷ rounds ∷ natAbs (residue .0) ∷ [])
+    accepted (limit .0 ∷ surcharge .0 ∷ rounds ∷ residue .0 ∷ [])
 fixingAnswered (answer.Refused refusal) = refusalAnswered refusal
 
 -- "the count of rounds made" is below the number of distributors
@@ -86,40 +92,35 @@ roundsBelow n (answer.Refused refusal) = true
 
 -- the ledger handed back: a refused one unchanged
 unfoldable pub fixingLedger : Ledger → FixingCall → Ledger
-fixingLedger book call =
-    let booked = fixedLedger book (call .input .month) (fixingOf (book .n) (call .input) .sectors) in
-    cond (isPassed (fixingVerdict book call)) booked book
+fixingLedger ledger call =
+    let booked = fixedLedger ledger (call .input .numbers .month) (fixingOf (ledger .n) (call .input) .sectors) in
+    cond (isPassed (fixingVerdict ledger call)) booked ledger
 
--- "Fixing writes average, final, charge, distributor by distributor": word k of the list
-abbrev pub third : ℕ → ℤ → ℤ → ℤ → ℤ
-third zero average final charge = average
-third (suc zero) average final charge = final
-third (suc (suc k)) average final charge = charge
+-- "Fixing writes average, final, charge, distributor by distributor": the three words of one, and word k of the list
+abbrev pub pricePart : ℕ → ℕ → ℤ → ℕ → ℤ
+pricePart average final charge zero = pos average
+pricePart average final charge (suc zero) = pos final
+pricePart average final charge (suc (suc k)) = charge
 
 unfoldable pub priceWord : List PesoPrice → List PesoPrice → List ℤ → ℕ → ℤ
 priceWord averages finals charges k =
-    let average = getD averages (k / 3) noPrice .0 in
-    let final = getD finals (k / 3) noPrice .0 in
-    third (k % 3) (pos average) (pos final) (getD charges (k / 3) (pos 0))
+    pricePart (getD averages (k / 3) noPrice .0) (getD finals (k / 3) noPrice .0) (getD charges (k / 3) (pos 0)) (k % 3)
 
 unfoldable pub priceList : ℕ → Fixing → List ℤ
 priceList n fixing =
     listBelow (n * 3) (priceWord (fixing .averages) (fixing .prices .finals) (fixing .charges))
 
 unfoldable pub fixingList : Ledger → FixingCall → List ℤ
-fixingList book call =
-    cond (isPassed (fixingVerdict book call)) (priceList (book .n) (fixingOf (book .n) (call .input))) (call .prices)
+fixingList ledger call =
+    cond (isPassed (fixingVerdict ledger call)) (priceList (ledger .n) (fixingOf (ledger .n) (call .input))) (call .prices)
 
 -- what the open call promises, for every ledger and every call: answer, its number and values, rounds below n, ledger and
 -- written list
-pub record FixingPromise (book : Ledger) (call : FixingCall) (given : FixingAnswer) (next : Ledger) (list : List ℤ) : Type 0 where
-  pub answered : given ≡ fixingAnswer book call
-  pub numbered : fixingAnswered given ≡ answeredBy (fixingChecks book call) (returnedValues (inputDistributors (book .n) (call .input)))
-  pub few : roundsBelow (book .n) given ≡ true
-  pub booked : next ≡ fixingLedger book call
-  pub listed : list ≡ fixingList book call
-
--- prices whose words are written: each fits a signed word
-pub record PricesSmall (averages finals : List PesoPrice) : Type 0 where
-  pub average : (i : ℕ) → getD averages i noPrice .0 < 2 ^ 62
-  pub final : (i : ℕ) → getD finals i noPrice .0 < 2 ^ 62
+pub record FixingPromise (ledger : Ledger) (call : FixingCall) (given : FixingAnswer) (next : Ledger) (list : List ℤ) :
+    Type 0 where
+  pub answered : given ≡ fixingAnswer ledger call
+  pub numbered : fixingAnswered given
+      ≡ answeredBy (fixingChecks ledger call) (returnedValues (inputDistributors (ledger .n) (call .input)))
+  pub few : roundsBelow (ledger .n) given ≡ true
+  pub booked : next ≡ fixingLedger ledger call
+  pub listed : list ≡ fixingList ledger call

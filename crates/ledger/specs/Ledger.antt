@@ -16,7 +16,7 @@ use Rattle.numbers.specs.declared.units.Pesos.{Pesos}
 use Rattle.fixing.specs.Sector.{noCharges}
 use Rattle.fixing.specs.declared.sector.SectorCharges.{SectorCharges}
 use Rattle.settlement.specs.Month.{moneyBelow}
-use Rattle.ledger.specs.declared.book.Ledger.{Ledger}
+use Rattle.ledger.specs.declared.ledger.Ledger.{Ledger}
 
 -- no balances
 unfoldable pub noBalances : List Pesos
@@ -27,33 +27,40 @@ unfoldable pub emptyLedger : ℕ → Ledger
 emptyLedger n =
     record { n = n; months = 0; last = 0; fixed = false; month = 0; force = noCharges; balances = noBalances }
 
--- whether a month is settled
-unfoldable pub anySettled : ℕ → Bool
-anySettled months = not (eqb months 0)
+-- whether any month is settled, and the month that comes next
+unfoldable pub anySettled : Ledger → Bool
+anySettled ledger = not (eqb (ledger .months) 0)
+
+unfoldable pub nextMonth : Ledger → ℕ
+nextMonth ledger = ledger .last + 1
+
+-- the presences and charges that a month is billed under: those in force
+unfoldable pub billedUnder : Ledger → SectorCharges
+billedUnder ledger = ledger .force
 
 -- "The latest fixing is in force": its month, presences and charges replace those before
 unfoldable pub fixedLedger : Ledger → ℕ → SectorCharges → Ledger
-fixedLedger book month force =
+fixedLedger ledger month force =
     record {
-      n = book .n;
-      months = book .months;
-      last = book .last;
+      n = ledger .n;
+      months = ledger .months;
+      last = ledger .last;
       fixed = true;
       month = month;
       force = force;
-      balances = book .balances;
+      balances = ledger .balances;
     }
 
 -- "A settled month raises the count by one", is the last month, and moves the balances
 unfoldable pub settledLedger : Ledger → ℕ → List Pesos → Ledger
-settledLedger book month balances =
+settledLedger ledger month balances =
     record {
-      n = book .n;
-      months = book .months + 1;
+      n = ledger .n;
+      months = ledger .months + 1;
       last = month;
-      fixed = book .fixed;
-      month = book .month;
-      force = book .force;
+      fixed = ledger .fixed;
+      month = ledger .month;
+      force = ledger .force;
       balances = balances;
     }
 

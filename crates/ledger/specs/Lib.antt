@@ -4,3 +4,4 @@ pub mod Turn
 pub mod Fix
 pub mod Settle
 pub mod Example
+pub mod Required

@@ -1,34 +1,43 @@
 // The open call of fixing: no requires. Causes 2, 3 and 4 are the ledger's, the others the fixing's; the prices are
 // written only when all of them are passed.
 ghost use mathlib.Core.Path.{_≡_};
-ghost use Prim.Native.Nat.{_*_, _≤_, _<_};
+ghost use Prim.Native.Nat.{_*_, _≤_, _<_, _^_};
 ghost use lib.ListN.{length};
 ghost use Rattle.numbers.specs.Bounded.{listBelow};
 ghost use Rattle.ledger.specs.Ledger.{fixedLedger};
 ghost use Rattle.ledger.specs.Turn.{fixingTurn};
 ghost use Rattle.ledger.specs.declared.fix.FixingAnswer.the-variants.{Refused};
-ghost use Rattle.ledger.specs.Fix.{fixingCallOf, linesWhole, fixingLengths, priceWord, PricesSmall, fixingAnswered, acceptedAnswer, FixingPromise};
-use crate::book::LAST_MONTH;
-use crate::book::Ledger;
-use crate::sound::sound;
+ghost use Rattle.numbers.specs.Sizes.{mostDistributors};
+ghost use Rattle.ledger.specs.Fix.{fixingCallOf, linesWhole, fixingLengths, pricePart, priceWord};
+ghost use Rattle.ledger.specs.Fix.{fixingAnswered, acceptedAnswer, FixingPromise};
+ghost use Rattle.ledger.specs.Required.{PricesSmall};
+use crate::ledger::Ledger;
+use crate::sound::is_sound;
 use fixing::fix::fix_input;
 use fixing::prices::FixedPrices;
 use fixing::sector::SectorCharges;
 use numbers::refusal::Refusal;
 use numbers::refusal::Verdict;
-use numbers::refusal::{self};
+use numbers::refusal::refusal_number;
 use numbers::signed::difference;
+use numbers::sizes::MOST_DISTRIBUTORS;
+use numbers::sizes::SECTORS;
 use numbers::units::PesoPrice;
-use numbers::units::Pesos;
+use numbers::units::UnsignedPesos;
 use numbers::units::is_between;
+use series::table::LAST_MONTH;
+use series::table::WORDS;
 use supply::line::LINE_WORDS;
+use supply::line::MOST_LINES;
+use supply::line::line_count;
+use supply::market::FixingNumbers;
 
 pub enum FixingAnswer {
     Accepted {
         limit: PesoPrice,
         surcharge: PesoPrice,
         rounds: u64,
-        residue: Pesos,
+        residue: UnsignedPesos,
     },
     Refused(Refusal),
 }
@@ -55,57 +64,57 @@ impl Ledger {
 fn lines_whole(lines: &[u64]) -> bool
     ensures { λ r. ⌜ r ≡ linesWhole (now (lines .entry)) ⌝ }
 {
-    lines.len() % LINE_WORDS == 0 && is_between(1, 256, (lines.len() / LINE_WORDS) as u64)
+    (lines.len() % LINE_WORDS == 0) & is_between(1, MOST_LINES as u64, line_count(lines) as u64)
 }
 
 // Whether every lent list has its length.
 fn lengths_right(n: usize, series: &[u64], lines: &[u64], sectors: &[u64], prices: &[i64]) -> bool
-    requires { ⌜ n ≤ 40 ⌝ }
-    ensures { λ r. ⌜ r ≡ fixingLengths n (fixingCallOf 0 0 0 0 (now (series .entry)) (now (lines .entry)) (now (sectors .entry)) (now (prices .entry))) ⌝ }
+    requires { ⌜ n ≤ mostDistributors ⌝ }
+    ensures { λ r. ⌜ r ≡ fixingLengths n (now (series .entry)) (now (lines .entry)) (now (sectors .entry)) (now (prices .entry)) ⌝ }
 {
-    series.len() == 240 && (lines_whole(lines) && (sectors.len() == n * 8 && prices.len() == n * 3))
+    (series.len() == WORDS)
+        & lines_whole(lines)
+        & (sectors.len() == n * SECTORS)
+        & (prices.len() == n * 3)
 }
 
 // Whether the fixing's month is due.
-fn in_turn(months: u64, last: u64, month: u64) -> bool
-    requires { ⌜ last ≤ 1199 ⌝ }
-    ensures { λ r. ⌜ r ≡ fixingTurn months last month ⌝ }
+fn in_turn(settled: bool, next: u64, month: u64) -> bool
+    ensures { λ r. ⌜ r ≡ fixingTurn settled next month ⌝ }
 {
-    month <= LAST_MONTH && (months == 0 || month == last + 1)
+    (month <= LAST_MONTH) & (!settled | (month == next))
 }
 
-// Word k of the price list: average, final price and charge of each distributor in turn.
-fn price_word(
-    averages: [PesoPrice; 40],
-    finals: [PesoPrice; 40],
-    charges: [i64; 40],
-    k: usize,
-) -> i64
-    requires { ⌜ PricesSmall averages finals ⌝ ∗ ⌜ k < 120 ⌝ }
-    ensures { λ r. ⌜ r ≡ priceWord averages finals charges k ⌝ }
+// A distributor's word of the price list: average, final price or charge.
+fn price_part(average: PesoPrice, last: PesoPrice, charge: i64, part: usize) -> i64
+    requires { ⌜ average .0 < 2 ^ 62 ⌝ ∗ ⌜ last .0 < 2 ^ 62 ⌝ ∗ ⌜ part < 3 ⌝ }
+    ensures { λ r. ⌜ r ≡ pricePart (average .0) (last .0) charge part ⌝ }
 {
-    let i = k / 3;
-    match k % 3 {
-        0 => difference(averages[i].0, 0),
-        1 => difference(finals[i].0, 0),
-        _ => charges[i],
+    match part {
+        0 => difference(average.0, 0),
+        1 => difference(last.0, 0),
+        _ => charge,
     }
 }
 
-// The whole price list, in one loop that cannot fail.
+// The whole price list, distributor by distributor, in one loop that cannot fail.
 fn write_prices(
-    prices: &mut [i64],
     n: usize,
-    averages: [PesoPrice; 40],
-    finals: [PesoPrice; 40],
-    charges: [i64; 40],
+    averages: [PesoPrice; MOST_DISTRIBUTORS],
+    finals: [PesoPrice; MOST_DISTRIBUTORS],
+    charges: [i64; MOST_DISTRIBUTORS],
+    prices: &mut [i64],
 )
-    requires { ⌜ n ≤ 40 ⌝ ∗ ⌜ length (now prices) ≡ n * 3 ⌝ ∗ ⌜ PricesSmall averages finals ⌝ }
+    requires { ⌜ n ≤ mostDistributors ⌝ ∗ ⌜ length (now prices) ≡ n * 3 ⌝ ∗ ⌜ PricesSmall averages finals ⌝ }
     ensures { λ r. ⌜ now (prices .exit) ≡ listBelow (n * 3) (priceWord averages finals charges) ⌝ }
 {
     let mut k: usize = 0;
     while k < prices.len() {
-        prices[k] = price_word(averages, finals, charges, k);
+        let i = k / 3;
+        let average = averages[i];
+        let last = finals[i];
+        let charge = charges[i];
+        prices[k] = price_part(average, last, charge, k % 3);
         k += 1;
     }
 }
@@ -141,30 +150,28 @@ fn refused(refusal: Refusal, ledger: Ledger) -> FixingOutcome
 // in force in the ledger handed back; where it is refused both are as they were.
 pub fn fix(
     ledger: Ledger,
-    month: u64,
-    dollar: u64,
-    factor: u64,
-    first: u64,
+    numbers: FixingNumbers,
     series: &[u64],
     lines: &[u64],
     sectors: &[u64],
     prices: &mut [i64],
 ) -> FixingOutcome
-    ensures { λ r. ⌜ FixingPromise ledger (fixingCallOf month dollar factor first (now (series .entry)) (now (lines .entry)) (now (sectors .entry)) (now (prices .entry))) (r .answer) (r .ledger) (now (prices .exit)) ⌝ }
+    ensures { λ r. ⌜ FixingPromise ledger
+        (fixingCallOf numbers (now (series .entry)) (now (lines .entry)) (now (sectors .entry)) (now (prices .entry)))
+        (r .answer) (r .ledger) (now (prices .exit)) ⌝ }
 {
-    if !sound(ledger) {
+    if !is_sound(ledger) {
         return refused(Refusal::Unsound, ledger);
     }
     let n = ledger.n;
     if !lengths_right(n, series, lines, sectors, prices) {
         return refused(Refusal::WrongLength, ledger);
     }
-    let months = ledger.months;
-    let last = ledger.last;
-    if !in_turn(months, last, month) {
+    let month = numbers.month;
+    if !in_turn(ledger.any_settled(), ledger.next_month(), month) {
         return refused(Refusal::OutOfTurn, ledger);
     }
-    let fixing = fix_input(n, month, dollar, factor, first, series, lines, sectors);
+    let fixing = fix_input(n, numbers, series, lines, sectors);
     let verdict = fixing.verdict;
     if let Verdict::Refused(refusal) = verdict {
         return refused(refusal, ledger);
@@ -174,14 +181,14 @@ pub fn fix(
     let finals = fixed.finals;
     let charges = fixing.charges;
     let force = fixing.sectors;
-    write_prices(prices, n, averages, finals, charges);
+    write_prices(n, averages, finals, charges, prices);
     let answer = accepted(fixed);
     let ledger = ledger.book_fixing(month, force);
     FixingOutcome { answer, ledger }
 }
 
 // 01's number of a fixing's answer: 0 where it is accepted.
-pub fn number(answer: FixingAnswer) -> u64
+pub fn fixing_number(answer: FixingAnswer) -> u64
     ensures { λ r. ⌜ r ≡ fixingAnswered answer .number ⌝ }
 {
     match answer {
@@ -191,6 +198,6 @@ pub fn number(answer: FixingAnswer) -> u64
             rounds: _,
             residue: _,
         } => 0,
-        FixingAnswer::Refused(refusal) => refusal::number(refusal),
+        FixingAnswer::Refused(refusal) => refusal_number(refusal),
     }
 }

@@ -1,6 +1,6 @@
 // The ledger of document 01: opened, fixed and settled by open calls that refuse bad input by the paper's numbers. A
 // ledger goes in by value and comes back by value; lists are lent, and written only after the last check.
-pub mod book;
+pub mod ledger;
 pub mod fix;
 pub mod open;
 pub mod settle;

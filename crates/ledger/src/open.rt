@@ -1,10 +1,11 @@
 // Opening a ledger of n distributors.
 ghost use mathlib.Core.Path.{_≡_};
 ghost use Rattle.ledger.specs.Ledger.{emptyLedger, OpeningPromise};
-use crate::book::Ledger;
+use crate::ledger::Ledger;
 use fixing::sector::no_charges;
 use numbers::refusal::Refusal;
 use numbers::refusal::Verdict;
+use numbers::sizes::MOST_DISTRIBUTORS;
 use numbers::units::Pesos;
 use numbers::units::is_between;
 
@@ -26,7 +27,7 @@ fn empty(n: usize) -> Ledger
         fixed: false,
         month: 0,
         force,
-        balances: [none; 40],
+        balances: [none; MOST_DISTRIBUTORS],
     }
 }
 
@@ -34,7 +35,7 @@ fn empty(n: usize) -> Ledger
 pub fn open(n: usize) -> Opening
     ensures { λ r. ⌜ OpeningPromise n (r .verdict) (r .ledger) ⌝ }
 {
-    if is_between(1, 40, n as u64) {
+    if is_between(1, MOST_DISTRIBUTORS as u64, n as u64) {
         let ledger = empty(n);
         return Opening {
             verdict: Verdict::Passed,

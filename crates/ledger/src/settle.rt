@@ -5,16 +5,19 @@ ghost use Prim.Native.Nat.{_≤_, _<_, _^_};
 ghost use lib.ListN.{length};
 ghost use Rattle.numbers.specs.Bounded.{listBelow};
 ghost use Rattle.numbers.specs.declared.refusal.Verdict.the-variants.{Refused};
+ghost use Rattle.numbers.specs.Sizes.{mostDistributors};
 ghost use Rattle.settlement.specs.Month.{moneyAt};
 ghost use Rattle.ledger.specs.Ledger.{settledLedger};
 ghost use Rattle.ledger.specs.Turn.{settlementTurn};
-ghost use Rattle.ledger.specs.Settle.{settlementCallOf, settlementLengths, Due, SettlementPromise};
-use crate::book::LAST_MONTH;
-use crate::book::Ledger;
-use crate::sound::sound;
+ghost use Rattle.ledger.specs.Settle.{settlementCallOf, settlementLengths, SettlementPromise};
+ghost use Rattle.ledger.specs.Required.{Due};
+use crate::ledger::Ledger;
+use crate::sound::is_sound;
 use numbers::refusal::Refusal;
 use numbers::refusal::Verdict;
+use numbers::sizes::MOST_DISTRIBUTORS;
 use numbers::units::Pesos;
+use series::table::LAST_MONTH;
 use settlement::amount::billing_in_range;
 use settlement::month::positions;
 use settlement::month::positions_in_range;
@@ -28,7 +31,7 @@ pub struct SettlementOutcome {
 
 impl Ledger {
     // The ledger with one month more settled.
-    fn book_month(mut self, month: u64, balances: [Pesos; 40]) -> Self
+    fn book_month(mut self, month: u64, balances: [Pesos; MOST_DISTRIBUTORS]) -> Self
         requires { ⌜ self .months < 2 ^ 63 ⌝ }
         ensures { λ r. ⌜ r ≡ settledLedger self month balances ⌝ }
     {
@@ -41,30 +44,26 @@ impl Ledger {
 
 // Whether every lent list has its length.
 fn lengths_right(n: usize, readings: &[u64], losses: &[u64], transfers: &[i64]) -> bool
-    requires { ⌜ n ≤ 40 ⌝ }
-    ensures { λ r. ⌜ r ≡ settlementLengths n (settlementCallOf 0 (now (readings .entry)) (now (losses .entry)) (now (transfers .entry))) ⌝ }
+    requires { ⌜ n ≤ mostDistributors ⌝ }
+    ensures { λ r. ⌜ r ≡ settlementLengths n (now (readings .entry)) (now (losses .entry)) (now (transfers .entry)) ⌝ }
 {
-    readings.len() == n * 32 && (losses.len() == n * 2 && transfers.len() == n)
+    (readings.len() == n * 32) & (losses.len() == n * 2) & (transfers.len() == n)
 }
 
 // Whether the month is due.
-fn in_turn(months: u64, last: u64, fixed: bool, fixing_month: u64, month: u64) -> bool
-    requires { ⌜ last ≤ 1199 ⌝ }
-    ensures { λ r. ⌜ r ≡ settlementTurn months last fixed «fixing_month» month ⌝ }
+fn in_turn(settled: bool, next: u64, fixed: bool, fixing_month: u64, month: u64) -> bool
+    ensures { λ r. ⌜ r ≡ settlementTurn settled next fixed «fixing_month» month ⌝ }
 {
-    if month > LAST_MONTH {
-        return false;
-    }
-    if months != 0 {
-        month == last + 1
+    if settled {
+        (month <= LAST_MONTH) & (month == next)
     } else {
-        !fixed || month == fixing_month
+        (month <= LAST_MONTH) & (!fixed | (month == fixing_month))
     }
 }
 
 // The transfers, in one loop that cannot fail.
-fn write_transfers(transfers: &mut [i64], n: usize, amounts: [Pesos; 40])
-    requires { ⌜ n ≤ 40 ⌝ ∗ ⌜ length (now transfers) ≡ n ⌝ }
+fn write_transfers(n: usize, amounts: [Pesos; MOST_DISTRIBUTORS], transfers: &mut [i64])
+    requires { ⌜ n ≤ mostDistributors ⌝ ∗ ⌜ length (now transfers) ≡ n ⌝ }
     ensures { λ r. ⌜ now (transfers .exit) ≡ listBelow n (moneyAt amounts) ⌝ }
 {
     let mut i: usize = 0;
@@ -98,7 +97,7 @@ fn settle_month(
     ensures { λ r. ⌜ SettlementPromise ledger (settlementCallOf month (now (readings .entry)) (now (losses .entry)) (now (transfers .entry))) (r .verdict) (r .ledger) (now (transfers .exit)) ⌝ }
 {
     let n = ledger.n;
-    let force = ledger.force;
+    let force = ledger.billed_under();
     let present = force.present;
     let charges = force.charges;
     if !billing_in_range(n, &present, readings, losses) {
@@ -112,7 +111,7 @@ fn settle_month(
     let settled = settle_positions(n, positions);
     let amounts = settled.transfers;
     let balances = settled.balances;
-    write_transfers(transfers, n, amounts);
+    write_transfers(n, amounts, transfers);
     let ledger = ledger.book_month(month, balances);
     SettlementOutcome {
         verdict: Verdict::Passed,
@@ -131,18 +130,16 @@ pub fn settle(
 ) -> SettlementOutcome
     ensures { λ r. ⌜ SettlementPromise ledger (settlementCallOf month (now (readings .entry)) (now (losses .entry)) (now (transfers .entry))) (r .verdict) (r .ledger) (now (transfers .exit)) ⌝ }
 {
-    if !sound(ledger) {
+    if !is_sound(ledger) {
         return refused(Refusal::Unsound, ledger);
     }
     let n = ledger.n;
     if !lengths_right(n, readings, losses, transfers) {
         return refused(Refusal::WrongLength, ledger);
     }
-    let months = ledger.months;
-    let last = ledger.last;
+    let settled = ledger.any_settled();
     let fixed = ledger.fixed;
-    let fixing_month = ledger.month;
-    if !in_turn(months, last, fixed, fixing_month, month) {
+    if !in_turn(settled, ledger.next_month(), fixed, ledger.month, month) {
         return refused(Refusal::OutOfTurn, ledger);
     }
     if !fixed {

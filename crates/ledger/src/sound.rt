@@ -2,36 +2,43 @@
 // ledger may hold the least i64.
 ghost use mathlib.Core.Path.{_≡_};
 ghost use Prim.Native.Nat.{_≤_};
-ghost use Rattle.numbers.specs.Bounded.{allBelow};
 ghost use Rattle.numbers.specs.Sizes.{mostDistributors};
 ghost use Rattle.settlement.specs.Settlement.{oneSign};
 ghost use Rattle.settlement.specs.Month.{moneyAt};
-ghost use Rattle.ledger.specs.Sound.{placeTest, forceSound, nothingPresent, unsetZero, monthsSound, balanceTest, balanceSound};
-ghost use Rattle.ledger.specs.Sound.{sound as soundLedger};
-use crate::book::LAST_MONTH;
-use crate::book::Ledger;
+ghost use Rattle.ledger.specs.Sound.{mostChargeOf, placeTest, forceSound, nothingPresent, unsetZero, monthsSound};
+ghost use Rattle.ledger.specs.Sound.{mostBalanceOf, balanceTest, eachBalance, sound};
+use crate::ledger::Ledger;
 use fixing::sector::SectorCharges;
 use numbers::signed::within_size;
+use numbers::sizes::MOST_DISTRIBUTORS;
 use numbers::sizes::PLACES;
 use numbers::sizes::SECTORS;
 use numbers::units::Pesos;
 use numbers::units::is_between;
+use series::table::LAST_MONTH;
 
 const MOST_CHARGE: u64 = 10500000;
 
 const MOST_BALANCE: u64 = 1000000000000000;
 
+// The greatest size of a sector's charge: none where it is absent.
+fn most_charge(present: bool) -> u64
+    ensures { λ r. ⌜ r ≡ mostChargeOf present ⌝ }
+{
+    if present { MOST_CHARGE } else { 0 }
+}
+
 // One sector's place: empty past n, no charge where the sector is absent, a charge within its bounds.
 fn place_sound(n: usize, present: bool, charge: i64, k: usize) -> bool
-    requires { ⌜ n ≤ 40 ⌝ }
+    requires { ⌜ n ≤ mostDistributors ⌝ }
     ensures { λ r. ⌜ r ≡ placeTest n present charge k ⌝ }
 {
-    (k < n * SECTORS || !present) && ((present || charge == 0) && within_size(charge, MOST_CHARGE))
+    ((k < n * SECTORS) | !present) & within_size(charge, most_charge(present))
 }
 
 // All places of what is in force.
 fn force_sound(n: usize, force: SectorCharges) -> bool
-    requires { ⌜ n ≤ 40 ⌝ }
+    requires { ⌜ n ≤ mostDistributors ⌝ }
     ensures { λ r. ⌜ r ≡ forceSound n force ⌝ }
 {
     let mut k: usize = 0;
@@ -61,40 +68,45 @@ fn nothing_present(force: SectorCharges) -> bool
 }
 
 // What is unset is zero: without a fixing its month and presences, without a settled month the last month.
-fn unset_zero(months: u64, last: u64, fixed: bool, month: u64, force: SectorCharges) -> bool
-    ensures { λ r. ⌜ r ≡ unsetZero months last fixed month force ⌝ }
+fn unset_zero(settled: bool, last: u64, fixed: bool, month: u64, force: SectorCharges) -> bool
+    ensures { λ r. ⌜ r ≡ unsetZero settled last fixed month force ⌝ }
 {
-    (fixed || (month == 0 && nothing_present(force))) && (months != 0 || last == 0)
+    (fixed || (month == 0 && nothing_present(force))) && (settled || last == 0)
 }
 
 // Month numbers and the count of months are in their ranges, and nothing is settled without a fixing.
-fn months_sound(months: u64, last: u64, fixed: bool, month: u64) -> bool
-    ensures { λ r. ⌜ r ≡ monthsSound months last fixed month ⌝ }
+fn months_sound(settled: bool, months: u64, last: u64, fixed: bool, month: u64) -> bool
+    ensures { λ r. ⌜ r ≡ monthsSound settled months last fixed month ⌝ }
 {
     if last > LAST_MONTH {
         return false;
     }
-    if month > LAST_MONTH {
-        return false;
-    }
-    months == 0 || (months <= last + 1 && (month <= last + 1 && fixed))
+    let due = (months <= last + 1) & (month <= last + 1) & fixed;
+    (month <= LAST_MONTH) & (!settled | due)
 }
 
-// One balance: zero past n and till a month is settled, and within its bounds.
-fn balance_sound(n: usize, months: u64, balance: Pesos, i: usize) -> bool
-    ensures { λ r. ⌜ r ≡ balanceTest n months (balance .0) i ⌝ }
+// The greatest size of a balance: none past n, and none till a month is settled.
+fn most_balance(held: bool) -> u64
+    ensures { λ r. ⌜ r ≡ mostBalanceOf held ⌝ }
 {
-    ((i < n && months != 0) || balance.0 == 0) && within_size(balance.0, MOST_BALANCE)
+    if held { MOST_BALANCE } else { 0 }
+}
+
+// One balance.
+fn balance_sound(n: usize, settled: bool, balance: Pesos, i: usize) -> bool
+    ensures { λ r. ⌜ r ≡ balanceTest n settled (balance .0) i ⌝ }
+{
+    within_size(balance.0, most_balance((i < n) & settled))
 }
 
 // Every balance.
-fn each_balance_sound(n: usize, months: u64, balances: [Pesos; 40]) -> bool
-    ensures { λ r. ⌜ r ≡ allBelow mostDistributors (balanceSound n months balances) ⌝ }
+fn each_balance_sound(n: usize, settled: bool, balances: [Pesos; MOST_DISTRIBUTORS]) -> bool
+    ensures { λ r. ⌜ r ≡ eachBalance n settled balances ⌝ }
 {
     let mut i: usize = 0;
-    while i < 40 {
+    while i < MOST_DISTRIBUTORS {
         let balance = balances[i];
-        if !balance_sound(n, months, balance, i) {
+        if !balance_sound(n, settled, balance, i) {
             return false;
         }
         i += 1;
@@ -103,43 +115,37 @@ fn each_balance_sound(n: usize, months: u64, balances: [Pesos; 40]) -> bool
 }
 
 // Whether not both a balance above zero and one below is among them.
-fn one_sign(balances: [Pesos; 40]) -> bool
+fn one_sign(balances: [Pesos; MOST_DISTRIBUTORS]) -> bool
     ensures { λ r. ⌜ r ≡ oneSign mostDistributors (moneyAt balances) ⌝ }
 {
     let mut above = false;
     let mut below = false;
     let mut i: usize = 0;
-    while i < 40 {
+    while i < MOST_DISTRIBUTORS {
         let balance = balances[i];
-        above = above || 0 < balance.0;
-        below = below || balance.0 < 0;
+        above = above | (0 < balance.0);
+        below = below | (balance.0 < 0);
         i += 1;
     }
-    !(above && below)
+    !(above & below)
 }
 
 // Whether the ledger is sound, for every bit pattern.
-pub(crate) fn sound(ledger: Ledger) -> bool
-    ensures { λ r. ⌜ r ≡ soundLedger ledger ⌝ }
+pub(crate) fn is_sound(ledger: Ledger) -> bool
+    ensures { λ r. ⌜ r ≡ sound ledger ⌝ }
 {
     let n = ledger.n;
-    if !is_between(1, 40, n as u64) {
+    if !is_between(1, MOST_DISTRIBUTORS as u64, n as u64) {
         return false;
     }
-    let force = ledger.force;
-    if !force_sound(n, force) {
-        return false;
-    }
-    let months = ledger.months;
+    let settled = ledger.any_settled();
     let last = ledger.last;
     let fixed = ledger.fixed;
     let month = ledger.month;
-    if !unset_zero(months, last, fixed, month, force) {
-        return false;
-    }
-    if !months_sound(months, last, fixed, month) {
-        return false;
-    }
+    let force = ledger.force;
     let balances = ledger.balances;
-    each_balance_sound(n, months, balances) && one_sign(balances)
+    force_sound(n, force)
+        & unset_zero(settled, last, fixed, month, force)
+        & months_sound(settled, ledger.months, last, fixed, month)
+        & (each_balance_sound(n, settled, balances) & one_sign(balances))
 }

@@ -23,6 +23,26 @@ pub or-right : (a b : Bool) → (a || b) ≡ false → b ≡ false
 or-right true b h = absurd (true≢false h)
 or-right false b h = h
 
+-- a conjunction from its parts, and a disjunction as an implication
+pub and-both : (a b : Bool) → a ≡ true → b ≡ true → (a && b) ≡ true
+and-both a b p q = rw (p, q)
+
+pub or-else : (a b : Bool) → (a || b) ≡ true → a ≡ false → b ≡ true
+or-else true b h e = absurd (true≢false e)
+or-else false b h e = h
+
+pub or-of : (a b : Bool) → (a ≡ false → b ≡ true) → (a || b) ≡ true
+or-of true b h = refl
+or-of false b h = h refl
+
+pub not-of : (a : Bool) → a ≡ false → not a ≡ true
+not-of a e = rw e
+
+pub not-both : (a b : Bool) → not (a && b) ≡ true → a ≡ true → b ≡ false
+not-both true true h e = absurd (false≢true h)
+not-both true false h e = refl
+not-both false b h e = absurd (false≢true e)
+
 -- the parts of a chain of tests, whose names the caller writes once
 pub and-three : (a b c : Bool) → (a && b && c) ≡ true → (a ≡ true) × (b ≡ true) × (c ≡ true)
 and-three a b c h =

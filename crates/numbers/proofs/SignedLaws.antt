@@ -6,9 +6,9 @@ use Prim.Native.Nat.{ℕ, zero, suc, _+_, _-_, _*_, _^_, _<_, _≤_}
 use native.Mathlib.Omega.{arith}
 use native.Mathlib.Decide.{decLt}
 use native.Mathlib.Numerals.{add-one}
-use native.Mathlib.Nat.{suc-mul, mul-le-mul}
+use native.Mathlib.Nat.{zero-add, suc-add, suc-mul, mul-le-mul}
 use lib.Dec.{T, le→leb}
-use lib.IntN.{ℤ, pos, negsuc, negℤ, subℕ, natAbs, _+ℤ_, _-ℤ_, _*ℤ_, +ℤ-assoc, +ℤ-comm}
+use lib.IntN.{ℤ, pos, negsuc, negℤ, subℕ, natAbs, _+ℤ_, _-ℤ_, _*ℤ_, +ℤ-assoc, +ℤ-comm, +ℤ-idr}
 use lib.Signed.{ltZ, leZ, nonNeg, _≤ℤ_}
 use borrow.Author.Tests.{lt-ltb, le-ltb, ltb-true, leb-true, leb-false, le-leb, lt-leb}
 use mir.Syntax.{w64}
@@ -70,6 +70,10 @@ sub-add a b c d =
 pub size-neg : (n : ℕ) → natAbs (negℤ (pos n)) ≡ n
 size-neg zero = refl
 size-neg (suc n) = refl
+
+pub zero-size : (z : ℤ) → natAbs z ≡ 0 → z ≡ pos 0
+zero-size (pos n) h = ap pos h
+zero-size (negsuc n) h = absurd (omega arith)
 
 pub size-add : (y z : ℤ) → natAbs (y +ℤ z) ≤ natAbs y + natAbs z
 size-add (pos a) (pos b) = omega arith
@@ -244,3 +248,24 @@ signed-sum-add zero f g = refl
 signed-sum-add (suc n) f g =
     ap (λ (z : ℤ). z +ℤ (f n +ℤ g n)) (signed-sum-add n f g)
     ∙ add-across (signedSumBelow n f) (signedSumBelow n g) (f n) (g n)
+
+-- functions that agree below the bound have one sum
+pub signed-sum-same : (k : ℕ) (f g : ℕ → ℤ) → ((i : ℕ) → i < k → f i ≡ g i) → signedSumBelow k f ≡ signedSumBelow k g
+unfolding signedSumBelow
+signed-sum-same zero f g h = refl
+signed-sum-same (suc k) f g h =
+    ap₂ (λ (y z : ℤ). y +ℤ z) (signed-sum-same k f g (λ i p. h i (omega arith))) (h k (omega arith))
+
+-- places that hold 0 add nothing
+sum-up : (n k : ℕ) (f : ℕ → ℤ) → ((i : ℕ) → n ≤ i → i < k + n → f i ≡ pos 0) → signedSumBelow (k + n) f ≡ signedSumBelow n f
+unfolding signedSumBelow
+sum-up n zero f h = rw zero-add
+sum-up n (suc k) f h =
+    rw suc-add
+    (ap₂ (λ (y z : ℤ). y +ℤ z) (sum-up n k f (λ i p q. h i p (omega arith))) (h (k + n) (omega arith) (omega arith))
+    ∙ +ℤ-idr (signedSumBelow n f))
+
+pub sum-wide : (n m : ℕ) (f : ℕ → ℤ) → n ≤ m → ((i : ℕ) → n ≤ i → i < m → f i ≡ pos 0) → signedSumBelow m f ≡ signedSumBelow n f
+sum-wide n m f p h =
+    let e : m - n + n ≡ m = omega arith in
+    rw e at (sum-up n (m - n) f (λ i q r. h i q (omega arith)))

@@ -61,6 +61,10 @@ module _ {bound : ℕ} {t : ℕ → Bool} {k : ℕ} (h : Tested bound t k) where
       let e : k ≡ bound = omega arith in
       sym (rw e at (h .passed))
 
+pub any-step : (k : ℕ) (t : ℕ → Bool) → anyBelow (k + 1) t ≡ (anyBelow k t || t k)
+unfolding anyBelow
+any-step k t = rw add-one
+
 pub any-more : (k : ℕ) (t : ℕ → Bool) → anyBelow k t ≡ false → t k ≡ false → anyBelow (k + 1) t ≡ false
 unfolding anyBelow
 any-more k t h e = rw (add-one, h, e)

@@ -19,7 +19,7 @@ use Rattle.numbers.proofs.ListLaws.{list-length, list-at, filled-length, filled
 use Rattle.numbers.specs.Sizes.{mostDistributors, sectorCount, sectorPlaces}
 use Rattle.settlement.specs.Month.{moneyAt, moneyBelow}
 use Rattle.ledger.specs.Sound.{presentIn, chargeIn, isZero}
-use Rattle.ledger.specs.declared.book.Ledger.{Ledger}
+use Rattle.ledger.specs.declared.ledger.Ledger.{Ledger}
 use Rattle.ledger.proofs.SoundFacts.{or-else, zero-is}
 use Rattle.store.specs.Store.{truthWord, wordTruth, withinOrEmpty, placeKept, withinOrZero, balanceKept, keptCount, presentWords, chargeWords, balanceWords, Saved, loadedForce, loadedBalances, loadedLedger}
 
@@ -44,120 +44,120 @@ truth-back true = refl
 truth-back false = refl
 
 -- what is known where fewer than all words are kept
-record Kept (book : Ledger) : Type 0 where
-  few : book .n ≤ mostDistributors
-  places : (k : ℕ) → k < sectorPlaces → placeKept (book .n) (book .force) k ≡ true
-  balances : (i : ℕ) → i < mostDistributors → balanceKept (book .n) (book .balances) i ≡ true
+record Kept (ledger : Ledger) : Type 0 where
+  few : ledger .n ≤ mostDistributors
+  places : (k : ℕ) → k < sectorPlaces → placeKept (ledger .n) (ledger .force) k ≡ true
+  balances : (i : ℕ) → i < mostDistributors → balanceKept (ledger .n) (ledger .balances) i ≡ true
 
-module _ (book : Ledger) where
+module _ (ledger : Ledger) where
   abbrev emptyPast : Bool
   emptyPast =
-      leb (book .n) mostDistributors
-      && (allBelow sectorPlaces (placeKept (book .n) (book .force))
-      && allBelow mostDistributors (balanceKept (book .n) (book .balances)))
+      leb (ledger .n) mostDistributors
+      && (allBelow sectorPlaces (placeKept (ledger .n) (ledger .force))
+      && allBelow mostDistributors (balanceKept (ledger .n) (ledger .balances)))
 
-  kept-facts : emptyPast ≡ true → Kept book
+  kept-facts : emptyPast ≡ true → Kept ledger
   kept-facts e =
-      let rest = and-right (leb (book .n) mostDistributors) _ e in
+      let rest = and-right (leb (ledger .n) mostDistributors) _ e in
       record {
-        few = leb-true (book .n) mostDistributors (and-left (leb (book .n) mostDistributors) _ e);
-        places = all-at sectorPlaces (placeKept (book .n) (book .force)) (and-left _ (allBelow mostDistributors (balanceKept (book .n) (book .balances))) rest);
-        balances = all-at mostDistributors (balanceKept (book .n) (book .balances)) (and-right (allBelow sectorPlaces (placeKept (book .n) (book .force))) _ rest);
+        few = leb-true (ledger .n) mostDistributors (and-left (leb (ledger .n) mostDistributors) _ e);
+        places = all-at sectorPlaces (placeKept (ledger .n) (ledger .force)) (and-left _ (allBelow mostDistributors (balanceKept (ledger .n) (ledger .balances))) rest);
+        balances = all-at mostDistributors (balanceKept (ledger .n) (ledger .balances)) (and-right (allBelow sectorPlaces (placeKept (ledger .n) (ledger .force))) _ rest);
       }
 
   -- at most all are kept; where fewer are, they are those of n, and what is past them is empty
-  kept-by : (b : Bool) → emptyPast ≡ b → cond b (book .n) mostDistributors ≤ mostDistributors
+  kept-by : (b : Bool) → emptyPast ≡ b → cond b (ledger .n) mostDistributors ≤ mostDistributors
   kept-by true e = kept-facts e .few
   kept-by false e = omega arith
 
-  pub kept-most : keptCount book ≤ mostDistributors
+  pub kept-most : keptCount ledger ≤ mostDistributors
   unfolding keptCount
   kept-most = kept-by emptyPast refl
 
-  fewer-by : (b : Bool) → emptyPast ≡ b → cond b (book .n) mostDistributors < mostDistributors → (cond b (book .n) mostDistributors ≡ book .n) × Kept book
+  fewer-by : (b : Bool) → emptyPast ≡ b → cond b (ledger .n) mostDistributors < mostDistributors → (cond b (ledger .n) mostDistributors ≡ ledger .n) × Kept ledger
   fewer-by true e p = (refl, kept-facts e)
   fewer-by false e p = absurd (omega arith)
 
-  fewer : keptCount book < mostDistributors → (keptCount book ≡ book .n) × Kept book
+  fewer : keptCount ledger < mostDistributors → (keptCount ledger ≡ ledger .n) × Kept ledger
   unfolding keptCount
   fewer p = fewer-by emptyPast refl p
 
-  empty-place : (k : ℕ) → keptCount book * sectorCount ≤ k → k < sectorPlaces → (not (presentIn (book .force) k) && isZero (chargeIn (book .force) k)) ≡ true
+  empty-place : (k : ℕ) → keptCount ledger * sectorCount ≤ k → k < sectorPlaces → (not (presentIn (ledger .force) k) && isZero (chargeIn (ledger .force) k)) ≡ true
   unfolding placeKept withinOrEmpty
   empty-place k p q =
       let f = fewer (omega arith) in
-      or-else (ltb k (book .n * sectorCount)) _ (f .1 .places k q) (le-ltb k (book .n * sectorCount) (omega (arith, f .0)))
+      or-else (ltb k (ledger .n * sectorCount)) _ (f .1 .places k q) (le-ltb k (ledger .n * sectorCount) (omega (arith, f .0)))
 
   not-present : (b : Bool) → not b ≡ true → b ≡ false
   not-present false e = refl
   not-present true e = sym e
 
-  pub absent-past : (k : ℕ) → keptCount book * sectorCount ≤ k → k < sectorPlaces → presentIn (book .force) k ≡ false
-  absent-past k p q = not-present _ (and-left (not (presentIn (book .force) k)) _ (empty-place k p q))
+  pub absent-past : (k : ℕ) → keptCount ledger * sectorCount ≤ k → k < sectorPlaces → presentIn (ledger .force) k ≡ false
+  absent-past k p q = not-present _ (and-left (not (presentIn (ledger .force) k)) _ (empty-place k p q))
 
-  pub uncharged-past : (k : ℕ) → keptCount book * sectorCount ≤ k → k < sectorPlaces → chargeIn (book .force) k ≡ pos 0
-  uncharged-past k p q = zero-is _ (and-right (not (presentIn (book .force) k)) _ (empty-place k p q))
+  pub uncharged-past : (k : ℕ) → keptCount ledger * sectorCount ≤ k → k < sectorPlaces → chargeIn (ledger .force) k ≡ pos 0
+  uncharged-past k p q = zero-is _ (and-right (not (presentIn (ledger .force) k)) _ (empty-place k p q))
 
-  pub balanced-past : (i : ℕ) → keptCount book ≤ i → i < mostDistributors → moneyAt (book .balances) i ≡ pos 0
+  pub balanced-past : (i : ℕ) → keptCount ledger ≤ i → i < mostDistributors → moneyAt (ledger .balances) i ≡ pos 0
   unfolding balanceKept withinOrZero
   balanced-past i p q =
       let f = fewer (omega arith) in
-      zero-is _ (or-else (ltb i (book .n)) _ (f .1 .balances i q) (le-ltb i (book .n) (omega (arith, f .0))))
+      zero-is _ (or-else (ltb i (ledger .n)) _ (f .1 .balances i q) (le-ltb i (ledger .n) (omega (arith, f .0))))
 
   abbrev places : ℕ
-  places = keptCount book * sectorCount
+  places = keptCount ledger * sectorCount
 
-  present-back : length (book .force .present) ≡ sectorPlaces → filledBelow sectorPlaces false (length (presentWords (book .force) places)) (λ k. wordTruth (getD (presentWords (book .force) places) k 0)) ≡ book .force .present
+  present-back : length (ledger .force .present) ≡ sectorPlaces → filledBelow sectorPlaces false (length (presentWords (ledger .force) places)) (λ k. wordTruth (getD (presentWords (ledger .force) places) k 0)) ≡ ledger .force .present
   unfolding presentWords
   present-back e =
-      let w : ℕ → ℕ = λ j. truthWord (presentIn (book .force) j) in
+      let w : ℕ → ℕ = λ j. truthWord (presentIn (ledger .force) j) in
       rw (list-length w places)
-      (filled-back sectorPlaces false places _ (book .force .present) e
+      (filled-back sectorPlaces false places _ (ledger .force .present) e
       (λ j p q. ap wordTruth (list-at w places 0 j p) ∙ truth-back _)
       absent-past)
 
-  charges-back : length (book .force .charges) ≡ sectorPlaces → filledBelow sectorPlaces (pos 0) (length (chargeWords (book .force) places)) (λ k. getD (chargeWords (book .force) places) k (pos 0)) ≡ book .force .charges
+  charges-back : length (ledger .force .charges) ≡ sectorPlaces → filledBelow sectorPlaces (pos 0) (length (chargeWords (ledger .force) places)) (λ k. getD (chargeWords (ledger .force) places) k (pos 0)) ≡ ledger .force .charges
   unfolding chargeWords
   charges-back e =
-      rw (list-length (chargeIn (book .force)) places)
-      (filled-back sectorPlaces (pos 0) places _ (book .force .charges) e
-      (λ j p q. list-at (chargeIn (book .force)) places (pos 0) j p)
+      rw (list-length (chargeIn (ledger .force)) places)
+      (filled-back sectorPlaces (pos 0) places _ (ledger .force .charges) e
+      (λ j p q. list-at (chargeIn (ledger .force)) places (pos 0) j p)
       uncharged-past)
 
-  balances-back : length (book .balances) ≡ mostDistributors → loadedBalances (balanceWords (book .balances) (keptCount book)) ≡ book .balances
+  balances-back : length (ledger .balances) ≡ mostDistributors → loadedBalances (balanceWords (ledger .balances) (keptCount ledger)) ≡ ledger .balances
   unfolding loadedBalances balanceWords moneyBelow
   balances-back e =
-      rw (list-length (moneyAt (book .balances)) (keptCount book))
-      (filled-back mostDistributors noMoney (keptCount book) _ (book .balances) e
-      (λ i p q. ap (λ (z : ℤ). money z) (list-at (moneyAt (book .balances)) (keptCount book) (pos 0) i p))
+      rw (list-length (moneyAt (ledger .balances)) (keptCount ledger))
+      (filled-back mostDistributors noMoney (keptCount ledger) _ (ledger .balances) e
+      (λ i p q. ap (λ (z : ℤ). money z) (list-at (moneyAt (ledger .balances)) (keptCount ledger) (pos 0) i p))
       (λ i p q. ap (λ (z : ℤ). money z) (balanced-past i p q)))
     where
       money : ℤ → Pesos
       money z = record { 0 = z }
 
   -- "what `save` prints, `load` takes back as the same ledger"
-  pub loaded-back : length (book .force .present) ≡ sectorPlaces → length (book .force .charges) ≡ sectorPlaces → length (book .balances) ≡ mostDistributors → loadedLedger (book .n) (book .months) (book .last) (truthWord (book .fixed)) (book .month) (presentWords (book .force) places) (chargeWords (book .force) places) (balanceWords (book .balances) (keptCount book)) ≡ book
+  pub loaded-back : length (ledger .force .present) ≡ sectorPlaces → length (ledger .force .charges) ≡ sectorPlaces → length (ledger .balances) ≡ mostDistributors → loadedLedger (ledger .n) (ledger .months) (ledger .last) (truthWord (ledger .fixed)) (ledger .month) (presentWords (ledger .force) places) (chargeWords (ledger .force) places) (balanceWords (ledger .balances) (keptCount ledger)) ≡ ledger
   unfolding loadedLedger loadedForce
-  loaded-back p q r = rw (truth-back (book .fixed), present-back p, charges-back q, balances-back r)
+  loaded-back p q r = rw (truth-back (ledger .fixed), present-back p, charges-back q, balances-back r)
 
 -- what is saved stands first in the lent lists
-module _ (book : Ledger) (count : ℕ) (present₀ present : List ℕ) (charges₀ charges balances₀ balances : List ℤ) (s : Saved book count present₀ present charges₀ charges balances₀ balances) where
+module _ (ledger : Ledger) (count : ℕ) (present₀ present : List ℕ) (charges₀ charges balances₀ balances : List ℤ) (s : Saved ledger count present₀ present charges₀ charges balances₀ balances) where
   pub saved-few : count ≤ mostDistributors
-  saved-few = rw (s .counted) (kept-most book)
+  saved-few = rw (s .counted) (kept-most ledger)
 
-  pub present-first : Front (count * sectorCount) (presentWords (book .force) (count * sectorCount)) present
+  pub present-first : Front (count * sectorCount) (presentWords (ledger .force) (count * sectorCount)) present
   unfolding presentWords
   present-first = front (count * sectorCount) _ _ present (list-length _ (count * sectorCount)) (s .presences)
 
-  pub charges-first : Front (count * sectorCount) (chargeWords (book .force) (count * sectorCount)) charges
+  pub charges-first : Front (count * sectorCount) (chargeWords (ledger .force) (count * sectorCount)) charges
   unfolding chargeWords
   charges-first = front (count * sectorCount) _ _ charges (list-length _ (count * sectorCount)) (s .charged)
 
-  pub balances-first : Front count (balanceWords (book .balances) count) balances
+  pub balances-first : Front count (balanceWords (ledger .balances) count) balances
   unfolding balanceWords
   balances-first = front count _ _ balances (list-length _ count) (s .balanced)
 
   -- and is loaded as the ledger that was saved
-  pub saved-back : length (book .force .present) ≡ sectorPlaces → length (book .force .charges) ≡ sectorPlaces → length (book .balances) ≡ mostDistributors → loadedLedger (book .n) (book .months) (book .last) (truthWord (book .fixed)) (book .month) (take (count * sectorCount) present) (take (count * sectorCount) charges) (take count balances) ≡ book
+  pub saved-back : length (ledger .force .present) ≡ sectorPlaces → length (ledger .force .charges) ≡ sectorPlaces → length (ledger .balances) ≡ mostDistributors → loadedLedger (ledger .n) (ledger .months) (ledger .last) (truthWord (ledger .fixed)) (ledger .month) (take (count * sectorCount) present) (take (count * sectorCount) charges) (take count balances) ≡ ledger
   saved-back p q r =
-      rw (present-first .first, charges-first .first, balances-first .first, s .counted) (loaded-back book p q r)
+      rw (present-first .first, charges-first .first, balances-first .first, s .counted) (loaded-back ledger p q r)

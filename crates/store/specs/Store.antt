@@ -12,7 +12,7 @@ use Rattle.numbers.specs.Sizes.{mostDistributors, sectorCount, sectorPlaces}
 use Rattle.fixing.specs.declared.sector.SectorCharges.{SectorCharges}
 use Rattle.settlement.specs.Month.{moneyAt, moneyBelow}
 use Rattle.ledger.specs.Sound.{presentIn, chargeIn, isZero}
-use Rattle.ledger.specs.declared.book.Ledger.{Ledger}
+use Rattle.ledger.specs.declared.ledger.Ledger.{Ledger}
 
 -- "FIXED and the words of `present` are 0 or 1"
 abbrev pub truthWord : Bool → ℕ
@@ -38,12 +38,12 @@ balanceKept n balances i = withinOrZero n (moneyAt balances i) i
 
 -- "where N is above 40 or a word past N is not zero, all 320, 320 and 40": for how many distributors words are kept
 unfoldable pub keptCount : Ledger → ℕ
-keptCount book =
+keptCount ledger =
     cond
-    (leb (book .n) mostDistributors
-    && (allBelow sectorPlaces (placeKept (book .n) (book .force))
-    && allBelow mostDistributors (balanceKept (book .n) (book .balances))))
-    (book .n)
+    (leb (ledger .n) mostDistributors
+    && (allBelow sectorPlaces (placeKept (ledger .n) (ledger .force))
+    && allBelow mostDistributors (balanceKept (ledger .n) (ledger .balances))))
+    (ledger .n)
     mostDistributors
 
 -- the words of `present`, `charges` and `balances`, the first k
@@ -57,11 +57,11 @@ unfoldable pub balanceWords : List Pesos → ℕ → List ℤ
 balanceWords balances k = listBelow k (moneyAt balances)
 
 -- what `save` writes into lent lists of 320, 320 and 40 words, and how many distributors' words these are
-pub record Saved (book : Ledger) (count : ℕ) (present₀ present : List ℕ) (charges₀ charges balances₀ balances : List ℤ) : Type 0 where
-  pub counted : count ≡ keptCount book
-  pub presences : present ≡ presentWords (book .force) (count * sectorCount) ++ drop (count * sectorCount) present₀
-  pub charged : charges ≡ chargeWords (book .force) (count * sectorCount) ++ drop (count * sectorCount) charges₀
-  pub balanced : balances ≡ balanceWords (book .balances) count ++ drop count balances₀
+pub record Saved (ledger : Ledger) (count : ℕ) (present₀ present : List ℕ) (charges₀ charges balances₀ balances : List ℤ) : Type 0 where
+  pub counted : count ≡ keptCount ledger
+  pub presences : present ≡ presentWords (ledger .force) (count * sectorCount) ++ drop (count * sectorCount) present₀
+  pub charged : charges ≡ chargeWords (ledger .force) (count * sectorCount) ++ drop (count * sectorCount) charges₀
+  pub balanced : balances ≡ balanceWords (ledger .balances) count ++ drop count balances₀
 
 -- "`load` sets the ledger as given, sound or not, parts not given being zero"
 unfoldable pub loadedForce : List ℕ → List ℤ → SectorCharges

@@ -10,7 +10,7 @@ ghost use Rattle.store.specs.Store.{wordTruth, loadedBalances, loadedLed
 use crate::save::save;
 use crate::save::truth_word;
 use fixing::sector::SectorCharges;
-use ledger::book::Ledger;
+use ledger::ledger::Ledger;
 use numbers::units::Pesos;
 
 // A word as a truth: any but 0.

@@ -6,7 +6,7 @@ ghost use Rattle.numbers.specs.Bounded.{allBelow};
 ghost use Rattle.numbers.specs.Sizes.{mostDistributors, sectorPlaces};
 ghost use Rattle.store.specs.Store.{truthWord, withinOrEmpty, placeKept, withinOrZero, balanceKept, keptCount, presentWords, chargeWords, balanceWords, Saved};
 use fixing::sector::SectorCharges;
-use ledger::book::Ledger;
+use ledger::ledger::Ledger;
 use numbers::sizes::PLACES;
 use numbers::sizes::SECTORS;
 use numbers::units::Pesos;

@@ -1,6 +1,6 @@
 // A load to take times by: 40 distributors, 256 lines of four terms of nine months each, fixed 1,000 times, and a month
 // settled 1,000 times. It prints how many calls were accepted.
-use ledger::book::Ledger;
+use ledger::ledger::Ledger;
 use ledger::fix::FixingOutcome;
 use ledger::fix::fix;
 use ledger::fix::number as fixing_number;
@@ -47,12 +47,12 @@ fn lines() -> [u64; 6656] {
 }
 
 // The fixing of the load.
-fn fixing(book: Ledger, lines: &[u64]) -> FixingOutcome {
+fn fixing(ledger: Ledger, lines: &[u64]) -> FixingOutcome {
     let series = [10000u64; 240];
     let sectors = [10000u64; 320];
     let mut prices = [0i64; 120];
     fix(
-        book,
+        ledger,
         20,
         100000,
         10000,
@@ -65,18 +65,18 @@ fn fixing(book: Ledger, lines: &[u64]) -> FixingOutcome {
 }
 
 // One fixing of the load: 1 where it is accepted.
-fn fix_once(book: Ledger, lines: &[u64]) -> u64 {
-    let outcome = fixing(book, lines);
+fn fix_once(ledger: Ledger, lines: &[u64]) -> u64 {
+    let outcome = fixing(ledger, lines);
     let answer = outcome.answer;
     if fixing_number(answer) == 0 { 1 } else { 0 }
 }
 
 // One settlement of the load: 1 where it is accepted.
-fn settle_once(book: Ledger) -> u64 {
+fn settle_once(ledger: Ledger) -> u64 {
     let readings = [1000u64; 1280];
     let losses = [10500u64; 80];
     let mut transfers = [0i64; 40];
-    let outcome = settle(book, 20, &readings, &losses, &mut transfers);
+    let outcome = settle(ledger, 20, &readings, &losses, &mut transfers);
     let verdict = outcome.verdict;
     if verdict_number(verdict) == 0 { 1 } else { 0 }
 }
@@ -88,12 +88,12 @@ struct Accepted {
 }
 
 // Fixes on one ledger and settles on the other, time after time.
-fn run_often(book: Ledger, fixed: Ledger, lines: &[u64]) -> Accepted {
+fn run_often(ledger: Ledger, fixed: Ledger, lines: &[u64]) -> Accepted {
     let mut fixings: u64 = 0;
     let mut settlements: u64 = 0;
     let mut run: u64 = 0;
     while run < RUNS {
-        if fix_once(book, lines) == 1 {
+        if fix_once(ledger, lines) == 1 {
             fixings = run + 1;
         }
         if settle_once(fixed) == 1 {
@@ -109,10 +109,10 @@ fn run_often(book: Ledger, fixed: Ledger, lines: &[u64]) -> Accepted {
 
 fn main() {
     let opening = open(40);
-    let book = opening.ledger;
+    let ledger = opening.ledger;
     let lines = lines();
-    let fixed = fixing(book, &lines).ledger;
-    let accepted = run_often(book, fixed, &lines);
+    let fixed = fixing(ledger, &lines).ledger;
+    let accepted = run_often(ledger, fixed, &lines);
     io::write_all(STDOUT_FILENO, b"fixings ");
     io::print_decimal(STDOUT_FILENO, accepted.fixings);
     io::write_all(STDOUT_FILENO, b" settlements ");

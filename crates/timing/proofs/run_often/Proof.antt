@@ -6,10 +6,10 @@ use Rattle.timing.proofs.run_often.Statement.{statement}
 use Rattle.timing.proofs.run_often.Tie as tie
 
 abbrev Inv-loop : tie.InvT-loop
-Inv-loop book fixed lines fixings₀ settlements₀ run₀ fixings settlements run = run ≤ 1000
+Inv-loop ledger fixed lines fixings₀ settlements₀ run₀ fixings settlements run = run ≤ 1000
 
 abbrev μ-loop : tie.MeasureT-loop
-μ-loop book fixed lines fixings₀ settlements₀ run₀ fixings settlements run = 1000 - run
+μ-loop ledger fixed lines fixings₀ settlements₀ run₀ fixings settlements run = 1000 - run
 
 pub run-often-spec : {M : Type 1} → statement M
 run-often-spec =

@@ -4,7 +4,7 @@ use Prim.Native.Nat.{_≤_, _*_}
 use native.Mathlib.Omega.{arith}
 use lib.Seq.{length-take-le}
 use Rattle.numbers.proofs.ListLaws.{Front}
-use Rattle.ledger.specs.declared.book.Ledger.{Ledger}
+use Rattle.ledger.specs.declared.ledger.Ledger.{Ledger}
 use Rattle.store.specs.Store.{presentWords, chargeWords, balanceWords}
 use Rattle.store.proofs.StoreLaws.{saved-few, present-first, charges-first, balances-first}
 use Rattle.text.proofs.BufferLaws.{written-after}
@@ -15,16 +15,16 @@ use Rattle.answers.proofs.saving.write_saving.Tie as tie
 
 -- what was saved stands first in the lists
 module _ (d : tie.After-save) where
-  abbrev book : Ledger
-  book = d .before .before .before .before .before .args .ledger
+  abbrev ledger : Ledger
+  ledger = d .before .before .before .before .before .args .ledger
 
-  present : Front (d .save .result * 8) (presentWords (book .force) (d .save .result * 8)) (d .save .last .1 .0)
+  present : Front (d .save .result * 8) (presentWords (ledger .force) (d .save .result * 8)) (d .save .last .1 .0)
   present = present-first _ _ _ _ _ _ _ _ (d .save .ensures)
 
-  charges : Front (d .save .result * 8) (chargeWords (book .force) (d .save .result * 8)) (d .save .last .1 .1 .0)
+  charges : Front (d .save .result * 8) (chargeWords (ledger .force) (d .save .result * 8)) (d .save .last .1 .1 .0)
   charges = charges-first _ _ _ _ _ _ _ _ (d .save .ensures)
 
-  balances : Front (d .save .result) (balanceWords (book .balances) (d .save .result)) (d .save .last .1 .1 .1 .0)
+  balances : Front (d .save .result) (balanceWords (ledger .balances) (d .save .result)) (d .save .last .1 .1 .1 .0)
   balances = balances-first _ _ _ _ _ _ _ _ (d .save .ensures)
 
   few : d .save .result ≤ 40

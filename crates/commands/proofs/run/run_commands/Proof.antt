@@ -39,7 +39,7 @@ loop-holds c =
     let e : length text - 0 ≡ length text = omega arith in (
       omega arith,
       c .before .before .answer-buffer .ensures,
-      ap₂ (λ k book. replayFrom k text 0 book) e (c .before .open .ensures .opened ∙ opened-none),
+      ap₂ (λ k ledger. replayFrom k text 0 ledger) e (c .before .open .ensures .opened ∙ opened-none),
     )
 
 slice-aggregate-run-command : tie.Need-slice-aggregate-run-command Inv-loop μ-loop

@@ -6,11 +6,12 @@ use Rattle.numbers.specs.declared.refusal.Refusal.the-variants.{Unsound, WrongL
 use Rattle.numbers.specs.declared.refusal.Verdict.the-variants.{Passed}
 use Rattle.numbers.proofs.BoolLaws.{told-true, told-false}
 use Rattle.numbers.proofs.CheckLaws.{FirstPass, passes, refused-unless}
-use Rattle.fixing.specs.Input.{RightLengths}
+use Rattle.fixing.specs.Required.{RightLengths}
+use Rattle.ledger.specs.Ledger.{anySettled, nextMonth}
 use Rattle.ledger.specs.Sound.{sound}
 use Rattle.ledger.specs.Turn.{fixingTurn}
-use Rattle.ledger.specs.Fix.{FixingCall, fixingCallOf, fixingLengths, fixingChecks, priceList}
-use Rattle.ledger.specs.declared.book.Ledger.{Ledger}
+use Rattle.ledger.specs.Fix.{FixingCall, fixingCallOf, callLengths, fixingChecks, priceList}
+use Rattle.ledger.specs.declared.ledger.Ledger.{Ledger}
 use Rattle.ledger.proofs.SoundLaws.{sound-some, sound-few, sound-last}
 use Rattle.ledger.proofs.PassedLaws.{prices-small}
 use Rattle.ledger.proofs.CallLaws.{right-lengths}
@@ -23,40 +24,47 @@ module _ (c : tie.Else1) where
   abbrev start : tie.Start
   start = c .before .before .before .before .before
 
-  abbrev book : Ledger
-  book = start .args .ledger
+  abbrev ledger : Ledger
+  ledger = start .args .ledger
 
   abbrev call : FixingCall
-  call = fixingCallOf (start .args .month) (start .args .dollar) (start .args .factor) (start .args .first) (start .args .series .now) (start .args .lines .now) (start .args .sectors .now) (start .args .prices .now)
+  call = fixingCallOf (start .args .numbers) (start .args .series .now) (start .args .lines .now) (start .args .sectors .now) (start .args .prices .now)
 
-  whole : sound book ≡ true
-  whole = told-true (c .before .sound .ensures) (c .if1 .left)
+  whole : sound ledger ≡ true
+  whole = told-true (c .before .is-sound .ensures) (c .if1 .left)
 
 module _ (c : tie.After-lengths-right) where
   abbrev two : tie.Else1
   two = c .before .before
 
-  told : c .lengths-right .result ≡ fixingLengths (book two .n) (call two)
-  unfolding fixingLengths
+  told : c .lengths-right .result ≡ callLengths (ledger two .n) (call two)
   told = c .lengths-right .ensures
 
-lengths : (c : tie.Else2) → fixingLengths (book (two (c .before)) .n) (call (two (c .before))) ≡ true
+lengths : (c : tie.Else2) → callLengths (ledger (two (c .before)) .n) (call (two (c .before))) ≡ true
 lengths c = told-true (told (c .before)) (c .if2 .left)
+
+-- the turn, by whether a month is settled and which comes next
+module _ (c : tie.After-in-turn) where
+  abbrev counted : tie.Else2
+  counted = c .before .before .before
+
+  due : c .in-turn .result ≡ fixingTurn (anySettled (ledger (two (counted .before)))) (nextMonth (ledger (two (counted .before)))) (call (two (counted .before)) .input .numbers .month)
+  due = rw (c .before .before .any-settled .ensures, c .before .next-month .ensures) at (c .in-turn .ensures)
 
 module _ (c : tie.Else3) where
   abbrev three : tie.Else2
-  three = c .before .before
+  three = counted (c .before)
 
   abbrev from : tie.Else1
   from = two (three .before)
 
-  turn : fixingTurn (book from .months) (book from .last) (call from .input .month) ≡ true
-  turn = told-true (c .before .in-turn .ensures) (c .if3 .left)
+  turn : fixingTurn (anySettled (ledger from)) (nextMonth (ledger from)) (call from .input .numbers .month) ≡ true
+  turn = told-true (due (c .before)) (c .if3 .left)
 
-  right : RightLengths (book from .n) (call from .input)
-  right = right-lengths (book from .n) (call from) (sound-some _ (whole from)) (sound-few _ (whole from)) (lengths three)
+  right : RightLengths (ledger from .n) (call from .input)
+  right = right-lengths (ledger from .n) (call from) (sound-some _ (whole from)) (sound-few _ (whole from)) (lengths three)
 
-  first : FirstPass 3 (fixingChecks (book from) (call from))
+  first : FirstPass 3 (fixingChecks (ledger from) (call from))
   unfolding FirstPass fixingChecks
   first = (passes Unsound (whole from), (passes WrongLength (lengths three), (passes OutOfTurn turn, tt)))
 
@@ -64,26 +72,24 @@ returns : tie.Need-returns
 unfolding fixingChecks FirstPass
 returns c =
     let t = c .before in
-    let s = t .before .before .before .before .before in
-    let b = s .args .ledger in
-    fixed-refused _ _ Unsound (refused-unless 0 (fixingChecks _ _) 2 _ Unsound _ tt refl (told-false (t .before .sound .ensures) (t .if1 .taken))) _ (c .refused .ensures)
+    fixed-refused _ _ Unsound (refused-unless 0 (fixingChecks _ _) 2 _ Unsound _ tt refl (told-false (t .before .is-sound .ensures) (t .if1 .taken))) _ (c .refused .ensures)
 
 returns-2 : tie.Need-returns-2
 unfolding fixingChecks FirstPass
 returns-2 c =
     let t = c .before in
     let e = two (t .before) in
-    fixed-refused (book e) (call e) WrongLength
-    (refused-unless 1 (fixingChecks (book e) (call e)) 3 _ WrongLength _ (passes Unsound (whole e), tt) refl (told-false (told (t .before)) (t .if2 .taken))) _ (c .refused2 .ensures)
+    fixed-refused (ledger e) (call e) WrongLength
+    (refused-unless 1 (fixingChecks (ledger e) (call e)) 3 _ WrongLength _ (passes Unsound (whole e), tt) refl (told-false (told (t .before)) (t .if2 .taken))) _ (c .refused2 .ensures)
 
 returns-3 : tie.Need-returns-3
 unfolding fixingChecks FirstPass
 returns-3 c =
     let t = c .before in
-    let e = t .before .before in
+    let e = counted (t .before) in
     let s = two (e .before) in
-    fixed-refused (book s) (call s) OutOfTurn
-    (refused-unless 2 (fixingChecks (book s) (call s)) 4 _ OutOfTurn _ (passes Unsound (whole s), (passes WrongLength (lengths e), tt)) refl (told-false (t .before .in-turn .ensures) (t .if3 .taken)))
+    fixed-refused (ledger s) (call s) OutOfTurn
+    (refused-unless 2 (fixingChecks (ledger s) (call s)) 4 _ OutOfTurn _ (passes Unsound (whole s), (passes WrongLength (lengths e), tt)) refl (told-false (due (t .before)) (t .if3 .taken)))
     _ (c .refused3 .ensures)
 
 returns-4 : tie.Need-returns-4
@@ -91,8 +97,8 @@ returns-4 c =
     let v = c .before .before in
     let g = v .before .before in
     let e = g .before in
-    fixed-refused (book (from e)) (call (from e)) _
-    (verdict-left (book (from e)) (call (from e)) (first e) _ (g .fix-input .ensures .worked) ∙ v .verdict .given .1) _ (c .refused4 .ensures)
+    fixed-refused (ledger (from e)) (call (from e)) _
+    (verdict-left (ledger (from e)) (call (from e)) (first e) _ (g .fix-input .ensures .worked) ∙ v .verdict .given .1) _ (c .refused4 .ensures)
 
 -- an input that passed
 module _ (c : tie.After-enum-told) where
@@ -107,7 +113,7 @@ write-prices-requires c κs =
     let t = c .before .before .before .before .before .before in
     let g = worked t in
     let e = g .before in
-    let b = book (from e) in
+    let b = ledger (from e) in
     let l = call (from e) in (
       sound-few _ (whole (from e)),
       (
@@ -123,7 +129,7 @@ returns-5 c =
     let t = w .before .before .before .before .before .before .before in
     let g = worked t in
     let e = g .before in
-    fixed-accepted (book (from e)) (call (from e)) (first e) _ (g .fix-input .ensures .worked) (right e) (passed t)
+    fixed-accepted (ledger (from e)) (call (from e)) (first e) _ (g .fix-input .ensures .worked) (right e) (passed t)
     _ _ _ (c .before .accepted .ensures) (c .book-fixing .ensures) (w .write-prices .ensures)
 
 pub fix-spec : {M : Type 1} → statement M
@@ -135,7 +141,7 @@ fix-spec =
     (λ c κs. sound-few _ (whole (c .before)))
     (λ c κs. search needs) (λ c. search needs)
     returns-2
-    (λ c κs. sound-last _ (whole (two (c .before))))
+    (λ c κs. search needs) (λ c κs. sound-last _ (whole (two (c .before .before)))) (λ c κs. search needs)
     (λ c κs. search needs) (λ c. search needs)
     returns-3
     (λ c κs. right c)

@@ -4,7 +4,7 @@ use mathlib.Core.Bool.{false}
 use lib.IntN.{pos}
 use Rattle.settlement.proofs.MonthLaws.{money-none}
 use Rattle.ledger.specs.Ledger.{noBalances, emptyLedger}
-use Rattle.ledger.specs.declared.book.Ledger.{Ledger}
+use Rattle.ledger.specs.declared.ledger.Ledger.{Ledger}
 use borrow.Author.Needs.{needs}
 use Rattle.ledger.proofs.open.empty.Statement.{statement}
 use Rattle.ledger.proofs.open.empty.Tie as tie

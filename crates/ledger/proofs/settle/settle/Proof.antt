@@ -6,10 +6,11 @@ use borrow.Author.Needs.{needs}
 use Rattle.numbers.specs.declared.refusal.Refusal.the-variants.{Unsound, WrongLength, OutOfTurn, NoFixing}
 use Rattle.numbers.proofs.BoolLaws.{told-true, told-false}
 use Rattle.numbers.proofs.CheckLaws.{FirstPass, passes, refused-unless}
+use Rattle.ledger.specs.Ledger.{anySettled, nextMonth}
 use Rattle.ledger.specs.Sound.{sound}
 use Rattle.ledger.specs.Turn.{settlementTurn}
-use Rattle.ledger.specs.Settle.{SettlementCall, settlementCallOf, settlementLengths, settlementChecks}
-use Rattle.ledger.specs.declared.book.Ledger.{Ledger}
+use Rattle.ledger.specs.Settle.{SettlementCall, settlementCallOf, billingLengths, settlementChecks}
+use Rattle.ledger.specs.declared.ledger.Ledger.{Ledger}
 use Rattle.ledger.proofs.SoundLaws.{sound-few, sound-last}
 use Rattle.ledger.proofs.AnswerLaws.{out-of-turn}
 use Rattle.ledger.proofs.SettleLaws.{month-refused}
@@ -21,58 +22,68 @@ module _ (c : tie.Else1) where
   abbrev start : tie.Start
   start = c .before .before .before .before
 
-  abbrev book : Ledger
-  book = start .args .ledger
+  abbrev ledger : Ledger
+  ledger = start .args .ledger
 
   abbrev call : SettlementCall
   call = settlementCallOf (start .args .month) (start .args .readings .now) (start .args .losses .now) (start .args .transfers .now)
 
-  whole : sound book ≡ true
-  whole = told-true (c .before .sound .ensures) (c .if1 .left)
+  whole : sound ledger ≡ true
+  whole = told-true (c .before .is-sound .ensures) (c .if1 .left)
 
 module _ (c : tie.After-lengths-right) where
   abbrev two : tie.Else1
   two = c .before .before
 
-  told : c .lengths-right .result ≡ settlementLengths (book two .n) (call two)
-  unfolding settlementLengths
+  told : c .lengths-right .result ≡ billingLengths (ledger two .n) (call two)
   told = c .lengths-right .ensures
 
-lengths : (c : tie.Else2) → settlementLengths (book (two (c .before)) .n) (call (two (c .before))) ≡ true
+lengths : (c : tie.Else2) → billingLengths (ledger (two (c .before)) .n) (call (two (c .before))) ≡ true
 lengths c = told-true (told (c .before)) (c .if2 .left)
+
+-- the turn, by whether a month is settled and which comes next
+module _ (c : tie.After-in-turn) where
+  abbrev counted : tie.Else2
+  counted = c .before .before .before
+
+  abbrev kept : Ledger
+  kept = ledger (two (counted .before))
+
+  due : c .in-turn .result ≡ settlementTurn (anySettled kept) (nextMonth kept) (kept .fixed) (kept .month) (call (two (counted .before)) .month)
+  due = rw (c .before .before .any-settled .ensures, c .before .next-month .ensures) at (c .in-turn .ensures)
 
 module _ (c : tie.Else3) where
   abbrev three : tie.Else2
-  three = c .before .before
+  three = counted (c .before)
 
   abbrev from : tie.Else1
   from = two (three .before)
 
-  turn : settlementTurn (book from .months) (book from .last) (book from .fixed) (book from .month) (call from .month) ≡ true
-  turn = told-true (c .before .in-turn .ensures) (c .if3 .left)
+  turn : settlementTurn (anySettled (ledger from)) (nextMonth (ledger from)) (ledger from .fixed) (ledger from .month) (call from .month) ≡ true
+  turn = told-true (due (c .before)) (c .if3 .left)
 
 returns : tie.Need-returns
 unfolding settlementChecks FirstPass
 returns c =
     let t = c .before in
-    month-refused _ _ Unsound (refused-unless 0 (settlementChecks _ _) 2 _ Unsound _ tt refl (told-false (t .before .sound .ensures) (t .if1 .taken))) _ (c .refused .ensures)
+    month-refused _ _ Unsound (refused-unless 0 (settlementChecks _ _) 2 _ Unsound _ tt refl (told-false (t .before .is-sound .ensures) (t .if1 .taken))) _ (c .refused .ensures)
 
 returns-2 : tie.Need-returns-2
 unfolding settlementChecks FirstPass
 returns-2 c =
     let t = c .before in
     let s = two (t .before) in
-    month-refused (book s) (call s) WrongLength
-    (refused-unless 1 (settlementChecks (book s) (call s)) 3 _ WrongLength _ (passes Unsound (whole s), tt) refl (told-false (told (t .before)) (t .if2 .taken)))
+    month-refused (ledger s) (call s) WrongLength
+    (refused-unless 1 (settlementChecks (ledger s) (call s)) 3 _ WrongLength _ (passes Unsound (whole s), tt) refl (told-false (told (t .before)) (t .if2 .taken)))
     _ (c .refused2 .ensures)
 
 returns-3 : tie.Need-returns-3
 returns-3 c =
     let t = c .before in
-    let e = t .before .before in
+    let e = counted (t .before) in
     let s = two (e .before) in
-    month-refused (book s) (call s) OutOfTurn
-    (out-of-turn (book s) (call s) (whole s) (lengths e) (told-false (t .before .in-turn .ensures) (t .if3 .taken))) _ (c .refused3 .ensures)
+    month-refused (ledger s) (call s) OutOfTurn
+    (out-of-turn (ledger s) (call s) (whole s) (lengths e) (told-false (due (t .before)) (t .if3 .taken))) _ (c .refused3 .ensures)
 
 returns-4 : tie.Need-returns-4
 unfolding settlementChecks FirstPass
@@ -80,8 +91,8 @@ returns-4 c =
     let t = c .before in
     let e = t .before in
     let s = from e in
-    month-refused (book s) (call s) NoFixing
-    (refused-unless 3 (settlementChecks (book s) (call s)) 5 (book s .fixed) NoFixing _ (passes Unsound (whole s), (passes WrongLength (lengths (three e)), (passes OutOfTurn (turn e), tt))) refl
+    month-refused (ledger s) (call s) NoFixing
+    (refused-unless 3 (settlementChecks (ledger s) (call s)) 5 (ledger s .fixed) NoFixing _ (passes Unsound (whole s), (passes WrongLength (lengths (three e)), (passes OutOfTurn (turn e), tt))) refl
     (not-true _ (t .if4 .taken))) _ (c .refused4 .ensures)
 
 settle-month-requires : tie.Need-settle-month-requires
@@ -104,7 +115,7 @@ settle-spec =
     (λ c κs. sound-few _ (whole (c .before)))
     (λ c κs. search needs) (λ c. search needs)
     returns-2
-    (λ c κs. sound-last _ (whole (two (c .before))))
+    (λ c κs. search needs) (λ c κs. sound-last _ (whole (two (c .before .before)))) (λ c κs. search needs)
     (λ c κs. search needs) (λ c. search needs)
     returns-3
     (λ c κs. search needs) (λ c. search needs)

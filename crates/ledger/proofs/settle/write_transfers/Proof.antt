@@ -9,10 +9,10 @@ use Rattle.ledger.proofs.settle.write_transfers.Statement.{statement}
 use Rattle.ledger.proofs.settle.write_transfers.Tie as tie
 
 abbrev Inv-loop : tie.InvT-loop
-Inv-loop transfers₀ n amounts i₀ transfers i = Written (moneyAt amounts) n transfers i
+Inv-loop n transfers₀ amounts i₀ transfers i = Written (moneyAt amounts) n transfers i
 
 abbrev μ-loop : tie.MeasureT-loop
-μ-loop transfers₀ n amounts i₀ transfers i = n - i
+μ-loop n transfers₀ amounts i₀ transfers i = n - i
 
 loop-holds : tie.Need-loop-holds Inv-loop μ-loop
 loop-holds c = written-none _ _ _ (c .pre .1)

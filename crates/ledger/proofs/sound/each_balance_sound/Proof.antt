@@ -4,21 +4,21 @@ use native.Mathlib.Omega.{arith}
 use borrow.Author.Needs.{needs}
 use Rattle.numbers.proofs.BoolLaws.{told-true, told-false}
 use Rattle.numbers.proofs.TestLaws.{Tested, tested-none, tested-more, tested-fails, tested-all}
-use Rattle.ledger.specs.Sound.{balanceSound}
+use Rattle.ledger.specs.Sound.{balanceSound, eachBalance}
 use Rattle.ledger.proofs.sound.each_balance_sound.Statement.{statement}
 use Rattle.ledger.proofs.sound.each_balance_sound.Tie as tie
 
 abbrev Inv-loop : tie.InvT-loop
-Inv-loop n months balances i₀ i = Tested 40 (balanceSound n months balances) i
+Inv-loop n settled balances i₀ i = Tested 40 (balanceSound n settled balances) i
 
 abbrev μ-loop : tie.MeasureT-loop
-μ-loop n months balances i₀ i = 40 - i
+μ-loop n settled balances i₀ i = 40 - i
 
 loop-holds : tie.Need-loop-holds Inv-loop μ-loop
 loop-holds c = tested-none _ _
 
 returns : tie.Need-returns Inv-loop μ-loop
-unfolding balanceSound
+unfolding eachBalance balanceSound
 returns c =
     tested-fails (c .before .before .before .before .loop .inv) (omega arith) (told-false (c .before .balance-sound .ensures) (c .if1 .taken))
 
@@ -28,6 +28,7 @@ loop-again c =
     tested-more (c .before .before .before .before .loop .inv) (omega arith) (told-true (c .before .balance-sound .ensures) (c .if1 .left))
 
 returns-2 : tie.Need-returns-2 Inv-loop μ-loop
+unfolding eachBalance
 returns-2 c = tested-all (c .before .loop .inv) (omega arith)
 
 pub each-balance-sound-spec : {M : Type 1} → statement M

@@ -4,9 +4,8 @@ use mathlib.Core.Bool.{_&&_, _||_}
 use mathlib.Core.Logic.{⊎-elim}
 use lib.Dec.{eqb}
 use borrow.Author.Tests.{eq-eqb, ne-eqb}
-use Rattle.ledger.specs.Ledger.{anySettled}
-use Rattle.ledger.specs.Sound.{nothingPresent, unsetZero}
 use borrow.Author.Needs.{needs}
+use Rattle.ledger.specs.Sound.{nothingPresent, unsetZero}
 use Rattle.ledger.proofs.sound.unset_zero.Statement.{statement}
 use Rattle.ledger.proofs.sound.unset_zero.Tie as tie
 
@@ -21,12 +20,12 @@ unset c =
     (c .if1 .came)
 
 returns : tie.Need-returns
-unfolding unsetZero anySettled
-returns c = rw (unset (c .before .before), c .before .if3 .taken, ne-eqb _ _ (c .if4 .taken))
+unfolding unsetZero
+returns c = rw (unset (c .before .before), c .before .if3 .taken, c .if4 .taken)
 
 returns-2 : tie.Need-returns-2
-unfolding unsetZero anySettled
-returns-2 c = rw (unset (c .before .before), c .before .if3 .taken, eq-eqb _ _ (c .if4 .left))
+unfolding unsetZero
+returns-2 c = rw (unset (c .before .before), c .before .if3 .taken, c .if4 .left)
 
 returns-3 : tie.Need-returns-3
 unfolding unsetZero

@@ -4,7 +4,7 @@ use Prim.Native.Nat.{_*_, _≤_}
 use native.Mathlib.Omega.{arith}
 use lib.ListN.{length, take}
 use lib.Seq.{length-take-le}
-use Rattle.ledger.specs.declared.book.Ledger.{Ledger}
+use Rattle.ledger.specs.declared.ledger.Ledger.{Ledger}
 use Rattle.store.specs.Store.{presentWords, chargeWords, balanceWords, loadedLedger}
 use Rattle.numbers.proofs.ListLaws.{Front}
 use Rattle.store.proofs.StoreLaws.{mapped, saved-few, present-first, charges-first, balances-first, saved-back}
@@ -27,16 +27,16 @@ module _ (c : tie.After-save) where
   few : c .save .result ≤ 40
   few = saved-few _ _ _ _ _ _ _ _ (c .save .ensures)
 
-  abbrev book : Ledger
-  book = c .before .before .before .before .before .args .ledger
+  abbrev ledger : Ledger
+  ledger = c .before .before .before .before .before .args .ledger
 
-  presences : Front (c .save .result * 8) (presentWords (book .force) (c .save .result * 8)) (c .save .last .1 .0)
+  presences : Front (c .save .result * 8) (presentWords (ledger .force) (c .save .result * 8)) (c .save .last .1 .0)
   presences = present-first _ _ _ _ _ _ _ _ (c .save .ensures)
 
-  charged : Front (c .save .result * 8) (chargeWords (book .force) (c .save .result * 8)) (c .save .last .1 .1 .0)
+  charged : Front (c .save .result * 8) (chargeWords (ledger .force) (c .save .result * 8)) (c .save .last .1 .1 .0)
   charged = charges-first _ _ _ _ _ _ _ _ (c .save .ensures)
 
-  balanced : Front (c .save .result) (balanceWords (book .balances) (c .save .result)) (c .save .last .1 .1 .1 .0)
+  balanced : Front (c .save .result) (balanceWords (ledger .balances) (c .save .result)) (c .save .last .1 .1 .1 .0)
   balanced = balances-first _ _ _ _ _ _ _ _ (c .save .ensures)
 
 mul-places : tie.Need-mul-places
@@ -75,7 +75,7 @@ returns c =
     let d = c .before .before .before .before .before .before .before .before .before in
     let s = d .before .before .before .before .before in
     c .load .ensures
-    ∙ ap (λ w. loadedLedger (book d .n) (book d .months) (book d .last) w (book d .month) (take (d .save .result * 8) (d .save .last .1 .0)) (take (d .save .result * 8) (d .save .last .1 .1 .0)) (take (d .save .result) (d .save .last .1 .1 .1 .0))) (c .before .before .before .before .truth-word .ensures)
+    ∙ ap (λ w. loadedLedger (ledger d .n) (ledger d .months) (ledger d .last) w (ledger d .month) (take (d .save .result * 8) (d .save .last .1 .0)) (take (d .save .result * 8) (d .save .last .1 .1 .0)) (take (d .save .result) (d .save .last .1 .1 .1 .0))) (c .before .before .before .before .truth-word .ensures)
     ∙ saved-back _ _ _ _ _ _ _ _ (d .save .ensures) (all-present s) (all-charges s) (all-balances s)
 
 pub reload-spec : {M : Type 1} → statement M

@@ -56,21 +56,21 @@ returns c =
     let k = c .before .before .before .before .before .before .before .before .before .before .before .before in
     let s = k .before .before in
     let count = k .kept-count .result in
-    let book = s .args .ledger in
+    let ledger = s .args .ledger in
     record {
       counted = k .kept-count .ensures;
       presences =
           ap (λ l. l ++ drop (count * 8) (s .args .present .now))
           (c .before .before .before .before .before .before .before .before .before .save-present .ensures
-          ∙ ap (presentWords (book .force)) (length-take-le (count * 8) (s .args .present .now) (omega (arith, few k))));
+          ∙ ap (presentWords (ledger .force)) (length-take-le (count * 8) (s .args .present .now) (omega (arith, few k))));
       charged =
           ap (λ l. l ++ drop (count * 8) (s .args .charges .now))
           (c .before .before .before .before .before .save-charges .ensures
-          ∙ ap (chargeWords (book .force)) (length-take-le (count * 8) (s .args .charges .now) (omega (arith, few k))));
+          ∙ ap (chargeWords (ledger .force)) (length-take-le (count * 8) (s .args .charges .now) (omega (arith, few k))));
       balanced =
           ap (λ l. l ++ drop count (s .args .balances .now))
           (c .before .save-balances .ensures
-          ∙ ap (balanceWords (book .balances)) (length-take-le count (s .args .balances .now) (omega (arith, few k))));
+          ∙ ap (balanceWords (ledger .balances)) (length-take-le count (s .args .balances .now) (omega (arith, few k))));
     }
 
 pub save-spec : {M : Type 1} → statement M

@@ -1,8 +1,8 @@
 -- The definition, field by field.
 use mathlib.Core.Path.{refl}
 use Rattle.ledger.specs.Ledger.{fixedLedger}
-use Rattle.ledger.proofs.book.Ledger.book_fixing.Statement.{statement}
-use Rattle.ledger.proofs.book.Ledger.book_fixing.Tie as tie
+use Rattle.ledger.proofs.ledger.Ledger.book_fixing.Statement.{statement}
+use Rattle.ledger.proofs.ledger.Ledger.book_fixing.Tie as tie
 
 returns : tie.Need-returns
 unfolding fixedLedger

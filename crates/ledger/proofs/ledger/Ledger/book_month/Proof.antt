@@ -2,8 +2,8 @@
 use mathlib.Core.Path.{refl}
 use Rattle.ledger.specs.Ledger.{settledLedger}
 use borrow.Author.Needs.{needs}
-use Rattle.ledger.proofs.book.Ledger.book_month.Statement.{statement}
-use Rattle.ledger.proofs.book.Ledger.book_month.Tie as tie
+use Rattle.ledger.proofs.ledger.Ledger.book_month.Statement.{statement}
+use Rattle.ledger.proofs.ledger.Ledger.book_month.Tie as tie
 
 returns : tie.Need-returns
 unfolding settledLedger

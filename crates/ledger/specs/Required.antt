@@ -1,0 +1,25 @@
+-- What the functions of this crate require, as plain facts. Assumes nothing.
+use mathlib.Core.Path.{_≡_}
+use mathlib.Core.Bool.{true}
+use mathlib.Core.List.{List}
+use Prim.Native.Nat.{ℕ, _^_, _<_}
+use lib.ListN.{getD}
+use Rattle.numbers.specs.Units.{noPrice}
+use Rattle.numbers.specs.declared.units.PesoPrice.{PesoPrice}
+use Rattle.ledger.specs.Ledger.{anySettled, nextMonth}
+use Rattle.ledger.specs.Sound.{sound}
+use Rattle.ledger.specs.Turn.{settlementTurn}
+use Rattle.ledger.specs.Settle.{SettlementCall, billingLengths}
+use Rattle.ledger.specs.declared.ledger.Ledger.{Ledger}
+
+-- prices whose words are written: each fits a signed word
+pub record PricesSmall (averages finals : List PesoPrice) : Type 0 where
+  pub average : (i : ℕ) → getD averages i noPrice .0 < 2 ^ 62
+  pub final : (i : ℕ) → getD finals i noPrice .0 < 2 ^ 62
+
+-- a settlement that passed its first four checks
+pub record Due (ledger : Ledger) (call : SettlementCall) : Type 0 where
+  pub whole : sound ledger ≡ true
+  pub lengths : billingLengths (ledger .n) call ≡ true
+  pub turn : settlementTurn (anySettled ledger) (nextMonth ledger) (ledger .fixed) (ledger .month) (call .month) ≡ true
+  pub inForce : ledger .fixed ≡ true

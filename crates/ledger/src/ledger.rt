@@ -1,0 +1,47 @@
+// The ledger by value, and what is asked of it by name: whether a month is settled, which month comes next, and what a
+// month is billed under.
+ghost use mathlib.Core.Path.{_≡_};
+ghost use Prim.Native.Nat.{_≤_};
+ghost use Rattle.series.specs.Series.{lastMonth};
+ghost use Rattle.ledger.specs.Ledger.{anySettled, nextMonth, billedUnder};
+use fixing::sector::SectorCharges;
+use numbers::sizes::MOST_DISTRIBUTORS;
+use numbers::units::Pesos;
+
+pub struct Ledger {
+    // How many distributors: 1 to 40 in a sound ledger.
+    pub n: usize,
+    // How many months are settled, and which was the last.
+    pub months: u64,
+    pub last: u64,
+    // Whether a fixing is in force, its month, and what it put in force.
+    pub fixed: bool,
+    pub month: u64,
+    pub force: SectorCharges,
+    // What each distributor owes, or is owed below zero.
+    pub balances: [Pesos; MOST_DISTRIBUTORS],
+}
+
+impl Ledger {
+    // Whether any month is settled.
+    pub(crate) fn any_settled(self) -> bool
+        ensures { λ r. ⌜ r ≡ anySettled self ⌝ }
+    {
+        self.months != 0
+    }
+
+    // The month after the last settled one.
+    pub(crate) fn next_month(self) -> u64
+        requires { ⌜ self .last ≤ lastMonth ⌝ }
+        ensures { λ r. ⌜ r ≡ nextMonth self ⌝ }
+    {
+        self.last + 1
+    }
+
+    // The presences and charges that a month is billed under: those in force.
+    pub(crate) fn billed_under(self) -> SectorCharges
+        ensures { λ r. ⌜ r ≡ billedUnder self ⌝ }
+    {
+        self.force
+    }
+}
