@@ -11,13 +11,14 @@ use Rattle.numbers.specs.Refusal.{Answered, verdictAnswered, isPassed}
 use Rattle.numbers.specs.Checks.{Met, Check, metUnless, verdictOf, answeredOr, answeredBy}
 use Rattle.numbers.specs.declared.refusal.Refusal.{Refusal}
 use Rattle.numbers.specs.declared.refusal.Refusal.the-variants.{Unsound, WrongLength, OutOfTurn, NoFixing, OutOfRange, ValueTooLarge, WrongSector, NoLine, WrongReading, PositionBeyond}
+use Rattle.numbers.specs.Sizes.{mostDistributors}
 use Rattle.numbers.proofs.CheckLaws.{AllTold, verdict-told, passed-number}
 use Rattle.series.specs.Series.{valuesInRange}
 use Rattle.supply.specs.Months.{Place, missingAt, monthCheck}
-use Rattle.supply.specs.Price.{outOfBoundsAt, boundsCheck}
+use Rattle.supply.specs.Price.{outOfBoundsAt, boundsCheck, tableChecks}
 use Rattle.fixing.specs.Prices.{returnedValues}
 use Rattle.fixing.specs.Sector.{sectorsAllowed}
-use Rattle.fixing.specs.Input.{ranged, supplied, missingPlace, beyondLine, tableChecks, inputChecks, inputDistributors}
+use Rattle.fixing.specs.Input.{ranged, supplied, missingPlace, beyondLine, inputChecks, inputDistributors}
 use Rattle.fixing.specs.Fixing.{acceptedFixing, fixingOf}
 use Rattle.fixing.specs.declared.fix.Fixing.{Fixing}
 use Rattle.fixing.proofs.VerdictLaws.{passed-fixing}
@@ -25,18 +26,18 @@ use Rattle.settlement.specs.Amount.{billingInRange}
 use Rattle.settlement.specs.Settlement.{positionOf, positionsInRange, newBalance}
 use Rattle.settlement.specs.Month.{moneyAt, moneyBelow, positionList, settledMonth}
 use Rattle.settlement.proofs.MonthLaws.{money-at, money-same}
-use Rattle.ledger.specs.Ledger.{fixedLedger, settledLedger}
+use Rattle.ledger.specs.Ledger.{anySettled, nextMonth, billedUnder, fixedLedger, settledLedger}
 use Rattle.ledger.specs.Sound.{sound}
 use Rattle.ledger.specs.Turn.{fixingTurn, settlementTurn}
-use Rattle.ledger.specs.Fix.{FixingCall, fixingLengths, fixingChecks, fixingVerdict, fixingAnswer, fixingAnswered, fixingLedger}
-use Rattle.ledger.specs.Settle.{SettlementCall, settlementLengths, settlementChecks, settlementVerdict, settlementLedger, positionsOf}
+use Rattle.ledger.specs.Fix.{FixingCall, callLengths, fixingChecks, fixingVerdict, fixingAnswer, fixingAnswered, fixingLedger}
+use Rattle.ledger.specs.Settle.{SettlementCall, billingLengths, settlementChecks, settlementVerdict, settlementLedger, positionsOf}
 use Rattle.ledger.proofs.SoundFacts.{sound-facts}
 use Rattle.ledger.proofs.MoneyLaws.{range-same, balance-same}
 use Rattle.ledger.proofs.CallLaws.{fixing-passed}
 use Rattle.ledger.proofs.FixLaws.{fixing-told, answer-told}
 use Rattle.ledger.proofs.SettleLaws.{settlement-told}
 use Rattle.history.specs.Run.{fixing, settlement}
-use Rattle.history.specs.Plain.{Plain, isHeld, heldMonth, heldForce, image, cause, causeAtTerm, causeAtLine, firstCause, fixingCauses, plainFixing, plainAmount, plainPosition, settlementCauses, plainSettlement, plainAnswer, plainAccepts, plainChange, plainStep}
+use Rattle.history.specs.Plain.{Plain, isHeld, heldMonth, plainSettled, plainNext, plainUnder, image, cause, causeAtTerm, causeAtLine, firstCause, fixingCauses, plainFixing, plainAmount, plainPosition, settlementCauses, plainSettlement, plainAnswer, plainAccepts, plainChange, plainStep}
 
 -- the same number and values, accepted by the ledger exactly where the number is 0
 pub record Same (answered : Answered) (passed : Bool) (plain : Answered) : Type 0 where
@@ -84,15 +85,15 @@ line-same none = refl
 line-same (some line) = refl
 
 fixing-alike : (plain : Plain) (call : FixingCall) → Alike (fixingChecks (image plain) call) (fixingCauses plain call)
-unfolding image fixingChecks inputChecks tableChecks monthCheck boundsCheck fixingCauses Alike
+unfolding image anySettled nextMonth plainSettled plainNext fixingChecks inputChecks tableChecks monthCheck boundsCheck fixingCauses Alike
 fixing-alike plain call =
     let n = plain .count in
     let input = call .input in (
       test-same 2 Unsound (sound (image plain)),
       (
-        test-same 3 WrongLength (fixingLengths n call),
+        test-same 3 WrongLength (callLengths n call),
         (
-          test-same 4 OutOfTurn (fixingTurn (plain .months) (plain .last) (input .month)),
+          test-same 4 OutOfTurn (fixingTurn (plainSettled plain) (plainNext plain) (input .numbers .month)),
           (
             test-same 6 OutOfRange (ranged n input),
             (
@@ -120,40 +121,40 @@ fixing-step plain call =
     go (isPassed (fixingVerdict (image plain) call)) refl
     ∙ ap (λ b. image (cond b (plainChange plain (fixing call)) plain)) (fixing-same plain call .accepts)
   where
-    go : (b : Bool) → isPassed (fixingVerdict (image plain) call) ≡ b → cond b (fixedLedger (image plain) (call .input .month) (fixingOf (plain .count) (call .input) .sectors)) (image plain) ≡ image (cond b (plainChange plain (fixing call)) plain)
+    go : (b : Bool) → isPassed (fixingVerdict (image plain) call) ≡ b → cond b (fixedLedger (image plain) (call .input .numbers .month) (fixingOf (plain .count) (call .input) .sectors)) (image plain) ≡ image (cond b (plainChange plain (fixing call)) plain)
     go true e =
-        ap (λ (x : Fixing). fixedLedger (image plain) (call .input .month) (x .sectors))
+        ap (λ (x : Fixing). fixedLedger (image plain) (call .input .numbers .month) (x .sectors))
         (passed-fixing (plain .count) (call .input) (fixing-passed (image plain) call e .passed))
     go false e = refl
 
 -- the positions are the same below n
 module _ (plain : Plain) (call : SettlementCall) (h : sound (image plain) ≡ true) where
-  few : plain .count ≤ 40
+  few : plain .count ≤ mostDistributors
   unfolding image
   few = sound-facts (image plain) h .few
 
   position-same : (i : ℕ) → i < plain .count → moneyAt (positionsOf (image plain) call) i ≡ plainPosition plain call i
-  unfolding image positionsOf positionList positionOf plainPosition plainAmount
+  unfolding image billedUnder positionsOf positionList positionOf plainPosition plainAmount plainUnder
   position-same i p =
       let held : ℕ → ℤ = moneyAt (moneyBelow (plain .count) (plain .balance)) in
       money-at (positionOf held (plainAmount plain call)) (plain .count) i p (omega (arith, few))
       ∙ ap (λ (z : ℤ). z +ℤ plainAmount plain call i) (money-at (plain .balance) (plain .count) i p (omega (arith, few)))
 
   pub settlement-same : Same (verdictAnswered [] (settlementVerdict (image plain) call)) (isPassed (settlementVerdict (image plain) call)) (plainSettlement plain call)
-  unfolding image settlementVerdict settlementChecks settlementCauses plainSettlement Alike
+  unfolding image anySettled nextMonth billedUnder plainSettled plainNext plainUnder settlementVerdict settlementChecks settlementCauses plainSettlement Alike
   settlement-same =
       let n = plain .count in
       let within = range-same n (moneyAt (positionsOf (image plain) call)) (plainPosition plain call) position-same in
       call-same (settlementChecks (image plain) call) (settlementCauses plain call) [] (settlement-told (image plain) call) (
         test-same 2 Unsound (sound (image plain)),
         (
-          test-same 3 WrongLength (settlementLengths n call),
+          test-same 3 WrongLength (billingLengths n call),
           (
-            test-same 4 OutOfTurn (settlementTurn (plain .months) (plain .last) (isHeld (plain .held)) (heldMonth (plain .held)) (call .month)),
+            test-same 4 OutOfTurn (settlementTurn (plainSettled plain) (plainNext plain) (isHeld (plain .held)) (heldMonth (plain .held)) (call .month)),
             (
               test-same 5 NoFixing (isHeld (plain .held)),
               (
-                test-same 12 WrongReading (billingInRange n (heldForce n (plain .held) .present) (call .readings) (call .losses)),
+                test-same 12 WrongReading (billingInRange n (plainUnder plain .present) (call .readings) (call .losses)),
                 (ap (λ b. told 13 (metUnless b PositionBeyond)) within ∙ test-same 13 PositionBeyond (positionsInRange n (plainPosition plain call)), tt),
               ),
             ),

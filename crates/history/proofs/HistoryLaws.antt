@@ -17,7 +17,7 @@ use Rattle.settlement.specs.Month.{moneyAt, moneyBelow}
 use Rattle.settlement.proofs.MonthLaws.{money-none}
 use Rattle.fixing.specs.Sector.{noCharges}
 use Rattle.fixing.specs.Input.{inputDistributors}
-use Rattle.ledger.specs.Ledger.{noBalances, emptyLedger, openingChecks, openingVerdict, openingLedger}
+use Rattle.ledger.specs.Ledger.{billedUnder, noBalances, emptyLedger, openingChecks, openingVerdict, openingLedger}
 use Rattle.ledger.specs.Sound.{sound}
 use Rattle.ledger.specs.Fix.{FixingCall, fixingList}
 use Rattle.ledger.specs.Settle.{SettlementCall}
@@ -26,7 +26,7 @@ use Rattle.ledger.proofs.SoundFacts.{sound-facts}
 use Rattle.ledger.proofs.MoneyLaws.{money-sum}
 use Rattle.ledger.proofs.KeptLaws.{opened-sound, fixing-keeps, settlement-keeps, settlement-adds}
 use Rattle.history.specs.Run.{Call, fixing, settlement, opened, step, answer, after, answers}
-use Rattle.history.specs.Plain.{Plain, plainOpened, image, plainAnswer, plainAmount, plainAccepts, plainChange, plainStep, plainAfter, plainAnswers, callCollects, plainCollected}
+use Rattle.history.specs.Plain.{Plain, plainOpened, image, plainAnswer, plainUnder, plainAmount, plainAccepts, plainChange, plainStep, plainAfter, plainAnswers, callCollects, plainCollected}
 use Rattle.history.specs.History.{WrittenPrices, History}
 use Rattle.history.proofs.CallLaws.{fixing-same, fixing-step, settlement-same, settlement-step}
 use Rattle.history.proofs.WrittenLaws.{written}
@@ -72,7 +72,7 @@ module _ (plain : Plain) where
   fixing-adds call false = sym (+ℤ-idr (total (image plain)))
 
   settled-adds : (call : SettlementCall) → sound (image plain) ≡ true → (b : Bool) → plainAccepts plain (settlement call) ≡ b → total (image (plainStep plain (settlement call))) ≡ total (image plain) +ℤ cond b (signedSumBelow (plain .count) (plainAmount plain call)) (pos 0)
-  unfolding image plainAccepts plainAnswer plainAmount plainStep
+  unfolding image billedUnder plainUnder plainAccepts plainAnswer plainAmount plainStep
   settled-adds call h true e =
       ap total (sym (settlement-step plain call h))
       ∙ settlement-adds (image plain) call h (settlement-same plain call h .accepts ∙ e)

@@ -11,7 +11,7 @@ use Rattle.numbers.specs.Refusal.{isPassed}
 use Rattle.numbers.specs.Units.{noPrice}
 use Rattle.numbers.specs.declared.units.PesoPrice.{PesoPrice}
 use Rattle.numbers.proofs.ListLaws.{list-length, list-at}
-use Rattle.numbers.proofs.SignedLaws.{pos-le}
+use Rattle.numbers.proofs.SignedLaws.{pos-le, signed-sum-same}
 use Rattle.fixing.specs.Limit.{Distributors, InRange, contractTotal, limit, finalPrice, charge, collected}
 use Rattle.fixing.specs.Charge.{greater, greatestUpTo, pricesCollect, largestCharge}
 use Rattle.fixing.specs.Prices.{fixedPrices, chargeList}
@@ -21,10 +21,9 @@ use Rattle.fixing.specs.declared.fix.Fixing.{Fixing}
 use Rattle.fixing.proofs.LimitLaws.{final-limit, rounds-few, collects, smallest-largest, collect-whole}
 use Rattle.fixing.proofs.FixingLaws.{final-at, charge-at}
 use Rattle.ledger.specs.Sound.{sound}
-use Rattle.ledger.specs.Fix.{FixingCall, fixingVerdict, fixingList, priceList, priceWord, third}
+use Rattle.ledger.specs.Fix.{FixingCall, fixingVerdict, fixingList, priceList, pricePart, priceWord}
 use Rattle.ledger.specs.declared.ledger.Ledger.{Ledger}
 use Rattle.ledger.proofs.SoundFacts.{sound-facts}
-use Rattle.ledger.proofs.MoneyLaws.{signed-sum-same}
 use Rattle.ledger.proofs.CallLaws.{fixing-passed, passed-range}
 use Rattle.fixing.proofs.VerdictLaws.{passed-fixing}
 use Rattle.history.specs.History.{writtenFinal, WrittenPrices}
@@ -51,7 +50,7 @@ module _ (d : Distributors) (f g : ℕ → ℤ) (h : (i : ℕ) → i < d .count 
 
 -- the three words of distributor i
 module _ (n : ℕ) (averages finals : List PesoPrice) (charges : List ℤ) (i : ℕ) (p : i < n) where
-  word-at : (j k : ℕ) → j ≡ i * 3 + k → k < 3 → getD (listBelow (n * 3) (priceWord averages finals charges)) j (pos 0) ≡ third k (pos (getD averages i noPrice .0)) (pos (getD finals i noPrice .0)) (getD charges i (pos 0))
+  word-at : (j k : ℕ) → j ≡ i * 3 + k → k < 3 → getD (listBelow (n * 3) (priceWord averages finals charges)) j (pos 0) ≡ pricePart (getD averages i noPrice .0) (getD finals i noPrice .0) (getD charges i (pos 0)) k
   unfolding priceWord
   word-at j k e q =
       let whole : j / 3 ≡ i = omega arith in
@@ -88,11 +87,11 @@ module _ (ledger : Ledger) (call : FixingCall) (h : sound ledger ≡ true) (e : 
 
   final-is : (i : ℕ) → i < ledger .n → getD finals i noPrice .0 ≡ finalPrice d i
   unfolding inputDistributors
-  final-is i p = final-at (ledger .n) averages (inputEnergies (ledger .n) (call .input)) range i p
+  final-is i p = final-at (ledger .n) averages (inputEnergies (call .input)) range i p
 
   charge-is : (i : ℕ) → i < ledger .n → getD charges i (pos 0) ≡ charge d i
   unfolding inputDistributors
-  charge-is i p = charge-at (ledger .n) averages (inputEnergies (ledger .n) (call .input)) range i p
+  charge-is i p = charge-at (ledger .n) averages (inputEnergies (call .input)) range i p
 
   final-written : (i : ℕ) → i < ledger .n → writtenFinal (fixingList ledger call) i ≡ pos (finalPrice d i)
   final-written i p =

@@ -1,7 +1,7 @@
 -- The "plain ledger" (a term of document 01), defined apart from the ledger: it holds the latest accepted fixing's
 -- arguments, not charges, and its checks and steps are written over its own parts. Only the check of soundness goes
 -- through its image, the ledger that follows from it. Assumes nothing.
-use mathlib.Core.Bool.{Bool, true, false, cond}
+use mathlib.Core.Bool.{Bool, true, false, cond, not}
 use mathlib.Core.List.{List, [], _∷_}
 use mathlib.Core.Option.{Option, none, some}
 use Prim.Native.Nat.{ℕ, _+_}
@@ -20,8 +20,8 @@ use Rattle.settlement.specs.Settlement.{positionOf, positionsInRange, newBalanc
 use Rattle.settlement.specs.Month.{moneyBelow}
 use Rattle.ledger.specs.Sound.{sound}
 use Rattle.ledger.specs.Turn.{fixingTurn, settlementTurn}
-use Rattle.ledger.specs.Fix.{FixingCall, fixingLengths}
-use Rattle.ledger.specs.Settle.{SettlementCall, settlementLengths}
+use Rattle.ledger.specs.Fix.{FixingCall, callLengths}
+use Rattle.ledger.specs.Settle.{SettlementCall, billingLengths}
 use Rattle.ledger.specs.declared.ledger.Ledger.{Ledger}
 use Rattle.history.specs.Run.{Call, fixing, settlement}
 
@@ -44,11 +44,21 @@ isHeld (some call) = true
 
 abbrev pub heldMonth : Option FixingCall → ℕ
 heldMonth none = 0
-heldMonth (some call) = call .input .month
+heldMonth (some call) = call .input .numbers .month
 
 abbrev pub heldForce : ℕ → Option FixingCall → SectorCharges
 heldForce n none = noCharges
 heldForce n (some call) = sectorCharges n (charge (inputDistributors n (call .input))) (call .input .sectors)
+
+-- whether any month is settled, the month that comes next, and what a month is billed under: the fixing held
+unfoldable pub plainSettled : Plain → Bool
+plainSettled plain = not (eqb (plain .months) 0)
+
+unfoldable pub plainNext : Plain → ℕ
+plainNext plain = plain .last + 1
+
+unfoldable pub plainUnder : Plain → SectorCharges
+plainUnder plain = heldForce (plain .count) (plain .held)
 
 -- the ledger that follows from the plain one; "unset parts are zero"
 unfoldable pub image : Plain → Ledger
@@ -88,8 +98,8 @@ fixingCauses plain call =
     let n = plain .count in
     let input = call .input in
     cause 2 (sound (image plain))
-    ∷ cause 3 (fixingLengths n call)
-    ∷ cause 4 (fixingTurn (plain .months) (plain .last) (input .month))
+    ∷ cause 3 (callLengths n call)
+    ∷ cause 4 (fixingTurn (plainSettled plain) (plainNext plain) (input .numbers .month))
     ∷ cause 6 (ranged n input)
     ∷ cause 7 (valuesInRange (input .series))
     ∷ cause 8 (sectorsAllowed n (input .sectors))
@@ -106,7 +116,7 @@ plainFixing plain call =
 -- the collected amount of each distributor: "works MFAR from its readings, its loss factors and those charges"
 unfoldable pub plainAmount : Plain → SettlementCall → ℕ → ℤ
 plainAmount plain call =
-    collectedAmount (heldForce (plain .count) (plain .held) .charges) (call .readings) (call .losses)
+    collectedAmount (plainUnder plain .charges) (call .readings) (call .losses)
 
 unfoldable pub plainPosition : Plain → SettlementCall → ℕ → ℤ
 plainPosition plain call = positionOf (plain .balance) (plainAmount plain call)
@@ -115,12 +125,11 @@ plainPosition plain call = positionOf (plain .balance) (plainAmount plain call)
 unfoldable pub settlementCauses : Plain → SettlementCall → List (Option Answered)
 settlementCauses plain call =
     let n = plain .count in
-    let force = heldForce n (plain .held) in
     cause 2 (sound (image plain))
-    ∷ cause 3 (settlementLengths n call)
-    ∷ cause 4 (settlementTurn (plain .months) (plain .last) (isHeld (plain .held)) (heldMonth (plain .held)) (call .month))
+    ∷ cause 3 (billingLengths n call)
+    ∷ cause 4 (settlementTurn (plainSettled plain) (plainNext plain) (isHeld (plain .held)) (heldMonth (plain .held)) (call .month))
     ∷ cause 5 (isHeld (plain .held))
-    ∷ cause 12 (billingInRange n (force .present) (call .readings) (call .losses))
+    ∷ cause 12 (billingInRange n (plainUnder plain .present) (call .readings) (call .losses))
     ∷ cause 13 (positionsInRange n (plainPosition plain call))
     ∷ []
 
