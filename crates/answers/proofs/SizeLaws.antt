@@ -55,8 +55,14 @@ place-size (line ∷ term ∷ more) = rw length-append (omega (arith, named-size
 detail-size : (answer : FixingAnswer) → length (detailText answer) ≤ 116
 unfolding detailText fixedText
 detail-size (Accepted limit surcharge rounds residue) =
-    rw (length-append, length-append, length-append, length-append)
-    (omega (arith, named-size (bytes " limit") (limit .0), named-size (bytes " surcharge") (surcharge .0), named-size (bytes " rounds") rounds, signed-word-size (residue .0)))
+    rw (length-append, length-append, length-append)
+    (omega (
+      arith,
+      named-size (bytes " limit") (limit .0),
+      named-size (bytes " surcharge") (surcharge .0),
+      named-size (bytes " rounds") rounds,
+      named-size (bytes " residue") (residue .0),
+    ))
 detail-size (Refused refusal) = place-size (refusalAnswered refusal .values)
 
 changed-size : (list : List ℤ) → length (changedText list) ≤ 8

@@ -12,6 +12,7 @@ use Rattle.numbers.specs.Sizes.{mostDistributors, sectorCount}
 use Rattle.numbers.specs.declared.refusal.Verdict.{Verdict}
 use Rattle.numbers.specs.declared.units.PesoPrice.{PesoPrice}
 use Rattle.numbers.specs.declared.units.Pesos.{Pesos}
+use Rattle.numbers.specs.declared.units.UnsignedPesos.{UnsignedPesos}
 use Rattle.settlement.specs.Month.{moneyAt}
 use Rattle.ledger.specs.Fix.{fixingAnswered}
 use Rattle.ledger.specs.declared.ledger.Ledger.{Ledger}
@@ -41,10 +42,10 @@ unfoldable pub errorText : ℕ → List ℕ
 errorText at = named (bytes "journal error at byte") at ++ lineEnd ∷ []
 
 -- "limit L surcharge R rounds C residue S"
-unfoldable pub fixedText : PesoPrice → PesoPrice → ℕ → Pesos → List ℕ
+unfoldable pub fixedText : PesoPrice → PesoPrice → ℕ → UnsignedPesos → List ℕ
 fixedText limit surcharge rounds residue =
     named (bytes " limit") (limit .0) ++ named (bytes " surcharge") (surcharge .0) ++ named (bytes " rounds") rounds
-    ++ bytes " residue" ++ signedWord (residue .0)
+    ++ named (bytes " residue") (residue .0)
 
 -- "line J term T", "line J": the values of a refusal that has any
 unfoldable pub placeText : List ℕ → List ℕ

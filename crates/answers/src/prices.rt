@@ -8,14 +8,14 @@ ghost use Rattle.answers.specs.Answer.{fixedText, placeText, detailText,
 use crate::outcome::write_changed;
 use crate::outcome::write_outcome;
 use ledger::fix::FixingAnswer;
+use ledger::fix::fixing_number;
 use numbers::refusal::Refusal;
 use numbers::units::PesoPrice;
-use numbers::units::Pesos;
+use numbers::units::UnsignedPesos;
 use text::number::write_decimal;
 use text::number::write_named;
 use text::number::write_signed_word;
 use text::write::write_byte;
-use text::write::write_text;
 
 // Writes the four numbers of an accepted fixing.
 fn write_fixed(
@@ -24,15 +24,14 @@ fn write_fixed(
     limit: PesoPrice,
     surcharge: PesoPrice,
     rounds: u64,
-    residue: Pesos,
+    residue: UnsignedPesos,
 ) -> usize
     ensures { λ r. ⌜ bufferOf (now (buffer .exit)) r ≡ written (fixedText limit surcharge rounds residue) (bufferOf (now (buffer .entry)) count) ⌝ }
 {
     let end = write_named(buffer, count, b" limit", limit.0);
     let end = write_named(buffer, end, b" surcharge", surcharge.0);
     let end = write_named(buffer, end, b" rounds", rounds);
-    let end = write_text(buffer, end, b" residue");
-    write_signed_word(buffer, end, residue.0)
+    write_named(buffer, end, b" residue", residue.0)
 }
 
 // Writes the place of a refusal that has one.
@@ -93,7 +92,7 @@ fn write_price_rows(buffer: &mut [u8], count: usize, prices: &[i64]) -> usize
 pub fn write_fixing(buffer: &mut [u8], count: usize, answer: FixingAnswer, prices: &[i64]) -> usize
     ensures { λ r. ⌜ bufferOf (now (buffer .exit)) r ≡ written (fixingText answer (now (prices .entry))) (bufferOf (now (buffer .entry)) count) ⌝ }
 {
-    let number = ledger::fix::number(answer);
+    let number = fixing_number(answer);
     let end = write_outcome(buffer, count, b"fix", number);
     let end = write_detail(buffer, end, answer);
     let end = write_byte(buffer, end, b'\n');

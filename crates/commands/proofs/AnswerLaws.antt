@@ -25,10 +25,10 @@ use Rattle.text.proofs.SizeLaws.{choice-size}
 use Rattle.answers.proofs.SizeLaws.{opening-size, loading-size, fixing-size, settlement-size, saving-size}
 use Rattle.commands.specs.Replay.{unwritten, fixingCall, settlementCall, commandNext, commandLedger, stepOf, stepAfter, fixingPrinted, settlementPrinted, commandAnswer, answerOf, answerAfter, longestAnswer, unansweredBy, CallMade, CommandMade, CommandAnswered}
 use Rattle.commands.specs.declared.call.Made.{Made}
-use Rattle.commands.specs.declared.run.Answered.{Answered}
+use Rattle.commands.specs.declared.run.CommandOutcome.{CommandOutcome}
 use Rattle.commands.proofs.ReplayLaws.{stepBy, step-broken, step-made, step-read}
 
-abbrev pub answeredBy : Ledger → Cursor → ℕ → Answered
+abbrev pub answeredBy : Ledger → Cursor → ℕ → CommandOutcome
 answeredBy ledger next count = record { step = stepBy ledger next; count = count }
 
 -- the words lent for prices
@@ -52,7 +52,7 @@ answer-size End text cursor ledger = omega arith
 
 -- an answer after its text was read
 module _ (command : Command) (text : List ℕ) (cursor : Cursor) (ledger : Ledger) (next : Cursor) (e : next ≡ commandNext command text cursor) where
-  pub command-broken : next .broken ≡ true → (made : Answered) → made ≡ unansweredBy ledger next → (found : List ℕ) → CommandMade made (stepOf command text cursor ledger) (answerOf command text cursor ledger) found found
+  pub command-broken : next .broken ≡ true → (made : CommandOutcome) → made ≡ unansweredBy ledger next → (found : List ℕ) → CommandMade made (stepOf command text cursor ledger) (answerOf command text cursor ledger) found found
   unfolding answerOf written
   command-broken b made h found =
       rw h
@@ -68,7 +68,7 @@ module _ (command : Command) (text : List ℕ) (cursor : Cursor) (ledger : Ledge
       command-made b (made .ledger) (m .booked ∙ h) (made .count) found left (m .answered ∙ ap (λ text. written text (bufferOf found 0)) k)
 
   -- one that leaves the ledger and answers nothing, broken or not
-  pub nothing-made : commandLedger command text cursor ledger ≡ ledger → commandAnswer command text cursor ledger ≡ [] → (made : Answered) → made ≡ unansweredBy ledger next → (found : List ℕ) → CommandMade made (stepOf command text cursor ledger) (answerOf command text cursor ledger) found found
+  pub nothing-made : commandLedger command text cursor ledger ≡ ledger → commandAnswer command text cursor ledger ≡ [] → (made : CommandOutcome) → made ≡ unansweredBy ledger next → (found : List ℕ) → CommandMade made (stepOf command text cursor ledger) (answerOf command text cursor ledger) found found
   unfolding written
   nothing-made l a made h found = go (next .broken) refl
     where
@@ -84,7 +84,7 @@ module _ (text : List ℕ) (at : ℕ) (ledger : Ledger) (read : CommandRead) (e 
       let told = sym (ap (λ (r : CommandRead). r .command) e) ∙ h in
       ap (λ (r : CommandRead). r .next .broken) e ∙ rw told
 
-  pub answer-read : (command : Command) → read .command ≡ command → (made : Answered) (found left : List ℕ) → length found ≡ longestAnswer → CommandMade made (stepOf command text (read .next) ledger) (answerOf command text (read .next) ledger) found left → CommandAnswered made (stepAfter text at ledger) (answerAfter text at ledger) left
+  pub answer-read : (command : Command) → read .command ≡ command → (made : CommandOutcome) (found left : List ℕ) → length found ≡ longestAnswer → CommandMade made (stepOf command text (read .next) ledger) (answerOf command text (read .next) ledger) found left → CommandAnswered made (stepAfter text at ledger) (answerAfter text at ledger) left
   unfolding answerAfter answerOf
   answer-read command h made found left long m =
       let answer = answerOf command text (read .next) ledger in

@@ -32,7 +32,7 @@ use Rattle.ledger.specs.Fix.{fixingCallOf}
 use Rattle.ledger.specs.Settle.{settlementCallOf}
 use Rattle.ledger.specs.declared.ledger.Ledger.{Ledger}
 use Rattle.store.specs.Store.{loadedLedger}
-use Rattle.commands.specs.Replay.{unwritten, fixingCall, settlementCall, keptLedger, commandNext, commandLedger, stepOf, stepAfter, readWith, replayFrom, longestText, replayed}
+use Rattle.commands.specs.Replay.{unwritten, fixingNumbersOf, fixingCall, settlementCall, ledgerNumbersOf, keptLedger, commandNext, commandLedger, stepOf, stepAfter, readWith, replayFrom, longestText, replayed}
 use Rattle.commands.specs.declared.run.Step.{Step}
 
 abbrev pub stepBy : Ledger → Cursor → Step
@@ -91,7 +91,7 @@ module _ (text : List ℕ) (cursor : Cursor) (read : FixRead) (e : read ≡ fixA
   pub prices-most : read .prices ≤ longestList
   prices-most = rw e (fix-prices-most text cursor)
 
-  pub fixing-made : (series lines sectors : List ℕ) (k : ℕ) → series ≡ seriesWords text cursor → lines ≡ lineWords text cursor → sectors ≡ sectorWords text cursor → k ≡ read .prices → fixingCallOf (read .month) (read .dollar) (read .factor) (read .first) series lines sectors (unwritten k) ≡ fixingCall text cursor
+  pub fixing-made : (series lines sectors : List ℕ) (k : ℕ) → series ≡ seriesWords text cursor → lines ≡ lineWords text cursor → sectors ≡ sectorWords text cursor → k ≡ read .prices → fixingCallOf (fixingNumbersOf read) series lines sectors (unwritten k) ≡ fixingCall text cursor
   unfolding fixingCall
   fixing-made series lines sectors k p q r h = rw (p, q, r, h, e)
 
@@ -104,7 +104,7 @@ module _ (text : List ℕ) (cursor : Cursor) (read : SettleRead) (e : read ≡ s
   settlement-made readings losses k p q h = rw (p, q, h, e)
 
 module _ (text : List ℕ) (cursor : Cursor) (read : LoadRead) (e : read ≡ loadAfter text cursor) where
-  pub ledger-kept : (present : List ℕ) (charges balances : List ℤ) → present ≡ presentWords text cursor → charges ≡ chargeWords text cursor → balances ≡ balanceWords text cursor → loadedLedger (read .n) (read .months) (read .last) (read .fixed) (read .month) present charges balances ≡ keptLedger text cursor
+  pub ledger-kept : (present : List ℕ) (charges balances : List ℤ) → present ≡ presentWords text cursor → charges ≡ chargeWords text cursor → balances ≡ balanceWords text cursor → loadedLedger (ledgerNumbersOf read) present charges balances ≡ keptLedger text cursor
   unfolding keptLedger
   ledger-kept present charges balances p q r = rw (p, q, r, e)
 

@@ -15,27 +15,41 @@ use Rattle.journal.specs.Command.{longestList, seriesName, linesName, sectorsNa
 use Rattle.journal.specs.Command.{fixSeriesFrom, fixLinesFrom, fixSectorsFrom, fixAfter, settleReadingsFrom, settleLossesFrom, settleAfter, loadPresentFrom, loadChargesFrom, loadBalancesFrom, loadAfter}
 use Rattle.journal.specs.declared.cursor.Cursor.{Cursor}
 use Rattle.journal.specs.declared.command.Command.{Command}
+use Rattle.journal.specs.declared.command.FixRead.{FixRead}
+use Rattle.journal.specs.declared.command.LoadRead.{LoadRead}
 use Rattle.journal.specs.declared.command.Command.the-variants.{Open, Fix, Settle, Save, Load, Unknown, End}
+use Rattle.supply.specs.declared.market.FixingNumbers.{FixingNumbers}
 use Rattle.ledger.specs.Ledger.{emptyLedger, openingVerdict, openingLedger}
 use Rattle.ledger.specs.Fix.{FixingCall, fixingCallOf, fixingAnswer, fixingLedger, fixingList}
 use Rattle.ledger.specs.Settle.{SettlementCall, settlementCallOf, settlementVerdict, settlementLedger, settlementList}
 use Rattle.ledger.specs.declared.ledger.Ledger.{Ledger}
 use Rattle.store.specs.Store.{loadedLedger}
+use Rattle.store.specs.declared.load.LedgerNumbers.{LedgerNumbers}
 use Rattle.text.specs.Buffer.{bufferOf, written}
 use Rattle.answers.specs.Answer.{openingText, loadingText, fixingText, settlementText, savingText}
 use Rattle.commands.specs.declared.call.Made.{Made}
-use Rattle.commands.specs.declared.run.Answered.{Answered}
+use Rattle.commands.specs.declared.run.CommandOutcome.{CommandOutcome}
 use Rattle.commands.specs.declared.run.Step.{Step}
 
 -- a lent list: "it is lent with every word -1"
 unfoldable pub unwritten : ℕ → List ℤ
 unwritten k = listBelow k (λ i. negsuc 0)
 
+-- "fix MONTH DOLLAR FACTOR FIRST"
+abbrev pub fixingNumbersOf : FixRead → FixingNumbers
+fixingNumbersOf read =
+    record {
+      month = read .month;
+      dollar = read .dollar;
+      «reference_factor» = read .factor;
+      «first_month» = read .first;
+    }
+
 -- the fixing of the words after `fix`
 unfoldable pub fixingCall : List ℕ → Cursor → FixingCall
 fixingCall text cursor =
     let read = fixAfter text cursor in
-    fixingCallOf (read .month) (read .dollar) (read .factor) (read .first)
+    fixingCallOf (fixingNumbersOf read)
     (listWords text (fixSeriesFrom text cursor) seriesName longestList mostWord)
     (listWords text (fixLinesFrom text cursor) linesName longestList mostWord)
     (listWords text (fixSectorsFrom text cursor) sectorsName longestList mostWord)
@@ -50,11 +64,16 @@ settlementCall text cursor =
     (listWords text (settleLossesFrom text cursor) lossesName longestList mostWord)
     (unwritten (read .transfers))
 
+-- "load N MONTHS LAST FIXED MONTH"
+abbrev pub ledgerNumbersOf : LoadRead → LedgerNumbers
+ledgerNumbersOf read =
+    record { n = read .n; months = read .months; last = read .last; fixed = read .fixed; month = read .month }
+
 -- the ledger of the words after `load`
 unfoldable pub keptLedger : List ℕ → Cursor → Ledger
 keptLedger text cursor =
     let read = loadAfter text cursor in
-    loadedLedger (read .n) (read .months) (read .last) (read .fixed) (read .month)
+    loadedLedger (ledgerNumbersOf read)
     (listWords text (loadPresentFrom text cursor) presentName sectorPlaces 1)
     (signedListWords text (loadChargesFrom text cursor) chargesName sectorPlaces)
     (signedListWords text (loadBalancesFrom text cursor) balancesName mostDistributors)
@@ -144,7 +163,7 @@ abbrev pub longestAnswer : ℕ
 longestAnswer = 262144
 
 -- a command that cannot be read
-abbrev pub unansweredBy : Ledger → Cursor → Answered
+abbrev pub unansweredBy : Ledger → Cursor → CommandOutcome
 unansweredBy ledger next = record { step = record { ledger = ledger; next = next }; count = 0 }
 
 -- a call that was made: its ledger, and its answer at the start of a buffer
@@ -153,12 +172,12 @@ pub record CallMade (made : Made) (ledger : Ledger) (answer found left : List �
   pub answered : bufferOf left (made .count) ≡ written answer (bufferOf found 0)
 
 -- a command that was read, and made where it is whole
-pub record CommandMade (made : Answered) (step : Step) (answer found left : List ℕ) : Type 0 where
+pub record CommandMade (made : CommandOutcome) (step : Step) (answer found left : List ℕ) : Type 0 where
   pub stepped : made .step ≡ step
   pub answered : bufferOf left (made .count) ≡ written answer (bufferOf found 0)
 
 -- a command's answer as it is printed: the first bytes of the buffer
-pub record CommandAnswered (made : Answered) (step : Step) (answer left : List ℕ) : Type 0 where
+pub record CommandAnswered (made : CommandOutcome) (step : Step) (answer left : List ℕ) : Type 0 where
   pub stepped : made .step ≡ step
   pub within : made .count ≤ length left
   pub printed : take (made .count) left ≡ answer

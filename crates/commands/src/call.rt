@@ -7,10 +7,10 @@ ghost use Rattle.commands.specs.Replay.{unwritten, fixingPrinted, settle
 use answers::outcome::UNWRITTEN;
 use answers::prices::write_fixing;
 use answers::transfers::write_settlement;
-use journal::command::FixRead;
-use ledger::ledger::Ledger;
 use ledger::fix::fix;
+use ledger::ledger::Ledger;
 use ledger::settle::settle;
+use supply::market::FixingNumbers;
 
 // The ledger that a call handed back, and how many bytes its answer has.
 pub struct Made {
@@ -32,27 +32,17 @@ fn lend(list: &mut [i64])
 // Makes a fixing, and writes its answer at the start of the buffer.
 pub(crate) fn make_fixing(
     ledger: Ledger,
-    read: FixRead,
+    numbers: FixingNumbers,
     series: &[u64],
     lines: &[u64],
     sectors: &[u64],
     prices: &mut [i64],
     buffer: &mut [u8],
 ) -> Made
-    ensures { λ r. ⌜ (let call = fixingCallOf (read .month) (read .dollar) (read .factor) (read .first) (now (series .entry)) (now (lines .entry)) (now (sectors .entry)) (unwritten (length (now (prices .entry)))) in CallMade r (fixingLedger ledger call) (fixingPrinted ledger call) (now (buffer .entry)) (now (buffer .exit))) ⌝ }
+    ensures { λ r. ⌜ (let call = fixingCallOf numbers (now (series .entry)) (now (lines .entry)) (now (sectors .entry)) (unwritten (length (now (prices .entry)))) in CallMade r (fixingLedger ledger call) (fixingPrinted ledger call) (now (buffer .entry)) (now (buffer .exit))) ⌝ }
 {
     lend(prices);
-    let outcome = fix(
-        ledger,
-        read.month,
-        read.dollar,
-        read.factor,
-        read.first,
-        series,
-        lines,
-        sectors,
-        prices,
-    );
+    let outcome = fix(ledger, numbers, series, lines, sectors, prices);
     let answer = outcome.answer;
     let ledger = outcome.ledger;
     let count = write_fixing(buffer, 0, answer, prices);

@@ -24,7 +24,11 @@ use journal::cursor::read_to;
 use ledger::ledger::Ledger;
 use ledger::open::open;
 use libc::STDOUT_FILENO;
+use numbers::sizes::MOST_DISTRIBUTORS;
+use numbers::sizes::PLACES;
+use store::load::LedgerNumbers;
 use store::load::load;
+use supply::market::FixingNumbers;
 
 // The longest journal, in bytes.
 const LONGEST_TEXT: usize = 524288;
@@ -36,17 +40,17 @@ pub struct Step {
 }
 
 // A command's step, and how many bytes its answer has.
-struct Answered {
+struct CommandOutcome {
     pub step: Step,
     pub count: usize,
 }
 
 // A command that cannot be read: the ledger stays, and nothing is answered.
-fn unanswered(ledger: Ledger, next: Cursor) -> Answered
+fn unanswered(ledger: Ledger, next: Cursor) -> CommandOutcome
     ensures { λ r. ⌜ r ≡ unansweredBy ledger next ⌝ }
 {
     let step = Step { ledger, next };
-    Answered { step, count: 0 }
+    CommandOutcome { step, count: 0 }
 }
 
 // Lists of the longest length, from functions so that no goal writes their words out.
@@ -62,7 +66,7 @@ fn signed_words() -> [i64; 8192]
     [0; 8192]
 }
 
-fn run_open(text: &[u8], cursor: Cursor, ledger: Ledger, buffer: &mut [u8]) -> Answered
+fn run_open(text: &[u8], cursor: Cursor, ledger: Ledger, buffer: &mut [u8]) -> CommandOutcome
     requires { ⌜ cursor .at ≤ length (now text) ⌝ }
     ensures { λ r. ⌜ CommandMade r (stepOf Open (now (text .entry)) cursor ledger) (answerOf Open (now (text .entry)) cursor ledger) (now (buffer .entry)) (now (buffer .exit)) ⌝ }
 {
@@ -76,10 +80,10 @@ fn run_open(text: &[u8], cursor: Cursor, ledger: Ledger, buffer: &mut [u8]) -> A
     let ledger = opening.ledger;
     let count = write_opening(buffer, 0, verdict);
     let step = Step { ledger, next };
-    Answered { step, count }
+    CommandOutcome { step, count }
 }
 
-fn run_fix(text: &[u8], cursor: Cursor, ledger: Ledger, buffer: &mut [u8]) -> Answered
+fn run_fix(text: &[u8], cursor: Cursor, ledger: Ledger, buffer: &mut [u8]) -> CommandOutcome
     requires { ⌜ cursor .at ≤ length (now text) ⌝ }
     ensures { λ r. ⌜ CommandMade r (stepOf Fix (now (text .entry)) cursor ledger) (answerOf Fix (now (text .entry)) cursor ledger) (now (buffer .entry)) (now (buffer .exit)) ⌝ }
 {
@@ -96,9 +100,15 @@ fn run_fix(text: &[u8], cursor: Cursor, ledger: Ledger, buffer: &mut [u8]) -> An
     let line_words = read.lines;
     let factors = read.sectors;
     let lent = read.prices;
+    let numbers = FixingNumbers {
+        month: read.month,
+        dollar: read.dollar,
+        reference_factor: read.factor,
+        first_month: read.first,
+    };
     let made = make_fixing(
         ledger,
-        read,
+        numbers,
         &series[..values],
         &lines[..line_words],
         &sectors[..factors],
@@ -107,13 +117,13 @@ fn run_fix(text: &[u8], cursor: Cursor, ledger: Ledger, buffer: &mut [u8]) -> An
     );
     let ledger = made.ledger;
     let step = Step { ledger, next };
-    Answered {
+    CommandOutcome {
         step,
         count: made.count,
     }
 }
 
-fn run_settle(text: &[u8], cursor: Cursor, ledger: Ledger, buffer: &mut [u8]) -> Answered
+fn run_settle(text: &[u8], cursor: Cursor, ledger: Ledger, buffer: &mut [u8]) -> CommandOutcome
     requires { ⌜ cursor .at ≤ length (now text) ⌝ }
     ensures { λ r. ⌜ CommandMade r (stepOf Settle (now (text .entry)) cursor ledger) (answerOf Settle (now (text .entry)) cursor ledger) (now (buffer .entry)) (now (buffer .exit)) ⌝ }
 {
@@ -138,19 +148,19 @@ fn run_settle(text: &[u8], cursor: Cursor, ledger: Ledger, buffer: &mut [u8]) ->
     );
     let ledger = made.ledger;
     let step = Step { ledger, next };
-    Answered {
+    CommandOutcome {
         step,
         count: made.count,
     }
 }
 
-fn run_load(text: &[u8], cursor: Cursor, ledger: Ledger, buffer: &mut [u8]) -> Answered
+fn run_load(text: &[u8], cursor: Cursor, ledger: Ledger, buffer: &mut [u8]) -> CommandOutcome
     requires { ⌜ cursor .at ≤ length (now text) ⌝ }
     ensures { λ r. ⌜ CommandMade r (stepOf Load (now (text .entry)) cursor ledger) (answerOf Load (now (text .entry)) cursor ledger) (now (buffer .entry)) (now (buffer .exit)) ⌝ }
 {
-    let mut present = [0u64; 320];
-    let mut charges = [0i64; 320];
-    let mut balances = [0i64; 40];
+    let mut present = [0u64; PLACES];
+    let mut charges = [0i64; PLACES];
+    let mut balances = [0i64; MOST_DISTRIBUTORS];
     let read = read_load(text, cursor, &mut present, &mut charges, &mut balances);
     let next = read.next;
     if next.broken {
@@ -159,23 +169,26 @@ fn run_load(text: &[u8], cursor: Cursor, ledger: Ledger, buffer: &mut [u8]) -> A
     let places = read.present;
     let charged = read.charges;
     let balanced = read.balances;
+    let numbers = LedgerNumbers {
+        n: read.n,
+        months: read.months,
+        last: read.last,
+        fixed: read.fixed,
+        month: read.month,
+    };
     let ledger = load(
-        read.n,
-        read.months,
-        read.last,
-        read.fixed,
-        read.month,
+        numbers,
         &present[..places],
         &charges[..charged],
         &balances[..balanced],
     );
     let count = write_loading(buffer, 0);
     let step = Step { ledger, next };
-    Answered { step, count }
+    CommandOutcome { step, count }
 }
 
 // One command, from its word on, and its answer as the first bytes of the buffer.
-fn run_command(text: &[u8], at: usize, ledger: Ledger, buffer: &mut [u8]) -> Answered
+fn run_command(text: &[u8], at: usize, ledger: Ledger, buffer: &mut [u8]) -> CommandOutcome
     requires { ⌜ at ≤ length (now text) ⌝ ∗ ⌜ length (now buffer) ≡ longestAnswer ⌝ }
     ensures { λ r. ⌜ CommandAnswered r (stepAfter (now (text .entry)) at ledger) (answerAfter (now (text .entry)) at ledger) (now (buffer .exit)) ⌝ }
 {
@@ -189,7 +202,7 @@ fn run_command(text: &[u8], at: usize, ledger: Ledger, buffer: &mut [u8]) -> Ans
         Command::Save => {
             let count = write_saving(buffer, 0, ledger);
             let step = Step { ledger, next };
-            Answered { step, count }
+            CommandOutcome { step, count }
         }
         Command::Load => run_load(text, next, ledger, buffer),
         Command::Unknown => unanswered(ledger, next),

@@ -12,7 +12,7 @@ use Rattle.numbers.specs.Units.{between}
 use Rattle.numbers.specs.Sizes.{mostDistributors, sectorCount, sectorPlaces}
 use Rattle.numbers.proofs.BoolLaws.{and-left, and-right, and-three, and-five, and-both, or-else, or-of, not-of}
 use Rattle.numbers.proofs.TestLaws.{all-at, all-of}
-use Rattle.numbers.proofs.SignedLaws.{zero-size}
+use Rattle.numbers.proofs.SignedLaws.{within-none}
 use Rattle.numbers.proofs.UnitLaws.{between-low, between-high, between-yes}
 use Rattle.series.specs.Series.{lastMonth}
 use Rattle.fixing.specs.declared.sector.SectorCharges.{SectorCharges}
@@ -35,8 +35,7 @@ module _ (b : Bool) (most : ℕ) (z : ℤ) where
   within-most h = omega (arith, leb-true (natAbs z) (cond b most 0) h, pick-most b most)
 
   pub within-zero : b ≡ false → withinSize (cond b most 0) z ≡ true → z ≡ pos 0
-  unfolding withinSize
-  within-zero e h = zero-size z (omega (arith, leb-true (natAbs z) 0 (rw e at h)))
+  within-zero e h = within-none z (rw e at h)
 
   pub within-of : natAbs z ≤ most → (b ≡ false → z ≡ pos 0) → withinSize (cond b most 0) z ≡ true
   unfolding withinSize

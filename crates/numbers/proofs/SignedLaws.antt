@@ -75,6 +75,10 @@ pub zero-size : (z : ℤ) → natAbs z ≡ 0 → z ≡ pos 0
 zero-size (pos n) h = ap pos h
 zero-size (negsuc n) h = absurd (omega arith)
 
+pub within-none : (z : ℤ) → withinSize 0 z ≡ true → z ≡ pos 0
+unfolding withinSize
+within-none z h = zero-size z (omega (arith, leb-true (natAbs z) 0 h))
+
 pub size-add : (y z : ℤ) → natAbs (y +ℤ z) ≤ natAbs y + natAbs z
 size-add (pos a) (pos b) = omega arith
 size-add (pos a) (negsuc b) = sub-cases (λ z. natAbs z ≤ a + suc b) a (suc b) (λ h. omega arith) (λ h. omega arith)

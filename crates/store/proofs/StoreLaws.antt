@@ -13,14 +13,16 @@ use borrow.Author.Tests.{le-ltb, leb-true}
 use Rattle.numbers.specs.Bounded.{allBelow, filledBelow}
 use Rattle.numbers.specs.Units.{noMoney}
 use Rattle.numbers.specs.declared.units.Pesos.{Pesos}
-use Rattle.numbers.proofs.BoolLaws.{and-left, and-right}
+use Rattle.numbers.proofs.BoolLaws.{and-left, and-right, or-else}
+use Rattle.numbers.specs.Signed.{withinSize}
+use Rattle.numbers.proofs.SignedLaws.{within-none}
 use Rattle.numbers.proofs.TestLaws.{all-at}
 use Rattle.numbers.proofs.ListLaws.{list-length, list-at, filled-length, filled-at, filled-past, Front, front}
 use Rattle.numbers.specs.Sizes.{mostDistributors, sectorCount, sectorPlaces}
 use Rattle.settlement.specs.Month.{moneyAt, moneyBelow}
-use Rattle.ledger.specs.Sound.{presentIn, chargeIn, isZero}
+use Rattle.ledger.specs.Sound.{presentIn, chargeIn}
 use Rattle.ledger.specs.declared.ledger.Ledger.{Ledger}
-use Rattle.ledger.proofs.SoundFacts.{or-else, zero-is}
+use Rattle.store.specs.declared.load.LedgerNumbers.{LedgerNumbers}
 use Rattle.store.specs.Store.{truthWord, wordTruth, withinOrEmpty, placeKept, withinOrZero, balanceKept, keptCount, presentWords, chargeWords, balanceWords, Saved, loadedForce, loadedBalances, loadedLedger}
 
 -- a list is as long as its image
@@ -48,6 +50,17 @@ record Kept (ledger : Ledger) : Type 0 where
   few : ledger .n ≤ mostDistributors
   places : (k : ℕ) → k < sectorPlaces → placeKept (ledger .n) (ledger .force) k ≡ true
   balances : (i : ℕ) → i < mostDistributors → balanceKept (ledger .n) (ledger .balances) i ≡ true
+
+-- a ledger's numbers, as they are kept
+abbrev pub numbersOf : Ledger → LedgerNumbers
+numbersOf ledger =
+    record {
+      n = ledger .n;
+      months = ledger .months;
+      last = ledger .last;
+      fixed = truthWord (ledger .fixed);
+      month = ledger .month;
+    }
 
 module _ (ledger : Ledger) where
   abbrev emptyPast : Bool
@@ -82,7 +95,7 @@ module _ (ledger : Ledger) where
   unfolding keptCount
   fewer p = fewer-by emptyPast refl p
 
-  empty-place : (k : ℕ) → keptCount ledger * sectorCount ≤ k → k < sectorPlaces → (not (presentIn (ledger .force) k) && isZero (chargeIn (ledger .force) k)) ≡ true
+  empty-place : (k : ℕ) → keptCount ledger * sectorCount ≤ k → k < sectorPlaces → (not (presentIn (ledger .force) k) && withinSize 0 (chargeIn (ledger .force) k)) ≡ true
   unfolding placeKept withinOrEmpty
   empty-place k p q =
       let f = fewer (omega arith) in
@@ -96,13 +109,13 @@ module _ (ledger : Ledger) where
   absent-past k p q = not-present _ (and-left (not (presentIn (ledger .force) k)) _ (empty-place k p q))
 
   pub uncharged-past : (k : ℕ) → keptCount ledger * sectorCount ≤ k → k < sectorPlaces → chargeIn (ledger .force) k ≡ pos 0
-  uncharged-past k p q = zero-is _ (and-right (not (presentIn (ledger .force) k)) _ (empty-place k p q))
+  uncharged-past k p q = within-none _ (and-right (not (presentIn (ledger .force) k)) _ (empty-place k p q))
 
   pub balanced-past : (i : ℕ) → keptCount ledger ≤ i → i < mostDistributors → moneyAt (ledger .balances) i ≡ pos 0
   unfolding balanceKept withinOrZero
   balanced-past i p q =
       let f = fewer (omega arith) in
-      zero-is _ (or-else (ltb i (ledger .n)) _ (f .1 .balances i q) (le-ltb i (ledger .n) (omega (arith, f .0))))
+      within-none _ (or-else (ltb i (ledger .n)) _ (f .1 .balances i q) (le-ltb i (ledger .n) (omega (arith, f .0))))
 
   abbrev places : ℕ
   places = keptCount ledger * sectorCount
@@ -136,7 +149,7 @@ module _ (ledger : Ledger) where
       money z = record { 0 = z }
 
   -- "what `save` prints, `load` takes back as the same ledger"
-  pub loaded-back : length (ledger .force .present) ≡ sectorPlaces → length (ledger .force .charges) ≡ sectorPlaces → length (ledger .balances) ≡ mostDistributors → loadedLedger (ledger .n) (ledger .months) (ledger .last) (truthWord (ledger .fixed)) (ledger .month) (presentWords (ledger .force) places) (chargeWords (ledger .force) places) (balanceWords (ledger .balances) (keptCount ledger)) ≡ ledger
+  pub loaded-back : length (ledger .force .present) ≡ sectorPlaces → length (ledger .force .charges) ≡ sectorPlaces → length (ledger .balances) ≡ mostDistributors → loadedLedger (numbersOf ledger) (presentWords (ledger .force) places) (chargeWords (ledger .force) places) (balanceWords (ledger .balances) (keptCount ledger)) ≡ ledger
   unfolding loadedLedger loadedForce
   loaded-back p q r = rw (truth-back (ledger .fixed), present-back p, charges-back q, balances-back r)
 
@@ -158,6 +171,6 @@ module _ (ledger : Ledger) (count : ℕ) (present₀ present : List ℕ) (charge
   balances-first = front count _ _ balances (list-length _ count) (s .balanced)
 
   -- and is loaded as the ledger that was saved
-  pub saved-back : length (ledger .force .present) ≡ sectorPlaces → length (ledger .force .charges) ≡ sectorPlaces → length (ledger .balances) ≡ mostDistributors → loadedLedger (ledger .n) (ledger .months) (ledger .last) (truthWord (ledger .fixed)) (ledger .month) (take (count * sectorCount) present) (take (count * sectorCount) charges) (take count balances) ≡ ledger
+  pub saved-back : length (ledger .force .present) ≡ sectorPlaces → length (ledger .force .charges) ≡ sectorPlaces → length (ledger .balances) ≡ mostDistributors → loadedLedger (numbersOf ledger) (take (count * sectorCount) present) (take (count * sectorCount) charges) (take count balances) ≡ ledger
   saved-back p q r =
       rw (present-first .first, charges-first .first, balances-first .first, s .counted) (loaded-back ledger p q r)

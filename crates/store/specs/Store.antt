@@ -8,11 +8,13 @@ use lib.ListN.{length, getD, drop}
 use lib.IntN.{ℤ, pos}
 use Rattle.numbers.specs.Bounded.{allBelow, listBelow, filledBelow}
 use Rattle.numbers.specs.declared.units.Pesos.{Pesos}
+use Rattle.numbers.specs.Signed.{withinSize}
 use Rattle.numbers.specs.Sizes.{mostDistributors, sectorCount, sectorPlaces}
 use Rattle.fixing.specs.declared.sector.SectorCharges.{SectorCharges}
 use Rattle.settlement.specs.Month.{moneyAt, moneyBelow}
-use Rattle.ledger.specs.Sound.{presentIn, chargeIn, isZero}
+use Rattle.ledger.specs.Sound.{presentIn, chargeIn}
 use Rattle.ledger.specs.declared.ledger.Ledger.{Ledger}
+use Rattle.store.specs.declared.load.LedgerNumbers.{LedgerNumbers}
 
 -- "FIXED and the words of `present` are 0 or 1"
 abbrev pub truthWord : Bool → ℕ
@@ -24,14 +26,14 @@ wordTruth word = not (eqb word 0)
 
 -- whether a sector's place is one of n distributors', or empty
 unfoldable pub withinOrEmpty : ℕ → Bool → ℤ → ℕ → Bool
-withinOrEmpty n present charge k = ltb k (n * sectorCount) || (not present && isZero charge)
+withinOrEmpty n present charge k = ltb k (n * sectorCount) || (not present && withinSize 0 charge)
 
 unfoldable pub placeKept : ℕ → SectorCharges → ℕ → Bool
 placeKept n force k = withinOrEmpty n (presentIn force k) (chargeIn force k) k
 
 -- whether a balance is one of n distributors', or zero
 unfoldable pub withinOrZero : ℕ → ℤ → ℕ → Bool
-withinOrZero n balance i = ltb i n || isZero balance
+withinOrZero n balance i = ltb i n || withinSize 0 balance
 
 unfoldable pub balanceKept : ℕ → List Pesos → ℕ → Bool
 balanceKept n balances i = withinOrZero n (moneyAt balances i) i
@@ -74,14 +76,14 @@ loadedForce present charges =
 unfoldable pub loadedBalances : List ℤ → List Pesos
 loadedBalances balances = moneyBelow (length balances) (λ i. getD balances i (pos 0))
 
-unfoldable pub loadedLedger : ℕ → ℕ → ℕ → ℕ → ℕ → List ℕ → List ℤ → List ℤ → Ledger
-loadedLedger n months last fixed month present charges balances =
+unfoldable pub loadedLedger : LedgerNumbers → List ℕ → List ℤ → List ℤ → Ledger
+loadedLedger numbers present charges balances =
     record {
-      n = n;
-      months = months;
-      last = last;
-      fixed = wordTruth fixed;
-      month = month;
+      n = numbers .n;
+      months = numbers .months;
+      last = numbers .last;
+      fixed = wordTruth (numbers .fixed);
+      month = numbers .month;
       force = loadedForce present charges;
       balances = loadedBalances balances;
     }

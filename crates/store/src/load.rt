@@ -11,7 +11,19 @@ use crate::save::save;
 use crate::save::truth_word;
 use fixing::sector::SectorCharges;
 use ledger::ledger::Ledger;
+use numbers::sizes::MOST_DISTRIBUTORS;
+use numbers::sizes::PLACES;
+use numbers::sizes::SECTORS;
 use numbers::units::Pesos;
+
+// A ledger's numbers, as they are kept.
+pub struct LedgerNumbers {
+    pub n: usize,
+    pub months: u64,
+    pub last: u64,
+    pub fixed: u64,
+    pub month: u64,
+}
 
 // A word as a truth: any but 0.
 fn word_truth(word: u64) -> bool
@@ -21,11 +33,11 @@ fn word_truth(word: u64) -> bool
 }
 
 // The presences; places that are not given are empty.
-fn load_present(words: &[u64]) -> [bool; 320]
+fn load_present(words: &[u64]) -> [bool; PLACES]
     requires { ⌜ length (now words) ≤ sectorPlaces ⌝ }
     ensures { λ r. ⌜ r ≡ filledBelow sectorPlaces false (length (now (words .entry))) (λ k. wordTruth (getD (now (words .entry)) k 0)) ⌝ }
 {
-    let mut present = [false; 320];
+    let mut present = [false; PLACES];
     let mut k: usize = 0;
     while k < words.len() {
         present[k] = word_truth(words[k]);
@@ -35,11 +47,11 @@ fn load_present(words: &[u64]) -> [bool; 320]
 }
 
 // The charges.
-fn load_charges(words: &[i64]) -> [i64; 320]
+fn load_charges(words: &[i64]) -> [i64; PLACES]
     requires { ⌜ length (now words) ≤ sectorPlaces ⌝ }
     ensures { λ r. ⌜ r ≡ filledBelow sectorPlaces (pos 0) (length (now (words .entry))) (λ k. getD (now (words .entry)) k (pos 0)) ⌝ }
 {
-    let mut charges = [0i64; 320];
+    let mut charges = [0i64; PLACES];
     let mut k: usize = 0;
     while k < words.len() {
         charges[k] = words[k];
@@ -49,12 +61,12 @@ fn load_charges(words: &[i64]) -> [i64; 320]
 }
 
 // The balances.
-fn load_balances(words: &[i64]) -> [Pesos; 40]
+fn load_balances(words: &[i64]) -> [Pesos; MOST_DISTRIBUTORS]
     requires { ⌜ length (now words) ≤ mostDistributors ⌝ }
     ensures { λ r. ⌜ r ≡ loadedBalances (now (words .entry)) ⌝ }
 {
     let none = Pesos(0);
-    let mut balances = [none; 40];
+    let mut balances = [none; MOST_DISTRIBUTORS];
     let mut i: usize = 0;
     while i < words.len() {
         balances[i] = Pesos(words[i]);
@@ -65,28 +77,24 @@ fn load_balances(words: &[i64]) -> [Pesos; 40]
 
 // The ledger of the words.
 pub fn load(
-    n: usize,
-    months: u64,
-    last: u64,
-    fixed: u64,
-    month: u64,
+    numbers: LedgerNumbers,
     present: &[u64],
     charges: &[i64],
     balances: &[i64],
 ) -> Ledger
     requires { ⌜ length (now present) ≤ sectorPlaces ⌝ ∗ ⌜ length (now charges) ≤ sectorPlaces ⌝ ∗ ⌜ length (now balances) ≤ mostDistributors ⌝ }
-    ensures { λ r. ⌜ r ≡ loadedLedger n months last fixed month (now (present .entry)) (now (charges .entry)) (now (balances .entry)) ⌝ }
+    ensures { λ r. ⌜ r ≡ loadedLedger numbers (now (present .entry)) (now (charges .entry)) (now (balances .entry)) ⌝ }
 {
     let present = load_present(present);
     let charges = load_charges(charges);
     let force = SectorCharges { present, charges };
     let balances = load_balances(balances);
     Ledger {
-        n,
-        months,
-        last,
-        fixed: word_truth(fixed),
-        month,
+        n: numbers.n,
+        months: numbers.months,
+        last: numbers.last,
+        fixed: word_truth(numbers.fixed),
+        month: numbers.month,
         force,
         balances,
     }
@@ -103,14 +111,16 @@ pub fn reload(
     ensures { λ r. ⌜ r ≡ ledger ⌝ }
 {
     let count = save(ledger, present, charges, balances);
-    let places = count * 8;
-    let fixed = truth_word(ledger.fixed);
+    let places = count * SECTORS;
+    let numbers = LedgerNumbers {
+        n: ledger.n,
+        months: ledger.months,
+        last: ledger.last,
+        fixed: truth_word(ledger.fixed),
+        month: ledger.month,
+    };
     load(
-        ledger.n,
-        ledger.months,
-        ledger.last,
-        fixed,
-        ledger.month,
+        numbers,
         &present[..places],
         &charges[..places],
         &balances[..count],

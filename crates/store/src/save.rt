@@ -7,6 +7,8 @@ ghost use Rattle.numbers.specs.Sizes.{mostDistributors, sectorPlaces};
 ghost use Rattle.store.specs.Store.{truthWord, withinOrEmpty, placeKept, withinOrZero, balanceKept, keptCount, presentWords, chargeWords, balanceWords, Saved};
 use fixing::sector::SectorCharges;
 use ledger::ledger::Ledger;
+use numbers::signed::within_size;
+use numbers::sizes::MOST_DISTRIBUTORS;
 use numbers::sizes::PLACES;
 use numbers::sizes::SECTORS;
 use numbers::units::Pesos;
@@ -20,22 +22,22 @@ pub fn truth_word(truth: bool) -> u64
 
 // Whether a sector's place is one of n distributors', or empty.
 fn place_kept(n: usize, present: bool, charge: i64, k: usize) -> bool
-    requires { ⌜ n ≤ 40 ⌝ }
+    requires { ⌜ n ≤ mostDistributors ⌝ }
     ensures { λ r. ⌜ r ≡ withinOrEmpty n present charge k ⌝ }
 {
-    k < n * SECTORS || (!present && charge == 0)
+    (k < n * SECTORS) | (!present & within_size(charge, 0))
 }
 
 // Whether a balance is one of n distributors', or zero.
 fn balance_kept(n: usize, balance: Pesos, i: usize) -> bool
     ensures { λ r. ⌜ r ≡ withinOrZero n (balance .0) i ⌝ }
 {
-    i < n || balance.0 == 0
+    (i < n) | within_size(balance.0, 0)
 }
 
 // Whether the sector places past n distributors are empty.
 fn places_kept(n: usize, force: SectorCharges) -> bool
-    requires { ⌜ n ≤ 40 ⌝ }
+    requires { ⌜ n ≤ mostDistributors ⌝ }
     ensures { λ r. ⌜ r ≡ allBelow sectorPlaces (placeKept n force) ⌝ }
 {
     let mut k: usize = 0;
@@ -51,11 +53,11 @@ fn places_kept(n: usize, force: SectorCharges) -> bool
 }
 
 // Whether the balances past n distributors are zero.
-fn balances_kept(n: usize, balances: [Pesos; 40]) -> bool
+fn balances_kept(n: usize, balances: [Pesos; MOST_DISTRIBUTORS]) -> bool
     ensures { λ r. ⌜ r ≡ allBelow mostDistributors (balanceKept n balances) ⌝ }
 {
     let mut i: usize = 0;
-    while i < 40 {
+    while i < MOST_DISTRIBUTORS {
         let balance = balances[i];
         if !balance_kept(n, balance, i) {
             return false;
@@ -70,16 +72,16 @@ fn kept_count(ledger: Ledger) -> usize
     ensures { λ r. ⌜ r ≡ keptCount ledger ⌝ }
 {
     let n = ledger.n;
-    if n > 40 {
-        return 40;
+    if n > MOST_DISTRIBUTORS {
+        return MOST_DISTRIBUTORS;
     }
     let force = ledger.force;
     if !places_kept(n, force) {
-        return 40;
+        return MOST_DISTRIBUTORS;
     }
     let balances = ledger.balances;
     if !balances_kept(n, balances) {
-        return 40;
+        return MOST_DISTRIBUTORS;
     }
     n
 }
@@ -111,7 +113,7 @@ fn save_charges(force: SectorCharges, into: &mut [i64])
 }
 
 // The balances as words.
-fn save_balances(balances: [Pesos; 40], into: &mut [i64])
+fn save_balances(balances: [Pesos; MOST_DISTRIBUTORS], into: &mut [i64])
     requires { ⌜ length (now into) ≤ mostDistributors ⌝ }
     ensures { λ r. ⌜ now (into .exit) ≡ balanceWords balances (length (now (into .entry))) ⌝ }
 {

@@ -15,7 +15,7 @@ returns c =
     let x = w .before .before .before .before in
     let y = x .before .before .before .before in
     let n = y .before .before .before in
-    rw (← n .number .ensures, eq-eqb _ 0 (t .if1 .taken))
+    rw (← n .fixing-number .ensures, eq-eqb _ 0 (t .if1 .taken))
     (written-after _ _ _ _ _ (after-byte _ _ _ _ _ (written-after _ _ _ _ _ (y .write-outcome .ensures) (x .write-detail .ensures)) (w .write-byte .ensures)) (v .write-price-rows .ensures))
 
 returns-2 : tie.Need-returns-2
@@ -27,7 +27,7 @@ returns-2 c =
     let x = w .before .before .before .before in
     let y = x .before .before .before .before in
     let n = y .before .before .before in
-    rw (← n .number .ensures, ne-eqb _ 0 (t .if1 .left))
+    rw (← n .fixing-number .ensures, ne-eqb _ 0 (t .if1 .left))
     (written-after _ _ _ _ _ (after-byte _ _ _ _ _ (written-after _ _ _ _ _ (y .write-outcome .ensures) (x .write-detail .ensures)) (w .write-byte .ensures)) (v .write-changed .ensures))
 
 pub write-fixing-spec : {M : Type 1} → statement M

@@ -6,7 +6,7 @@ use lib.ListN.{length}
 use Rattle.journal.specs.declared.command.Command.the-variants.{Open, Fix, Settle, Save, Load, Unknown, End}
 use Rattle.journal.specs.declared.command.Command.{Command}
 use Rattle.commands.specs.Replay.{stepOf, answerOf, stepAfter, answerAfter, CommandMade, CommandAnswered}
-use Rattle.commands.specs.declared.run.Answered.{Answered}
+use Rattle.commands.specs.declared.run.CommandOutcome.{CommandOutcome}
 use Rattle.commands.proofs.AnswerLaws.{command-made, nothing-made, save-whole, answer-read}
 use Rattle.commands.proofs.ReplayLaws.{read-within}
 use borrow.Author.Needs.{needs}
@@ -21,7 +21,7 @@ module _ (d : tie.After-next-command) where
   within : d .next-command .result .next .at ≤ length (s .args .text .now)
   within = read-within (s .args .text .now) (s .args .at) (s .args .ledger) (d .next-command .result) (d .next-command .ensures) (s .pre .0)
 
-  told : (command : Command) → d .next-command .result .command ≡ command → (made : Answered) (left : List ℕ) → CommandMade made (stepOf command (s .args .text .now) (d .next-command .result .next) (s .args .ledger)) (answerOf command (s .args .text .now) (d .next-command .result .next) (s .args .ledger)) (s .args .buffer .now) left → CommandAnswered made (stepAfter (s .args .text .now) (s .args .at) (s .args .ledger)) (answerAfter (s .args .text .now) (s .args .at) (s .args .ledger)) left
+  told : (command : Command) → d .next-command .result .command ≡ command → (made : CommandOutcome) (left : List ℕ) → CommandMade made (stepOf command (s .args .text .now) (d .next-command .result .next) (s .args .ledger)) (answerOf command (s .args .text .now) (d .next-command .result .next) (s .args .ledger)) (s .args .buffer .now) left → CommandAnswered made (stepAfter (s .args .text .now) (s .args .at) (s .args .ledger)) (answerAfter (s .args .text .now) (s .args .at) (s .args .ledger)) left
   told command h made left m =
       answer-read (s .args .text .now) (s .args .at) (s .args .ledger) (d .next-command .result) (d .next-command .ensures) command h made (s .args .buffer .now) left (s .pre .1) m
 

@@ -75,8 +75,8 @@ returns c =
     let d = c .before .before .before .before .before .before .before .before .before in
     let s = d .before .before .before .before .before in
     c .load .ensures
-    ∙ ap (λ w. loadedLedger (ledger d .n) (ledger d .months) (ledger d .last) w (ledger d .month) (take (d .save .result * 8) (d .save .last .1 .0)) (take (d .save .result * 8) (d .save .last .1 .1 .0)) (take (d .save .result) (d .save .last .1 .1 .1 .0))) (c .before .before .before .before .truth-word .ensures)
-    ∙ saved-back _ _ _ _ _ _ _ _ (d .save .ensures) (all-present s) (all-charges s) (all-balances s)
+    ∙ rw (c .before .before .before .before .truth-word .ensures)
+    (saved-back _ _ _ _ _ _ _ _ (d .save .ensures) (all-present s) (all-charges s) (all-balances s))
 
 pub reload-spec : {M : Type 1} → statement M
 reload-spec =
