@@ -6,12 +6,12 @@ use ledger::fix::fix;
 use ledger::open::open;
 use libc::STDOUT_FILENO;
 use numbers::units::PesoPrice;
-use numbers::units::Pesos;
+use numbers::units::UnsignedPesos;
+use supply::market::FixingNumbers;
 use text::number::write_decimal;
 use text::number::write_named;
 use text::number::write_signed_word;
 use text::write::write_byte;
-use text::write::write_text;
 
 // Three lines of no terms: distributor, base price, offer and purchase factor, energy, then 21 zeros.
 fn lines() -> [u64; 78] {
@@ -51,13 +51,12 @@ fn print(line: &[u8], count: usize) {
 }
 
 // The first line: the four numbers of the fixing.
-fn print_fixing(limit: PesoPrice, surcharge: PesoPrice, rounds: u64, residue: Pesos) {
+fn print_fixing(limit: PesoPrice, surcharge: PesoPrice, rounds: u64, residue: UnsignedPesos) {
     let mut line = io::buffer();
     let end = write_named(&mut line, 0, b"limit", limit.0);
     let end = write_named(&mut line, end, b" surcharge", surcharge.0);
     let end = write_named(&mut line, end, b" rounds", rounds);
-    let end = write_text(&mut line, end, b" residue");
-    let end = write_signed_word(&mut line, end, residue.0);
+    let end = write_named(&mut line, end, b" residue", residue.0);
     let end = write_byte(&mut line, end, b'\n');
     print(&line, end);
 }
@@ -80,17 +79,13 @@ fn main() {
     let lines = lines();
     let sectors = sectors();
     let mut prices = [0i64; 9];
-    let outcome = fix(
-        ledger,
-        0,
-        100000,
-        10000,
-        0,
-        &series,
-        &lines,
-        &sectors,
-        &mut prices,
-    );
+    let numbers = FixingNumbers {
+        month: 0,
+        dollar: 100000,
+        reference_factor: 10000,
+        first_month: 0,
+    };
+    let outcome = fix(ledger, numbers, &series, &lines, &sectors, &mut prices);
     let answer = outcome.answer;
     if let FixingAnswer::Accepted {
         limit,

@@ -9,9 +9,11 @@ use Rattle.numbers.specs.Bounded.{listBelow}
 use Rattle.numbers.specs.Refusal.{Answered, verdictAnswered}
 use Rattle.numbers.specs.declared.units.Pesos.{Pesos}
 use Rattle.series.specs.Series.{seriesTable, meanOf, termMonth}
-use Rattle.supply.specs.Price.{lineIndexed}
+use Rattle.supply.specs.Line.{lineOf}
+use Rattle.supply.specs.Price.{termMean, lineIndexed}
+use Rattle.supply.specs.declared.market.FixingNumbers.{FixingNumbers}
 use Rattle.fixing.specs.Limit.{Distributors, limit, rounds, charge}
-use Rattle.fixing.specs.Charge.{sectorCharge}
+use Rattle.fixing.specs.Sector.{sectorCharge}
 use Rattle.settlement.specs.Amount.{collectedAmount}
 use Rattle.settlement.specs.Settlement.{transfer}
 use Rattle.settlement.specs.Month.{moneyAt}
@@ -34,6 +36,10 @@ rowOf value = value ∷ replicate 47 0
 
 unfoldable pub lentWords : ℕ → ℕ → List ℕ
 lentWords coal cpi = rowOf 0 ++ (rowOf coal ++ (rowOf 0 ++ (rowOf cpi ++ rowOf 0)))
+
+-- example 3's month is 10, and the table's first month 9
+unfoldable pub indexedNumbers : FixingNumbers
+indexedNumbers = record { month = 10; dollar = 100000; «reference_factor» = 10000; «first_month» = 9 }
 
 -- example 3's line: coal over 610,160 with weight 6,000, CPI over 10,000 with weight 4,000, each of one month
 unfoldable pub indexedLine : List ℕ
@@ -82,7 +88,8 @@ classExamples =
     }
     ∷ record {
       number = 3;
-      computed = whole (lineIndexed (seriesTable (lentWords 762700 10000)) 9 10 indexedLine 0 ∷ []);
+      computed =
+          whole (lineIndexed (termMean (seriesTable (lentWords 762700 10000)) indexedNumbers) (lineOf indexedLine 0) ∷ []);
       printed = whole (92000 ∷ []);
     }
     ∷ record {
