@@ -3,12 +3,15 @@ use mathlib.Core.Path.{_≡_, refl}
 use mathlib.Core.List.{[], _∷_}
 use Rattle.numbers.specs.Refusal.{refusalAnswered}
 use Rattle.numbers.specs.declared.refusal.Refusal.{Refusal}
-use Rattle.numbers.specs.declared.refusal.Refusal.the-variants.{WrongCount, Unsound, WrongLength, OutOfTurn, NoFixing, OutOfRange, ValueTooLarge, WrongSector, NoLine, MonthMissing, OutOfBounds, WrongReading, PositionBeyond}
+use Rattle.numbers.specs.declared.refusal.Refusal.the-variants.{WrongCount, Unsound, WrongLength, OutOfTurn, NoFixing}
+use Rattle.numbers.specs.declared.refusal.Refusal.the-variants.{OutOfRange, ValueTooLarge, WrongSector, NoLine}
+use Rattle.numbers.specs.declared.refusal.Refusal.the-variants.{MonthMissing, OutOfBounds, WrongReading, PositionBeyond}
 use Rattle.numbers.proofs.refusal.Refusal as refusals
 use types.Run.{OneOf, miss}
 use denote.Enum.Declared.{tagOf}
 
-pub place-none : (r : Refusal) → OneOf (0 ∷ 1 ∷ 2 ∷ 3 ∷ 4 ∷ 5 ∷ 6 ∷ 7 ∷ 8 ∷ 11 ∷ 12 ∷ []) (tagOf refusals.the-type r) → refusalAnswered r .values ≡ []
+pub place-none : (r : Refusal) → OneOf (0 ∷ 1 ∷ 2 ∷ 3 ∷ 4 ∷ 5 ∷ 6 ∷ 7 ∷ 8 ∷ 11 ∷ 12 ∷ []) (tagOf refusals.the-type r) →
+    refusalAnswered r .values ≡ []
 place-none WrongCount h = refl
 place-none Unsound h = refl
 place-none WrongLength h = refl

@@ -21,12 +21,16 @@ use Rattle.store.proofs.StoreLaws.{kept-most}
 use Rattle.journal.specs.Command.{openName, fixName, settleName, loadName, presentName, chargesName, balancesName}
 use Rattle.text.specs.Text.{bytes, lineEnd, word, signedWord, named, textBelow}
 use Rattle.text.proofs.SizeLaws.{choice-size, decimal-size, word-size, signed-word-size, named-size, texts-size}
-use Rattle.answers.specs.Answer.{outcome, outcomeLine, openingText, loadingText, errorText, fixedText, placeText, detailText, allUnwritten, changedText, priceRow, priceRows, fixingText, transferRow, transferRows, settlementText, listText, signedListText, numbersText, savingText}
+use Rattle.answers.specs.Answer.{outcome, outcomeLine, openingText, loadingText, errorText, fixedText, placeText}
+use Rattle.answers.specs.Answer.{detailText, allUnwritten, changedText, priceRow, priceRows, fixingText}
+use Rattle.answers.specs.Answer.{transferRow, transferRows, settlementText, listText, signedListText, numbersText}
+use Rattle.answers.specs.Answer.{savingText}
 
 outcome-size : (command : List ℕ) (number : ℕ) → length (outcome command number) ≤ length command + 29
 unfolding outcome
 outcome-size command number =
-    choice-size (eqb number 0) (command ++ bytes " accepted") (command ++ named (bytes " refused") number) (length command + 29)
+    choice-size (eqb number 0) (command ++ bytes " accepted") (command ++ named (bytes " refused") number)
+    (length command + 29)
     (rw length-append (omega arith))
     (rw length-append (omega (arith, named-size (bytes " refused") number)))
 
@@ -50,7 +54,8 @@ place-size : (values : List ℕ) → length (placeText values) ≤ 116
 unfolding placeText
 place-size [] = omega arith
 place-size (line ∷ []) = omega (arith, named-size (bytes " line") line)
-place-size (line ∷ term ∷ more) = rw length-append (omega (arith, named-size (bytes " line") line, named-size (bytes " term") term))
+place-size (line ∷ term ∷ more) =
+    rw length-append (omega (arith, named-size (bytes " line") line, named-size (bytes " term") term))
 
 detail-size : (answer : FixingAnswer) → length (detailText answer) ≤ 116
 unfolding detailText fixedText
@@ -73,49 +78,81 @@ price-row-size : (prices : List ℤ) (i : ℕ) → length (priceRow prices i) �
 unfolding priceRow
 price-row-size prices i =
     rw (length-append, length-append, length-append, length-append)
-    (omega (arith, decimal-size i, signed-word-size (getD prices (i * 3) (pos 0)), signed-word-size (getD prices (i * 3 + 1) (pos 0)), signed-word-size (getD prices (i * 3 + 2) (pos 0))))
+    (omega (
+      arith,
+      decimal-size i,
+      signed-word-size (getD prices (i * 3) (pos 0)),
+      signed-word-size
+          (getD prices (i * 3 + 1) (pos 0)),
+      signed-word-size (getD prices (i * 3 + 2) (pos 0)),
+    ))
 
-pub fixing-size : (answer : FixingAnswer) (prices : List ℤ) → length prices ≤ 8192 → length (fixingText answer prices) ≤ 262144
+pub fixing-size : (answer : FixingAnswer) (prices : List ℤ) → length prices ≤ 8192 →
+    length (fixingText answer prices) ≤ 262144
 unfolding fixingText priceRows
 fixing-size answer prices few =
     let rows : length (textBelow (length prices / 3) (priceRow prices)) ≤ 237510 =
     omega (arith, texts-size (length prices / 3) 87 (priceRow prices) (price-row-size prices)) in
-    let under = choice-size (eqb (fixingAnswered answer .number) 0) (textBelow (length prices / 3) (priceRow prices)) (changedText prices) 237510 rows (omega (arith, changed-size prices)) in
-    rw (length-append, length-append, length-append) (omega (arith, under, outcome-size fixName (fixingAnswered answer .number), detail-size answer))
+    let under = choice-size (eqb (fixingAnswered answer .number) 0) (textBelow (length prices / 3) (priceRow prices))
+    (changedText prices) 237510 rows (omega (arith, changed-size prices)) in
+    rw (length-append, length-append, length-append)
+    (omega (arith, under, outcome-size fixName (fixingAnswered answer .number), detail-size answer))
 
-transfer-row-size : (transfers : List ℤ) (balances : List Pesos) (i : ℕ) → length (transferRow transfers balances i) ≤ 65
+transfer-row-size : (transfers : List ℤ) (balances : List Pesos) (i : ℕ) →
+    length (transferRow transfers balances i) ≤ 65
 unfolding transferRow
 transfer-row-size transfers balances i =
     rw (length-append, length-append, length-append)
     (omega (arith, decimal-size i, signed-word-size (getD transfers i (pos 0)), signed-word-size (moneyAt balances i)))
 
-pub settlement-size : (verdict : Verdict) (transfers : List ℤ) (balances : List Pesos) → length (settlementText verdict transfers balances) ≤ 262144
+pub settlement-size : (verdict : Verdict) (transfers : List ℤ) (balances : List Pesos) →
+    length (settlementText verdict transfers balances) ≤ 262144
 unfolding settlementText transferRows
 settlement-size verdict transfers balances =
     let count = min (length transfers) mostDistributors in
     let few : count ≤ 40 = omega arith in
     let rows : length (textBelow count (transferRow transfers balances)) ≤ 2600 =
     omega (arith, texts-size count 65 (transferRow transfers balances) (transfer-row-size transfers balances), few) in
-    let under = choice-size (isPassed verdict) (textBelow count (transferRow transfers balances)) (changedText transfers) 2600 rows (omega (arith, changed-size transfers)) in
+    let under = choice-size (isPassed verdict) (textBelow count (transferRow transfers balances))
+    (changedText transfers) 2600 rows (omega (arith, changed-size transfers)) in
     rw length-append (omega (arith, under, line-size settleName (verdictAnswered [] verdict .number)))
 
 list-size : (name : List ℕ) (list : List ℕ) → length (listText name list) ≤ length name + 22 + length list * 21
 unfolding listText
 list-size name list =
     rw (length-append, length-append)
-    (omega (arith, named-size name (length list), texts-size (length list) 21 (λ k. word (getD list k 0)) (λ k. word-size (getD list k 0))))
+    (omega (
+      arith,
+      named-size name (length list),
+      texts-size (length list) 21 (λ k. word (getD list k 0))
+          (λ k. word-size (getD list k 0)),
+    ))
 
-signed-list-size : (name : List ℕ) (list : List ℤ) → length (signedListText name list) ≤ length name + 22 + length list * 22
+signed-list-size : (name : List ℕ) (list : List ℤ) →
+    length (signedListText name list) ≤ length name + 22 + length list * 22
 unfolding signedListText
 signed-list-size name list =
     rw (length-append, length-append)
-    (omega (arith, named-size name (length list), texts-size (length list) 22 (λ k. signedWord (getD list k (pos 0))) (λ k. signed-word-size (getD list k (pos 0)))))
+    (omega (
+      arith,
+      named-size name (length list),
+      texts-size (length list) 22 (λ k. signedWord (getD list k (pos 0)))
+          (λ k. signed-word-size (getD list k (pos 0))),
+    ))
 
 numbers-size : (ledger : Ledger) → length (numbersText ledger) ≤ 110
 unfolding numbersText
 numbers-size ledger =
     rw (length-append, length-append, length-append, length-append, length-append)
-    (omega (arith, named-size loadName (ledger .n), word-size (ledger .months), word-size (ledger .last), word-size (truthWord (ledger .fixed)), word-size (ledger .month)))
+    (omega (
+      arith,
+      named-size loadName (ledger .n),
+      word-size (ledger .months),
+      word-size (ledger .last),
+      word-size
+          (truthWord (ledger .fixed)),
+      word-size (ledger .month),
+    ))
 
 pub saving-size : (ledger : Ledger) → length (savingText ledger) ≤ 262144
 unfolding savingText presentWords chargeWords balanceWords
@@ -123,4 +160,14 @@ saving-size ledger =
     let places = keptCount ledger * sectorCount in
     let few : keptCount ledger ≤ 40 = kept-most ledger in
     rw (length-append, length-append, length-append)
-    (omega (arith, few, numbers-size ledger, rw list-length at (list-size presentName (presentWords (ledger .force) places)), rw list-length at (signed-list-size chargesName (chargeWords (ledger .force) places)), rw list-length at (signed-list-size balancesName (balanceWords (ledger .balances) (keptCount ledger)))))
+    (omega (
+      arith,
+      few,
+      numbers-size ledger,
+      rw list-length at
+          (list-size presentName (presentWords (ledger .force) places)),
+      rw list-length at
+          (signed-list-size chargesName (chargeWords (ledger .force) places)),
+      rw list-length at
+          (signed-list-size balancesName (balanceWords (ledger .balances) (keptCount ledger))),
+    ))

@@ -16,4 +16,5 @@ unfolding isUnwritten isNegative
 unwritten-bits (pos n) f = ne-eqb n 18446744073709551615 (λ e. omega (arith, f .sfits))
 unwritten-bits (negsuc zero) f = refl
 unwritten-bits (negsuc (suc n)) f =
-    ne-eqb (2 ^ 64 - suc (suc n)) 18446744073709551615 (λ e. omega (arith, f .sfits)) ∙ sym (ne-eqb (suc (suc n)) 1 (λ e. omega arith))
+    ne-eqb (2 ^ 64 - suc (suc n)) 18446744073709551615 (λ e. omega (arith, f .sfits)) ∙ sym
+    (ne-eqb (suc (suc n)) 1 (λ e. omega arith))

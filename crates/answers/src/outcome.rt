@@ -1,7 +1,8 @@
 // Lines of answers. Each function is given how many bytes of the buffer are written, and answers how many are then.
 ghost use mathlib.Core.Path.{_≡_};
 ghost use Rattle.text.specs.Buffer.{bufferOf, written};
-ghost use Rattle.answers.specs.Answer.{outcome, outcomeLine, openingText, loadingText, errorText, allUnwritten, changedText};
+ghost use Rattle.answers.specs.Answer.{outcome, outcomeLine, openingText, loadingText, errorText, allUnwritten};
+ghost use Rattle.answers.specs.Answer.{changedText};
 use numbers::refusal::Verdict;
 use numbers::refusal::verdict_number;
 use text::number::write_named;
@@ -13,7 +14,8 @@ pub const UNWRITTEN: i64 = -1;
 
 // Writes whether a command was accepted, or the number of its refusal.
 pub(crate) fn write_outcome(buffer: &mut [u8], count: usize, command: &[u8], number: u64) -> usize
-    ensures { λ r. ⌜ bufferOf (now (buffer .exit)) r ≡ written (outcome (now (command .entry)) number) (bufferOf (now (buffer .entry)) count) ⌝ }
+    ensures { λ r. ⌜ bufferOf (now (buffer .exit)) r ≡ written (outcome (now (command .entry)) number)
+        (bufferOf (now (buffer .entry)) count) ⌝ }
 {
     let end = write_text(buffer, count, command);
     if number == 0 {
@@ -29,7 +31,8 @@ pub(crate) fn write_outcome_line(
     command: &[u8],
     number: u64,
 ) -> usize
-    ensures { λ r. ⌜ bufferOf (now (buffer .exit)) r ≡ written (outcomeLine (now (command .entry)) number) (bufferOf (now (buffer .entry)) count) ⌝ }
+    ensures { λ r. ⌜ bufferOf (now (buffer .exit)) r ≡ written (outcomeLine (now (command .entry)) number)
+        (bufferOf (now (buffer .entry)) count) ⌝ }
 {
     let end = write_outcome(buffer, count, command, number);
     write_byte(buffer, end, b'\n')
@@ -37,7 +40,8 @@ pub(crate) fn write_outcome_line(
 
 // Writes the answer of an opening.
 pub fn write_opening(buffer: &mut [u8], count: usize, verdict: Verdict) -> usize
-    ensures { λ r. ⌜ bufferOf (now (buffer .exit)) r ≡ written (openingText verdict) (bufferOf (now (buffer .entry)) count) ⌝ }
+    ensures { λ r. ⌜ bufferOf (now (buffer .exit)) r ≡ written (openingText verdict)
+        (bufferOf (now (buffer .entry)) count) ⌝ }
 {
     write_outcome_line(buffer, count, b"open", verdict_number(verdict))
 }
@@ -73,7 +77,8 @@ fn is_unwritten(list: &[i64]) -> bool
 
 // Writes a line where a refused call wrote to its lent list.
 pub(crate) fn write_changed(buffer: &mut [u8], count: usize, list: &[i64]) -> usize
-    ensures { λ r. ⌜ bufferOf (now (buffer .exit)) r ≡ written (changedText (now (list .entry))) (bufferOf (now (buffer .entry)) count) ⌝ }
+    ensures { λ r. ⌜ bufferOf (now (buffer .exit)) r ≡ written (changedText (now (list .entry)))
+        (bufferOf (now (buffer .entry)) count) ⌝ }
 {
     if is_unwritten(list) {
         return count;

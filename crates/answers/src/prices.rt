@@ -26,7 +26,8 @@ fn write_fixed(
     rounds: u64,
     residue: UnsignedPesos,
 ) -> usize
-    ensures { λ r. ⌜ bufferOf (now (buffer .exit)) r ≡ written (fixedText limit surcharge rounds residue) (bufferOf (now (buffer .entry)) count) ⌝ }
+    ensures { λ r. ⌜ bufferOf (now (buffer .exit)) r ≡ written (fixedText limit surcharge rounds residue)
+        (bufferOf (now (buffer .entry)) count) ⌝ }
 {
     let end = write_named(buffer, count, b" limit", limit.0);
     let end = write_named(buffer, end, b" surcharge", surcharge.0);
@@ -36,7 +37,8 @@ fn write_fixed(
 
 // Writes the place of a refusal that has one.
 fn write_place(buffer: &mut [u8], count: usize, refusal: Refusal) -> usize
-    ensures { λ r. ⌜ bufferOf (now (buffer .exit)) r ≡ written (placeText (refusalAnswered refusal .values)) (bufferOf (now (buffer .entry)) count) ⌝ }
+    ensures { λ r. ⌜ bufferOf (now (buffer .exit)) r ≡ written (placeText (refusalAnswered refusal .values))
+        (bufferOf (now (buffer .entry)) count) ⌝ }
 {
     match refusal {
         Refusal::MonthMissing { line, term } => {
@@ -50,7 +52,8 @@ fn write_place(buffer: &mut [u8], count: usize, refusal: Refusal) -> usize
 
 // Writes what follows the outcome on the line.
 fn write_detail(buffer: &mut [u8], count: usize, answer: FixingAnswer) -> usize
-    ensures { λ r. ⌜ bufferOf (now (buffer .exit)) r ≡ written (detailText answer) (bufferOf (now (buffer .entry)) count) ⌝ }
+    ensures { λ r. ⌜ bufferOf (now (buffer .exit)) r ≡ written (detailText answer)
+        (bufferOf (now (buffer .entry)) count) ⌝ }
 {
     match answer {
         FixingAnswer::Accepted {
@@ -66,7 +69,8 @@ fn write_detail(buffer: &mut [u8], count: usize, answer: FixingAnswer) -> usize
 // Writes average, final price and charge of a distributor.
 fn write_price_row(buffer: &mut [u8], count: usize, prices: &[i64], i: usize) -> usize
     requires { ⌜ i < length (now prices) / 3 ⌝ }
-    ensures { λ r. ⌜ bufferOf (now (buffer .exit)) r ≡ written (priceRow (now (prices .entry)) i) (bufferOf (now (buffer .entry)) count) ⌝ }
+    ensures { λ r. ⌜ bufferOf (now (buffer .exit)) r ≡ written (priceRow (now (prices .entry)) i)
+        (bufferOf (now (buffer .entry)) count) ⌝ }
 {
     let end = write_decimal(buffer, count, i as u64);
     let end = write_signed_word(buffer, end, prices[i * 3]);
@@ -77,7 +81,8 @@ fn write_price_row(buffer: &mut [u8], count: usize, prices: &[i64], i: usize) ->
 
 // Writes the row of each distributor.
 fn write_price_rows(buffer: &mut [u8], count: usize, prices: &[i64]) -> usize
-    ensures { λ r. ⌜ bufferOf (now (buffer .exit)) r ≡ written (priceRows (now (prices .entry))) (bufferOf (now (buffer .entry)) count) ⌝ }
+    ensures { λ r. ⌜ bufferOf (now (buffer .exit)) r ≡ written (priceRows (now (prices .entry)))
+        (bufferOf (now (buffer .entry)) count) ⌝ }
 {
     let mut end = count;
     let mut i: usize = 0;
@@ -90,7 +95,8 @@ fn write_price_rows(buffer: &mut [u8], count: usize, prices: &[i64]) -> usize
 
 // Writes the answer of a fixing.
 pub fn write_fixing(buffer: &mut [u8], count: usize, answer: FixingAnswer, prices: &[i64]) -> usize
-    ensures { λ r. ⌜ bufferOf (now (buffer .exit)) r ≡ written (fixingText answer (now (prices .entry))) (bufferOf (now (buffer .entry)) count) ⌝ }
+    ensures { λ r. ⌜ bufferOf (now (buffer .exit)) r ≡ written (fixingText answer (now (prices .entry)))
+        (bufferOf (now (buffer .entry)) count) ⌝ }
 {
     let number = fixing_number(answer);
     let end = write_outcome(buffer, count, b"fix", number);

@@ -13,7 +13,8 @@ use text::write::write_byte;
 
 // Writes a list: its name, its count and its words.
 fn write_list(buffer: &mut [u8], count: usize, name: &[u8], list: &[u64]) -> usize
-    ensures { λ r. ⌜ bufferOf (now (buffer .exit)) r ≡ written (listText (now (name .entry)) (now (list .entry))) (bufferOf (now (buffer .entry)) count) ⌝ }
+    ensures { λ r. ⌜ bufferOf (now (buffer .exit)) r ≡ written (listText (now (name .entry)) (now (list .entry)))
+        (bufferOf (now (buffer .entry)) count) ⌝ }
 {
     let mut end = write_named(buffer, count, name, list.len() as u64);
     let mut k: usize = 0;
@@ -26,7 +27,8 @@ fn write_list(buffer: &mut [u8], count: usize, name: &[u8], list: &[u64]) -> usi
 
 // The same of words of either sign.
 fn write_signed_list(buffer: &mut [u8], count: usize, name: &[u8], list: &[i64]) -> usize
-    ensures { λ r. ⌜ bufferOf (now (buffer .exit)) r ≡ written (signedListText (now (name .entry)) (now (list .entry))) (bufferOf (now (buffer .entry)) count) ⌝ }
+    ensures { λ r. ⌜ bufferOf (now (buffer .exit)) r ≡ written (signedListText (now (name .entry)) (now (list .entry)))
+        (bufferOf (now (buffer .entry)) count) ⌝ }
 {
     let mut end = write_named(buffer, count, name, list.len() as u64);
     let mut k: usize = 0;
@@ -39,7 +41,8 @@ fn write_signed_list(buffer: &mut [u8], count: usize, name: &[u8], list: &[i64])
 
 // Writes the first line, the ledger's numbers.
 fn write_numbers(buffer: &mut [u8], count: usize, ledger: Ledger) -> usize
-    ensures { λ r. ⌜ bufferOf (now (buffer .exit)) r ≡ written (numbersText ledger) (bufferOf (now (buffer .entry)) count) ⌝ }
+    ensures { λ r. ⌜ bufferOf (now (buffer .exit)) r ≡ written (numbersText ledger)
+        (bufferOf (now (buffer .entry)) count) ⌝ }
 {
     let end = write_named(buffer, count, b"load", ledger.n as u64);
     let end = write_word(buffer, end, ledger.months);
@@ -51,7 +54,8 @@ fn write_numbers(buffer: &mut [u8], count: usize, ledger: Ledger) -> usize
 
 // Writes the ledger.
 pub fn write_saving(buffer: &mut [u8], count: usize, ledger: Ledger) -> usize
-    ensures { λ r. ⌜ bufferOf (now (buffer .exit)) r ≡ written (savingText ledger) (bufferOf (now (buffer .entry)) count) ⌝ }
+    ensures { λ r. ⌜ bufferOf (now (buffer .exit)) r ≡ written (savingText ledger)
+        (bufferOf (now (buffer .entry)) count) ⌝ }
 {
     let mut present = [0u64; 320];
     let mut charges = [0i64; 320];

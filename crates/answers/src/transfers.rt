@@ -22,7 +22,8 @@ fn write_transfer_row(
     i: usize,
 ) -> usize
     requires { ⌜ i < length (now transfers) ⌝ ∗ ⌜ i < 40 ⌝ }
-    ensures { λ r. ⌜ bufferOf (now (buffer .exit)) r ≡ written (transferRow (now (transfers .entry)) balances i) (bufferOf (now (buffer .entry)) count) ⌝ }
+    ensures { λ r. ⌜ bufferOf (now (buffer .exit)) r ≡ written (transferRow (now (transfers .entry)) balances i)
+        (bufferOf (now (buffer .entry)) count) ⌝ }
 {
     let balance = balances[i];
     let end = write_decimal(buffer, count, i as u64);
@@ -38,7 +39,8 @@ fn write_transfer_rows(
     transfers: &[i64],
     balances: [Pesos; 40],
 ) -> usize
-    ensures { λ r. ⌜ bufferOf (now (buffer .exit)) r ≡ written (transferRows (now (transfers .entry)) balances) (bufferOf (now (buffer .entry)) count) ⌝ }
+    ensures { λ r. ⌜ bufferOf (now (buffer .exit)) r ≡ written (transferRows (now (transfers .entry)) balances)
+        (bufferOf (now (buffer .entry)) count) ⌝ }
 {
     let mut end = count;
     let mut i: usize = 0;
@@ -57,7 +59,8 @@ pub fn write_settlement(
     transfers: &[i64],
     balances: [Pesos; 40],
 ) -> usize
-    ensures { λ r. ⌜ bufferOf (now (buffer .exit)) r ≡ written (settlementText verdict (now (transfers .entry)) balances) (bufferOf (now (buffer .entry)) count) ⌝ }
+    ensures { λ r. ⌜ bufferOf (now (buffer .exit)) r ≡ written
+        (settlementText verdict (now (transfers .entry)) balances) (bufferOf (now (buffer .entry)) count) ⌝ }
 {
     let end = write_outcome_line(buffer, count, b"settle", verdict_number(verdict));
     match verdict {

@@ -48,11 +48,13 @@ list-text : (name list tail : List ℕ) → lineEnd ∷ (listText name list ++ t
 unfolding listText named
 list-text name list tail = simp append-assoc
 
-signed-list-text : (name : List ℕ) (list : List ℤ) (tail : List ℕ) → lineEnd ∷ (signedListText name list ++ tail) ≡ signedListLine name list (lineEnd ∷ tail)
+signed-list-text : (name : List ℕ) (list : List ℤ) (tail : List ℕ) →
+    lineEnd ∷ (signedListText name list ++ tail) ≡ signedListLine name list (lineEnd ∷ tail)
 unfolding signedListText named
 signed-list-text name list tail = simp append-assoc
 
-numbers-text : (name a b c d e tail : List ℕ) → name ++ a ++ b ++ c ++ d ++ e ++ lineEnd ∷ [] ++ tail ≡ name ++ (a ++ (b ++ (c ++ (d ++ (e ++ (lineEnd ∷ tail))))))
+numbers-text : (name a b c d e tail : List ℕ) →
+    name ++ a ++ b ++ c ++ d ++ e ++ lineEnd ∷ [] ++ tail ≡ name ++ (a ++ (b ++ (c ++ (d ++ (e ++ (lineEnd ∷ tail))))))
 numbers-text name a b c d e tail = simp append-assoc
 
 truth-small : (b : Bool) → truthWord b ≤ 1
@@ -83,14 +85,20 @@ module _ (ledger : Ledger) where
       let present : List ℕ = listText presentName (savedWords .present) in
       let charges : List ℕ = signedListText chargesName (savedWords .charges) in
       let balances : List ℕ = signedListText balancesName (savedWords .balances) in
-      let numbers : List ℕ → List ℕ = λ l. loadName ++ (word (ledger .n) ++ (word (ledger .months) ++ (word (ledger .last) ++ (word (truthWord (ledger .fixed)) ++ (word (ledger .month) ++ l))))) in
+      let numbers : List ℕ → List ℕ = λ l. loadName
+      ++ (word (ledger .n) ++ (word (ledger .months)
+      ++ (word (ledger .last) ++ (word (truthWord (ledger .fixed)) ++ (word (ledger .month) ++ l))))) in
       append-assoc (numbersText ledger ++ present) charges balances
       ∙ append-assoc (numbersText ledger) present (charges ++ balances)
-      ∙ numbers-text loadName (word (ledger .n)) (word (ledger .months)) (word (ledger .last)) (word (truthWord (ledger .fixed))) (word (ledger .month)) (present ++ (charges ++ balances))
+      ∙ numbers-text loadName (word (ledger .n)) (word (ledger .months)) (word (ledger .last))
+      (word (truthWord (ledger .fixed))) (word (ledger .month)) (present ++ (charges ++ balances))
       ∙ ap numbers (list-text presentName (savedWords .present) (charges ++ balances))
-      ∙ ap (λ l. numbers (listLine presentName (savedWords .present) l)) (signed-list-text chargesName (savedWords .charges) balances)
-      ∙ ap (λ l. numbers (listLine presentName (savedWords .present) (signedListLine chargesName (savedWords .charges) l)))
-      (ap (λ (l : List ℕ). lineEnd ∷ l) (sym (append-nil balances)) ∙ signed-list-text balancesName (savedWords .balances) [])
+      ∙ ap (λ l. numbers (listLine presentName (savedWords .present) l))
+      (signed-list-text chargesName (savedWords .charges) balances)
+      ∙ ap (λ l. numbers (listLine presentName (savedWords .present)
+      (signedListLine chargesName (savedWords .charges) l)))
+      (ap (λ (l : List ℕ). lineEnd ∷ l) (sym (append-nil balances)) ∙ signed-list-text balancesName
+      (savedWords .balances) [])
 
   module _ (m : MachineLedger ledger) where
     places-few : places ≤ sectorPlaces
@@ -107,11 +115,19 @@ module _ (ledger : Ledger) where
           fixed = truth-small (ledger .fixed);
           month = m .month;
           presents = rw (list-length present places) places-few;
-          present = λ i p. let q : i < places = omega (arith, list-length present places) in rw (list-at present places 0 i q) (truth-small (presentIn (ledger .force) i));
+          present =
+              λ i p. let q : i < places = omega (arith, list-length present places) in rw (list-at present places 0 i q)
+              (truth-small (presentIn (ledger .force) i));
           charged = rw (list-length (chargeIn (ledger .force)) places) places-few;
-          charges = λ i p. let q : i < places = omega (arith, list-length (chargeIn (ledger .force)) places) in rw (list-at (chargeIn (ledger .force)) places (pos 0) i q) (m .charges i (omega (arith, places-few)));
+          charges =
+              λ i p. let q : i < places = omega (arith, list-length (chargeIn (ledger .force)) places) in
+              rw (list-at (chargeIn (ledger .force)) places (pos 0) i q) (m .charges i (omega (arith, places-few)));
           balanced = rw (list-length (moneyAt (ledger .balances)) (keptCount ledger)) (kept-most ledger);
-          balances = λ i p. let q : i < keptCount ledger = omega (arith, list-length (moneyAt (ledger .balances)) (keptCount ledger)) in rw (list-at (moneyAt (ledger .balances)) (keptCount ledger) (pos 0) i q) (m .balances i (omega (arith, kept-most ledger)));
+          balances =
+              λ i p. let q : i < keptCount
+              ledger = omega (arith, list-length (moneyAt (ledger .balances)) (keptCount ledger)) in
+              rw (list-at (moneyAt (ledger .balances)) (keptCount ledger) (pos 0) i q)
+              (m .balances i (omega (arith, kept-most ledger)));
         }
 
     -- read as words it is the ledger
@@ -124,29 +140,38 @@ module _ (ledger : Ledger) where
 
     module _ (text : List ℕ) (e : text ≡ loadName ++ loadText savedWords) where
       stands : LoadStands text (readTo (length loadName)) savedWords
-      stands = load-stands text (readTo (length loadName)) savedWords saved-fits (record { whole = refl; after = ap (λ (t : List ℕ). drop (length loadName) t) e })
+      stands =
+          load-stands text (readTo (length loadName)) savedWords saved-fits
+          (record { whole = refl; after = ap (λ (t : List ℕ). drop (length loadName) t) e })
 
       abbrev next : Cursor
       next = loadAfter text (readTo (length loadName)) .next
 
       loaded : stepBy ledger next ≡ stepAfter text 0 (emptyLedger 0)
       loaded =
-          step-read text 0 (emptyLedger 0) (commandRead Load (readTo (length loadName))) (load-command (loadText savedWords) (word-ends (ledger .n) _) ∙ ap (λ (t : List ℕ). commandAfter t 0) (sym e)) Load refl (stepBy ledger next)
-          (step-made Load text (readTo (length loadName)) (emptyLedger 0) next refl (stands .next .whole) ledger (sym (kept-same text (readTo (length loadName)) stands)))
+          step-read text 0 (emptyLedger 0) (commandRead Load (readTo (length loadName)))
+          (load-command (loadText savedWords) (word-ends (ledger .n) _) ∙ ap (λ (t : List ℕ). commandAfter t 0) (sym e))
+          Load refl (stepBy ledger next)
+          (step-made Load text (readTo (length loadName)) (emptyLedger 0) next refl (stands .next .whole) ledger
+          (sym (kept-same text (readTo (length loadName)) stands)))
 
       ended : readWith ledger (length text) ≡ stepAfter text (next .at) ledger
       ended =
-          step-read text (next .at) ledger (commandRead End (readTo (length text))) (end-command text (next .at) lineEnd line-gap (stands .next .after)) End refl (readWith ledger (length text))
+          step-read text (next .at) ledger (commandRead End (readTo (length text)))
+          (end-command text (next .at) lineEnd line-gap (stands .next .after)) End refl (readWith ledger (length text))
           (step-made End text (readTo (length text)) ledger (readTo (length text)) refl refl ledger refl)
 
       read-back : replayFrom (length text) text 0 (emptyLedger 0) ≡ readWith ledger (length text)
       read-back =
           ap (λ (k : ℕ). replayFrom k text 0 (emptyLedger 0)) (sym (sub-zero (length text)))
           ∙ replay-on text 0 (rw e (omega arith)) (emptyLedger 0) (stepBy ledger next) loaded (stands .next .whole)
-          ∙ replay-on text (next .at) (place-within text (next .at) lineEnd [] (stands .next .after)) ledger (readWith ledger (length text)) ended refl
+          ∙ replay-on text (next .at) (place-within text (next .at) lineEnd [] (stands .next .after)) ledger
+          (readWith ledger (length text)) ended refl
           ∙ replay-none (length text - length text) text (length text) ledger (omega arith)
 
 -- what `save` prints, a journal takes back as the same ledger
-pub saved-text-loads : (ledger : Ledger) → MachineLedger ledger → replayed (savingText ledger) ≡ readWith ledger (length (savingText ledger))
+pub saved-text-loads : (ledger : Ledger) → MachineLedger ledger →
+    replayed (savingText ledger) ≡ readWith ledger (length (savingText ledger))
 saved-text-loads ledger m =
-    sym (short (savingText ledger) (omega (arith, saving-size ledger)) (sym (read-back ledger m (savingText ledger) (saved-text ledger))))
+    sym (short (savingText ledger) (omega (arith, saving-size ledger))
+    (sym (read-back ledger m (savingText ledger) (saved-text ledger))))

@@ -1,5 +1,5 @@
--- What a journal does to the ledger, and what it answers (docs/JOURNAL.md): each command is the call of the words that its
--- text holds. Assumes nothing.
+-- What a journal does to the ledger, and what it answers (docs/JOURNAL.md): each command is the call of the words that
+-- its text holds. Assumes nothing.
 use mathlib.Core.Path.{_≡_}
 use mathlib.Core.Bool.{cond}
 use mathlib.Core.List.{List, []}
@@ -11,8 +11,11 @@ use Rattle.numbers.specs.Bounded.{listBelow}
 use Rattle.numbers.specs.Sizes.{mostDistributors, sectorPlaces}
 use Rattle.journal.specs.Cursor.{readTo, brokenAt, numberAfter, mostWord}
 use Rattle.journal.specs.List.{listWords, signedListWords}
-use Rattle.journal.specs.Command.{longestList, seriesName, linesName, sectorsName, readingsName, lossesName, presentName, chargesName, balancesName, commandAfter}
-use Rattle.journal.specs.Command.{fixSeriesFrom, fixLinesFrom, fixSectorsFrom, fixAfter, settleReadingsFrom, settleLossesFrom, settleAfter, loadPresentFrom, loadChargesFrom, loadBalancesFrom, loadAfter}
+use Rattle.journal.specs.Command.{longestList, seriesName, linesName, sectorsName, readingsName, lossesName}
+use Rattle.journal.specs.Command.{presentName, chargesName, balancesName, commandAfter}
+use Rattle.journal.specs.Command.{fixSeriesFrom, fixLinesFrom, fixSectorsFrom, fixAfter, settleReadingsFrom}
+use Rattle.journal.specs.Command.{settleLossesFrom, settleAfter, loadPresentFrom, loadChargesFrom, loadBalancesFrom}
+use Rattle.journal.specs.Command.{loadAfter}
 use Rattle.journal.specs.declared.cursor.Cursor.{Cursor}
 use Rattle.journal.specs.declared.command.Command.{Command}
 use Rattle.journal.specs.declared.command.FixRead.{FixRead}

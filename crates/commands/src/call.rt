@@ -39,7 +39,9 @@ pub(crate) fn make_fixing(
     prices: &mut [i64],
     buffer: &mut [u8],
 ) -> Made
-    ensures { λ r. ⌜ (let call = fixingCallOf numbers (now (series .entry)) (now (lines .entry)) (now (sectors .entry)) (unwritten (length (now (prices .entry)))) in CallMade r (fixingLedger ledger call) (fixingPrinted ledger call) (now (buffer .entry)) (now (buffer .exit))) ⌝ }
+    ensures { λ r. ⌜ (let call = fixingCallOf numbers (now (series .entry)) (now (lines .entry)) (now (sectors .entry))
+        (unwritten (length (now (prices .entry)))) in CallMade r (fixingLedger ledger call) (fixingPrinted ledger call)
+        (now (buffer .entry)) (now (buffer .exit))) ⌝ }
 {
     lend(prices);
     let outcome = fix(ledger, numbers, series, lines, sectors, prices);
@@ -58,7 +60,9 @@ pub(crate) fn make_settlement(
     transfers: &mut [i64],
     buffer: &mut [u8],
 ) -> Made
-    ensures { λ r. ⌜ (let call = settlementCallOf month (now (readings .entry)) (now (losses .entry)) (unwritten (length (now (transfers .entry)))) in CallMade r (settlementLedger ledger call) (settlementPrinted ledger call) (now (buffer .entry)) (now (buffer .exit))) ⌝ }
+    ensures { λ r. ⌜ (let call = settlementCallOf month (now (readings .entry)) (now (losses .entry))
+        (unwritten (length (now (transfers .entry)))) in CallMade r (settlementLedger ledger call)
+        (settlementPrinted ledger call) (now (buffer .entry)) (now (buffer .exit))) ⌝ }
 {
     lend(transfers);
     let outcome = settle(ledger, month, readings, losses, transfers);

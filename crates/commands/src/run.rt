@@ -4,7 +4,8 @@ ghost use Prim.Native.Nat.{_≤_};
 ghost use lib.ListN.{length};
 ghost use Rattle.journal.specs.Command.{longestList};
 ghost use Rattle.journal.specs.declared.command.Command.the-variants.{Open, Fix, Settle, Load};
-ghost use Rattle.commands.specs.Replay.{stepOf, answerOf, stepAfter, answerAfter, replayed, longestAnswer, longestText, unansweredBy, CommandMade, CommandAnswered};
+ghost use Rattle.commands.specs.Replay.{stepOf, answerOf, stepAfter, answerAfter, replayed, longestAnswer};
+ghost use Rattle.commands.specs.Replay.{longestText, unansweredBy, CommandMade, CommandAnswered};
 use crate::call::make_fixing;
 use crate::call::make_settlement;
 use answers::outcome::write_error;
@@ -68,7 +69,8 @@ fn signed_words() -> [i64; 8192]
 
 fn run_open(text: &[u8], cursor: Cursor, ledger: Ledger, buffer: &mut [u8]) -> CommandOutcome
     requires { ⌜ cursor .at ≤ length (now text) ⌝ }
-    ensures { λ r. ⌜ CommandMade r (stepOf Open (now (text .entry)) cursor ledger) (answerOf Open (now (text .entry)) cursor ledger) (now (buffer .entry)) (now (buffer .exit)) ⌝ }
+    ensures { λ r. ⌜ CommandMade r (stepOf Open (now (text .entry)) cursor ledger)
+        (answerOf Open (now (text .entry)) cursor ledger) (now (buffer .entry)) (now (buffer .exit)) ⌝ }
 {
     let read = next_number(text, cursor, MOST_WORD);
     let next = read.next;
@@ -85,7 +87,8 @@ fn run_open(text: &[u8], cursor: Cursor, ledger: Ledger, buffer: &mut [u8]) -> C
 
 fn run_fix(text: &[u8], cursor: Cursor, ledger: Ledger, buffer: &mut [u8]) -> CommandOutcome
     requires { ⌜ cursor .at ≤ length (now text) ⌝ }
-    ensures { λ r. ⌜ CommandMade r (stepOf Fix (now (text .entry)) cursor ledger) (answerOf Fix (now (text .entry)) cursor ledger) (now (buffer .entry)) (now (buffer .exit)) ⌝ }
+    ensures { λ r. ⌜ CommandMade r (stepOf Fix (now (text .entry)) cursor ledger)
+        (answerOf Fix (now (text .entry)) cursor ledger) (now (buffer .entry)) (now (buffer .exit)) ⌝ }
 {
     let mut series = words();
     let mut lines = words();
@@ -125,7 +128,8 @@ fn run_fix(text: &[u8], cursor: Cursor, ledger: Ledger, buffer: &mut [u8]) -> Co
 
 fn run_settle(text: &[u8], cursor: Cursor, ledger: Ledger, buffer: &mut [u8]) -> CommandOutcome
     requires { ⌜ cursor .at ≤ length (now text) ⌝ }
-    ensures { λ r. ⌜ CommandMade r (stepOf Settle (now (text .entry)) cursor ledger) (answerOf Settle (now (text .entry)) cursor ledger) (now (buffer .entry)) (now (buffer .exit)) ⌝ }
+    ensures { λ r. ⌜ CommandMade r (stepOf Settle (now (text .entry)) cursor ledger)
+        (answerOf Settle (now (text .entry)) cursor ledger) (now (buffer .entry)) (now (buffer .exit)) ⌝ }
 {
     let mut readings = words();
     let mut losses = words();
@@ -156,7 +160,8 @@ fn run_settle(text: &[u8], cursor: Cursor, ledger: Ledger, buffer: &mut [u8]) ->
 
 fn run_load(text: &[u8], cursor: Cursor, ledger: Ledger, buffer: &mut [u8]) -> CommandOutcome
     requires { ⌜ cursor .at ≤ length (now text) ⌝ }
-    ensures { λ r. ⌜ CommandMade r (stepOf Load (now (text .entry)) cursor ledger) (answerOf Load (now (text .entry)) cursor ledger) (now (buffer .entry)) (now (buffer .exit)) ⌝ }
+    ensures { λ r. ⌜ CommandMade r (stepOf Load (now (text .entry)) cursor ledger)
+        (answerOf Load (now (text .entry)) cursor ledger) (now (buffer .entry)) (now (buffer .exit)) ⌝ }
 {
     let mut present = [0u64; PLACES];
     let mut charges = [0i64; PLACES];
@@ -190,7 +195,8 @@ fn run_load(text: &[u8], cursor: Cursor, ledger: Ledger, buffer: &mut [u8]) -> C
 // One command, from its word on, and its answer as the first bytes of the buffer.
 fn run_command(text: &[u8], at: usize, ledger: Ledger, buffer: &mut [u8]) -> CommandOutcome
     requires { ⌜ at ≤ length (now text) ⌝ ∗ ⌜ length (now buffer) ≡ longestAnswer ⌝ }
-    ensures { λ r. ⌜ CommandAnswered r (stepAfter (now (text .entry)) at ledger) (answerAfter (now (text .entry)) at ledger) (now (buffer .exit)) ⌝ }
+    ensures { λ r. ⌜ CommandAnswered r (stepAfter (now (text .entry)) at ledger)
+        (answerAfter (now (text .entry)) at ledger) (now (buffer .exit)) ⌝ }
 {
     let read = next_command(text, at);
     let next = read.next;

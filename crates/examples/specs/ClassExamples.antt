@@ -89,7 +89,8 @@ classExamples =
     ∷ record {
       number = 3;
       computed =
-          whole (lineIndexed (termMean (seriesTable (lentWords 762700 10000)) indexedNumbers) (lineOf indexedLine 0) ∷ []);
+          whole (lineIndexed (termMean (seriesTable (lentWords 762700 10000)) indexedNumbers) (lineOf indexedLine 0)
+          ∷ []);
       printed = whole (92000 ∷ []);
     }
     ∷ record {
@@ -99,7 +100,8 @@ classExamples =
     }
     ∷ record {
       number = 5;
-      computed = whole (limit (pair 21001 19000) ∷ rounds (pair 21001 19000) ∷ []) ++ listBelow 2 (charge (pair 21001 19000));
+      computed =
+          whole (limit (pair 21001 19000) ∷ rounds (pair 21001 19000) ∷ []) ++ listBelow 2 (charge (pair 21001 19000));
       printed = pos 21000 ∷ pos 1 ∷ negsuc 0 ∷ pos 1 ∷ [];
     }
     ∷ record {
@@ -107,7 +109,8 @@ classExamples =
       computed = whole (printAnswered .number ∷ printAnswered .values) ++ fixingList (openingLedger 3) printCall;
       printed =
           whole (0 ∷ 84338 ∷ 13022 ∷ 2 ∷ 2 ∷ [])
-          ++ (pos 100000 ∷ pos 84338 ∷ negsuc 15661 ∷ pos 83000 ∷ pos 84338 ∷ pos 1338 ∷ pos 60000 ∷ pos 73022 ∷ pos 13022 ∷ []);
+          ++ (pos 100000 ∷ pos 84338 ∷ negsuc 15661 ∷ pos 83000 ∷ pos 84338 ∷ pos 1338 ∷ pos 60000 ∷ pos 73022 ∷ pos
+          13022 ∷ []);
     }
     ∷ record { number = 7; computed = sectorCharge (negsuc 2) 5000 ∷ []; printed = negsuc 1 ∷ [] }
     ∷ record {
@@ -127,7 +130,8 @@ classExamples =
       number = 10;
       computed =
           whole (settledNumber firstLedger secondBilling ∷ [])
-          ++ (settlementList firstLedger secondBilling ++ firstMoney 3 (settlementLedger firstLedger secondBilling .balances));
+          ++ (settlementList firstLedger secondBilling ++ firstMoney 3
+          (settlementLedger firstLedger secondBilling .balances));
       printed = pos 0 ∷ pos 1302 ∷ negsuc 120 ∷ negsuc 1180 ∷ pos 0 ∷ pos 1217 ∷ pos 11841 ∷ [];
     }
     ∷ record {

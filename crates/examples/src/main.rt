@@ -59,8 +59,8 @@ fn print_price(price: u64) {
     }
 }
 
-// The twelve class examples of document 01, through the open calls' own definitions: every value is the printed one. The
-// function does nothing; its ensures is the statement.
+// The twelve class examples of document 01, through the open calls' own definitions: every value is the printed one.
+// The function does nothing; its ensures is the statement.
 fn class_examples_hold()
     ensures { λ r. ⌜ holdFrom 1 classExamples ≡ true ⌝ }
 {}

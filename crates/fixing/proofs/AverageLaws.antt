@@ -22,7 +22,8 @@ use Rattle.numbers.proofs.TestLaws.{any-none, all-at, all-same}
 use Rattle.numbers.proofs.ListLaws.{list-length, list-at}
 use Rattle.numbers.proofs.SearchLaws.{any-where}
 use Rattle.supply.specs.Line.{lineCount, lineOf}
-use Rattle.fixing.specs.Average.{ownPart, ownSum, suppliedEnergy, linesAmount, hasLine, everyoneSupplied, everyEnergy, energyList}
+use Rattle.fixing.specs.Average.{ownPart, ownSum, suppliedEnergy, linesAmount, hasLine, everyoneSupplied}
+use Rattle.fixing.specs.Average.{everyEnergy, energyList}
 use Rattle.fixing.specs.Required.{OwnLines, PricedLines}
 
 module _ (lines : List ℕ) (f : ℕ → ℕ) (i j : ℕ) where
@@ -43,11 +44,13 @@ module _ (lines : List ℕ) (f : ℕ → ℕ) (i j : ℕ) where
       go false = omega arith
 
 -- a sum of parts is small where each is
-pub parts-most : (lines : List ℕ) (f : ℕ → ℕ) (i k most : ℕ) → ((j : ℕ) → j < k → f j ≤ most) → sumBelow k (ownPart lines f i) ≤ k * most
+pub parts-most : (lines : List ℕ) (f : ℕ → ℕ) (i k most : ℕ) → ((j : ℕ) → j < k → f j ≤ most) →
+    sumBelow k (ownPart lines f i) ≤ k * most
 parts-most lines f i k most h = sum-le k most (ownPart lines f i) (λ j p. omega (arith, part-most lines f i j, h j p))
 
 -- a pass over the lines that keeps the sum of each distributor as a value of its own type
-module _ {A : Type 0} (make : ℕ → A) (read : A → ℕ) (made : (x : ℕ) → read (make x) ≡ x) (whole : (a : A) → make (read a) ≡ a) where
+module _ {A : Type 0} (make : ℕ → A) (read : A → ℕ) (made : (x : ℕ) → read (make x) ≡ x)
+    (whole : (a : A) → make (read a) ≡ a) where
   -- after k lines each place holds what the lines passed add up to
   pub record Held (lines : List ℕ) (f : ℕ → ℕ) (k : ℕ) (out : List A) : Type 0 where
     pub wide : length out ≡ mostDistributors
@@ -62,7 +65,8 @@ module _ {A : Type 0} (make : ℕ → A) (read : A → ℕ) (made : (x : ℕ) �
           sums = λ i p. ap read (getD-replicate mostDistributors i (make 0) (make 0) p) ∙ made 0;
         }
 
-    pub held-more : (k : ℕ) (out : List A) (own : ℕ) (sum : A) → own < mostDistributors → own ≡ lineOf lines k .distributor →
+    pub held-more : (k : ℕ) (out : List A) (own : ℕ) (sum : A) → own < mostDistributors →
+        own ≡ lineOf lines k .distributor →
         read sum ≡ read (getD out own (make 0)) + f k → Held lines f k out → Held lines f (k + 1) (set out own sum)
     held-more k out own sum p q r h =
         record {
@@ -70,7 +74,8 @@ module _ {A : Type 0} (make : ℕ → A) (read : A → ℕ) (made : (x : ℕ) �
           sums = λ i b. rw (sum-step k (ownPart lines f i)) (go i b (ℕ-discrete i own));
         }
       where
-        go : (i : ℕ) → i < mostDistributors → Dec (i ≡ own) → read (getD (set out own sum) i (make 0)) ≡ sumBelow k (ownPart lines f i) + ownPart lines f i k
+        go : (i : ℕ) → i < mostDistributors → Dec (i ≡ own) →
+            read (getD (set out own sum) i (make 0)) ≡ sumBelow k (ownPart lines f i) + ownPart lines f i k
         go i b (yes e) =
             rw (e, getD-set-same out own sum (make 0) (omega (arith, h .wide)))
             (omega (arith, r, h .sums own p, part-own lines f own k (sym q)))
@@ -78,12 +83,14 @@ module _ {A : Type 0} (make : ℕ → A) (read : A → ℕ) (made : (x : ℕ) �
             rw (getD-set-other out own i sum (make 0) e)
             (omega (arith, h .sums i b, part-other lines f i k (λ t. e (sym (q ∙ t)))))
 
-    pub held-done : (out : List A) → Held lines f (lineCount lines) out → out ≡ listBelow mostDistributors (λ i. make (ownSum lines f i))
+    pub held-done : (out : List A) → Held lines f (lineCount lines) out →
+        out ≡ listBelow mostDistributors (λ i. make (ownSum lines f i))
     unfolding ownSum
     held-done out h =
         ext-getD (make 0) out (listBelow mostDistributors sums)
         (h .wide ∙ sym (list-length sums mostDistributors))
-        (λ i p. let b : i < mostDistributors = omega (arith, h .wide) in sym (whole _) ∙ ap make (h .sums i b) ∙ sym (list-at sums mostDistributors (make 0) i b))
+        (λ i p. let b : i < mostDistributors = omega (arith, h .wide) in sym (whole _) ∙ ap make (h .sums i b) ∙ sym
+        (list-at sums mostDistributors (make 0) i b))
       where
         sums : ℕ → A
         sums i = make (sumBelow (lineCount lines) (ownPart lines f i))
@@ -108,7 +115,8 @@ abbrev pub AmountsHeld : List PesoPrice → List ℕ → ℕ → List UnsignedPe
 AmountsHeld prices lines = Held asTotal (λ e. e .0) (λ x. refl) (λ e. refl) lines (amountOf prices lines)
 
 -- a line's amount is small
-pub product-most : (prices : List PesoPrice) (lines : List ℕ) → PricedLines prices lines → (j : ℕ) → j < lineCount lines →
+pub product-most : (prices : List PesoPrice) (lines : List ℕ) → PricedLines prices lines → (j : ℕ) →
+    j < lineCount lines →
     amountOf prices lines j ≤ 20000000000000
 product-most prices lines ok j p = mul-le-mul (ok .priced j p) (ok .own .checked .facts j p .energyMost)
 
@@ -127,7 +135,9 @@ module _ (lines : List ℕ) (ok : OwnLines lines) (i : ℕ) where
   energy-none : hasLine lines i ≡ false → suppliedEnergy lines i ≡ 0
   unfolding suppliedEnergy ownSum ownPart hasLine
   energy-none h =
-      sum-same (lineCount lines) _ (λ j. 0) (λ j p. rw (any-none (lineCount lines) (λ k. eqb (lineOf lines k .distributor) i) h j p)) ∙ nothing (lineCount lines)
+      sum-same (lineCount lines) _ (λ j. 0)
+      (λ j p. rw (any-none (lineCount lines) (λ k. eqb (lineOf lines k .distributor) i) h j p)) ∙ nothing
+      (lineCount lines)
     where
       nothing : (k : ℕ) → sumBelow k (λ j. 0) ≡ 0
       nothing k = let e : sumBelow k (λ j. 0) ≤ k * 0 = sum-le k 0 (λ j. 0) (λ j p. omega arith) in omega arith
@@ -155,23 +165,28 @@ module _ (lines : List ℕ) (ok : OwnLines lines) (i : ℕ) where
   energy-most =
       omega (
         arith,
-        parts-most lines (λ j. lineOf lines j .energy) i (lineCount lines) 10000000 (λ j p. ok .checked .facts j p .energyMost),
+        parts-most lines (λ j. lineOf lines j .energy) i (lineCount lines) 10000000
+            (λ j p. ok .checked .facts j p .energyMost),
         ok .checked .few,
       )
 
 -- what stands in the list of energies
-pub energy-at : (lines : List ℕ) (i : ℕ) → i < mostDistributors → getD (energyList lines) i noEnergy .0 ≡ suppliedEnergy lines i
+pub energy-at : (lines : List ℕ) (i : ℕ) → i < mostDistributors →
+    getD (energyList lines) i noEnergy .0 ≡ suppliedEnergy lines i
 unfolding energyList
-energy-at lines i p = ap (λ e. e .0) (list-at (λ k. record { 0 = suppliedEnergy lines k }) mostDistributors noEnergy i p)
+energy-at lines i p =
+    ap (λ e. e .0) (list-at (λ k. record { 0 = suppliedEnergy lines k }) mostDistributors noEnergy i p)
 
 -- everyone has an energy exactly where everyone has a line
-pub energies-tell : (n : ℕ) (lines : List ℕ) → n ≤ mostDistributors → OwnLines lines → everyEnergy n (energyList lines) ≡ everyoneSupplied n lines
+pub energies-tell : (n : ℕ) (lines : List ℕ) → n ≤ mostDistributors → OwnLines lines →
+    everyEnergy n (energyList lines) ≡ everyoneSupplied n lines
 unfolding everyEnergy everyoneSupplied
 energies-tell n lines few ok =
     all-same n (λ i. not (eqb (getD (energyList lines) i noEnergy .0) 0)) (hasLine lines)
     (λ i p. ap (λ x. not (eqb x 0)) (energy-at lines i (omega arith)) ∙ energy-tells lines ok i)
 
 -- everyone supplied: each energy is at least 1
-pub supplied-some : (n : ℕ) (lines : List ℕ) → OwnLines lines → everyoneSupplied n lines ≡ true → (i : ℕ) → i < n → 1 ≤ suppliedEnergy lines i
+pub supplied-some : (n : ℕ) (lines : List ℕ) → OwnLines lines → everyoneSupplied n lines ≡ true → (i : ℕ) → i < n →
+    1 ≤ suppliedEnergy lines i
 unfolding everyoneSupplied
 supplied-some n lines ok h i p = energy-some lines ok i (all-at n (hasLine lines) h i p)

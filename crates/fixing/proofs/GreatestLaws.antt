@@ -64,7 +64,8 @@ charge-sub a (suc b) = refl
 -- a price of at most the average and m more has a charge of at most m
 pub charge-le : (a b m : ℕ) → a ≤ b + m → (pos a -ℤ pos b) ≤ℤ pos m
 charge-le a b m h =
-    rw (charge-sub a b) (sub-cases (λ z. z ≤ℤ pos m) a b (λ p. pos-le (a - b) m (omega arith)) (λ p. record { le = tt }))
+    rw (charge-sub a b) (sub-cases (λ z. z ≤ℤ pos m) a b (λ p. pos-le (a - b) m (omega arith))
+    (λ p. record { le = tt }))
 
 -- and the other way, for a price of either sign
 pub price-le : (q : ℤ) (b m : ℕ) → (q -ℤ pos b) ≤ℤ pos m → positivePart q ≤ b + m
@@ -94,7 +95,8 @@ part-mul (negsuc a) e = negative (suc a * e)
     negative zero = omega arith
     negative (suc n) = omega arith
 
-pub signed-collect : (k a : ℕ) (q : ℕ → ℤ) (e : ℕ → ℕ) → pos a ≤ℤ signedSumBelow k (λ i. q i *ℤ pos (e i)) → a ≤ sumBelow k (λ i. positivePart (q i) * e i)
+pub signed-collect : (k a : ℕ) (q : ℕ → ℤ) (e : ℕ → ℕ) → pos a ≤ℤ signedSumBelow k (λ i. q i *ℤ pos (e i)) →
+    a ≤ sumBelow k (λ i. positivePart (q i) * e i)
 signed-collect k a q e h =
     let product : ℕ → ℤ = λ i. q i *ℤ pos (e i) in
     let plus = sumBelow k (λ i. positivePart (product i)) in

@@ -23,11 +23,13 @@ use Rattle.supply.specs.Range.{linesInRange}
 use Rattle.supply.proofs.RangeLaws.{checked-lines, lines-distributor}
 use Rattle.fixing.specs.Limit.{InRange, totalEnergy}
 use Rattle.fixing.specs.Prices.{distributors}
-use Rattle.fixing.specs.Average.{ownPart, ownSum, linesAmount, suppliedEnergy, averagePrice, energyList, averageList}
+use Rattle.fixing.specs.Average.{ownPart, ownSum, linesAmount, suppliedEnergy, averagePrice, energyList}
+use Rattle.fixing.specs.Average.{averageList}
 use Rattle.fixing.specs.Required.{OwnLines, AcceptedLines}
 use Rattle.fixing.proofs.AverageLaws.{energy-at, supplied-some}
 
-pub own-lines : (n : ℕ) (lines : List ℕ) → n ≤ mostDistributors → lineCount lines ≤ mostLines → linesInRange n lines ≡ true → OwnLines lines
+pub own-lines : (n : ℕ) (lines : List ℕ) → n ≤ mostDistributors → lineCount lines ≤ mostLines →
+    linesInRange n lines ≡ true → OwnLines lines
 own-lines n lines few count h =
     record {
       checked = checked-lines n lines count h;
@@ -66,7 +68,8 @@ energies-most n lines ok (suc m) p =
     let ih = energies-most n lines ok m (omega arith) in
     omega (
       arith,
-      sum-add n (λ i. sumBelow m (λ j. cond (eqb (lineOf lines j .distributor) i) (lineOf lines j .energy) 0)) (λ i. cond (eqb (lineOf lines m .distributor) i) (lineOf lines m .energy) 0),
+      sum-add n (λ i. sumBelow m (λ j. cond (eqb (lineOf lines j .distributor) i) (lineOf lines j .energy) 0))
+          (λ i. cond (eqb (lineOf lines m .distributor) i) (lineOf lines m .energy) 0),
       own-once n (lineOf lines m .energy) (lineOf lines m .distributor),
       ok .checked .facts m (omega arith) .energyMost,
     )
@@ -84,14 +87,16 @@ module _ (n : ℕ) (prices : List PesoPrice) (lines : List ℕ) (ok : AcceptedLi
   amount-least i =
       rw (← sum-scale (lineCount lines) leastPrice (ownPart lines energyOf i))
       (sum-le-sum (lineCount lines) _ _
-      (λ j p. pick-le (eqb (lineOf lines j .distributor) i) (energyOf j) (price j * energyOf j) leastPrice (mul-le-mul-right (energyOf j) (ok .least j p))))
+      (λ j p. pick-le (eqb (lineOf lines j .distributor) i) (energyOf j) (price j * energyOf j) leastPrice
+      (mul-le-mul-right (energyOf j) (ok .least j p))))
 
   amount-most : (i : ℕ) → linesAmount price lines i ≤ mostPrice * suppliedEnergy lines i
   unfolding suppliedEnergy linesAmount ownSum ownPart
   amount-most i =
       rw (← sum-scale (lineCount lines) mostPrice (ownPart lines energyOf i))
       (sum-le-sum (lineCount lines) _ _
-      (λ j p. pick-ge (eqb (lineOf lines j .distributor) i) (energyOf j) (price j * energyOf j) mostPrice (mul-le-mul-right (energyOf j) (ok .priced .priced j p))))
+      (λ j p. pick-ge (eqb (lineOf lines j .distributor) i) (energyOf j) (price j * energyOf j) mostPrice
+      (mul-le-mul-right (energyOf j) (ok .priced .priced j p))))
 
   module _ (i : ℕ) (p : i < n) where
     some : 1 ≤ suppliedEnergy lines i
@@ -99,7 +104,9 @@ module _ (n : ℕ) (prices : List PesoPrice) (lines : List ℕ) (ok : AcceptedLi
 
     average-is : getD (averageList n prices lines) i noPrice .0 ≡ averagePrice price lines i
     unfolding averageList
-    average-is = ap (λ x. x .0) (filled-at mostDistributors noPrice (λ k. record { 0 = averagePrice price lines k }) n i p (omega (arith, ok .few)))
+    average-is =
+        ap (λ x. x .0) (filled-at mostDistributors noPrice (λ k. record { 0 = averagePrice price lines k }) n i p
+        (omega (arith, ok .few)))
 
     average-least : leastPrice ≤ averagePrice price lines i
     unfolding averagePrice
@@ -131,6 +138,7 @@ module _ (n : ℕ) (prices : List PesoPrice) (lines : List ℕ) (ok : AcceptedLi
       }
 
   -- the same for lists that are told to be these
-  pub listed-range : (averages : List PesoPrice) (energies : List Energy) → averages ≡ averageList n prices lines → energies ≡ energyList lines →
+  pub listed-range : (averages : List PesoPrice) (energies : List Energy) → averages ≡ averageList n prices lines →
+      energies ≡ energyList lines →
       InRange (distributors n averages energies)
   listed-range averages energies e f = rw (e, f) accepted-range

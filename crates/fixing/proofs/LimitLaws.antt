@@ -6,7 +6,8 @@ use mathlib.Core.Option.{Option, none, some}
 use Prim.Native.Nat.{ℕ, zero, suc, _+_, _-_, _*_, _≤_, _<_, min}
 use native.Mathlib.Omega.{arith}
 use native.Mathlib.Decide.{decLt}
-use native.Mathlib.Nat.{zero-add, mul-le-mul, mul-le-mul-right, mul-lt-mul-of-pos-right, lt-of-mul-lt-mul-left, lt-div-mul-add, le-div-iff-mul-le, div-le-of-le-mul}
+use native.Mathlib.Nat.{zero-add, mul-le-mul, mul-le-mul-right, mul-lt-mul-of-pos-right, lt-of-mul-lt-mul-left}
+use native.Mathlib.Nat.{lt-div-mul-add, le-div-iff-mul-le, div-le-of-le-mul}
 use lib.Dec.{eqb}
 use lib.IntN.{ℤ, pos, negsuc, natAbs, _+ℤ_, _-ℤ_, _*ℤ_}
 use lib.Signed.{_≤ℤ_}
@@ -17,13 +18,19 @@ use Rattle.numbers.proofs.TestLaws.{any-none}
 use Rattle.numbers.proofs.FirstLaws.{first-is, first-never}
 use Rattle.numbers.proofs.RoundingLaws.{half-up-le, away-size}
 use Rattle.numbers.proofs.SignedLaws.{sub-ge, sub-cases, size-mul}
-use Rattle.fixing.specs.Limit.{Distributors, InRange, contractTotal, totalEnergy, limit, sumInside, sumOutside, roundSurcharge, aboveLimit, cappedAfter, joinsAfter, anyJoinsAfter, anyAbove, orZero, roundsBeforeLast, rounds, capped, surcharge, finalPrice, charge, collected, residue}
+use Rattle.fixing.specs.Limit.{Distributors, InRange, contractTotal, totalEnergy, limit, sumInside, sumOutside}
+use Rattle.fixing.specs.Limit.{roundSurcharge, aboveLimit, cappedAfter, joinsAfter, anyJoinsAfter, anyAbove}
+use Rattle.fixing.specs.Limit.{orZero, roundsBeforeLast, rounds, capped, surcharge, finalPrice, charge, collected}
+use Rattle.fixing.specs.Limit.{residue}
 use Rattle.fixing.specs.Charge.{pricesCollect, largestCharge, collectedAt}
 use Rattle.fixing.specs.Sector.{sectorCharge}
 use Rattle.numbers.proofs.SearchLaws.{any-where, any-some, any-adds, sum-lt, Fails, first-fails}
-use Rattle.fixing.proofs.PriceLaws.{paidInside, energyInside, energyOutside, inside-outside, above-true, above-false, price-min, collectedBy, collected-by, collected-same}
-use Rattle.fixing.proofs.RoundLaws.{Before, inside-pays, round-outside, round-covers, round-least, round-below, round-short, round-rises, round-next}
-use Rattle.fixing.proofs.GreatestLaws.{greatest-at, greatest-le, charge-le, price-le, price-lt, part-le, signed-collect}
+use Rattle.fixing.proofs.PriceLaws.{paidInside, energyInside, energyOutside, inside-outside, above-true}
+use Rattle.fixing.proofs.PriceLaws.{above-false, price-min, collectedBy, collected-by, collected-same}
+use Rattle.fixing.proofs.RoundLaws.{Before, inside-pays, round-outside, round-covers, round-least, round-below}
+use Rattle.fixing.proofs.RoundLaws.{round-short, round-rises, round-next}
+use Rattle.fixing.proofs.GreatestLaws.{greatest-at, greatest-le, charge-le, price-le, price-lt, part-le}
+use Rattle.fixing.proofs.GreatestLaws.{signed-collect}
 
 -- the surcharge of the round before: 0 before the first round
 unfoldable pub surchargeBefore : Distributors → ℕ → ℕ
@@ -73,8 +80,13 @@ module _ (d : Distributors) (r : InRange d) where
   pub limit-over : contractTotal d + 49 * totalEnergy d < limit d * totalEnergy d
   unfolding limit
   limit-over =
-      omega
-      (arith, total-least, energy-some, lt-div-mul-add {a = 105 * contractTotal d} {b = 100 * totalEnergy d} (omega (arith, energy-some)))
+      omega (
+        arith,
+        total-least,
+        energy-some,
+        lt-div-mul-add {a = 105 * contractTotal d} {b = 100 * totalEnergy d}
+            (omega (arith, energy-some)),
+      )
 
   pub limit-least : 1050 ≤ limit d
   unfolding limit
@@ -124,14 +136,17 @@ module _ (d : Distributors) (r : InRange d) where
 
   -- once somebody is above the limit the set pays more than the limit in every round, so that the difference of the
   -- two sums is the paper's signed sum
-  pub inside-over : anyAbove d ≡ true → (k : ℕ) → limit d * sumInside d (cappedAfter d k) (d .energy) < sumInside d (cappedAfter d k) (λ i. d .average i * d .energy i)
+  pub inside-over : anyAbove d ≡ true → (k : ℕ) →
+      limit d * sumInside d (cappedAfter d k) (d .energy) < sumInside d (cappedAfter d k)
+      (λ i. d .average i * d .energy i)
   inside-over h k =
       omega
       (arith, inside-pays d (cappedAfter d k) _ (before k) 1 (omega arith) (omega (arith, above-short h)))
 
   -- a round adds those who join. Each energy is at least 1, so that the energy inside tells whether anybody is in the
   -- starting set, and whether anybody joins in a round
-  joins-add : (f : ℕ → ℕ) (k : ℕ) → sumInside d (cappedAfter d (suc k)) f ≡ sumInside d (cappedAfter d k) f + sumInside d (joinsAfter d k) f
+  joins-add : (f : ℕ → ℕ) (k : ℕ) →
+      sumInside d (cappedAfter d (suc k)) f ≡ sumInside d (cappedAfter d k) f + sumInside d (joinsAfter d k) f
   unfolding sumInside cappedAfter joinsAfter
   joins-add f k = sum-same (d .count) _ _ (λ i p. join-part (cappedAfter d k i) _ (f i)) ∙ sum-add (d .count) _ _
 
@@ -139,7 +154,9 @@ module _ (d : Distributors) (r : InRange d) where
   unfolding anyAbove cappedAfter sumInside
   above-energy = any-adds (d .count) _ (d .energy) (r .supplied) 0 _ (sym (zero-add _))
 
-  pub joins-energy : (k : ℕ) → anyJoinsAfter d k ≡ not (eqb (sumInside d (cappedAfter d (suc k)) (d .energy)) (sumInside d (cappedAfter d k) (d .energy)))
+  pub joins-energy : (k : ℕ) →
+      anyJoinsAfter d k ≡ not (eqb (sumInside d (cappedAfter d (suc k)) (d .energy))
+      (sumInside d (cappedAfter d k) (d .energy)))
   unfolding anyJoinsAfter sumInside
   joins-energy k = any-adds (d .count) _ (d .energy) (r .supplied) _ _ (joins-add (d .energy) k)
 
@@ -159,7 +176,8 @@ module _ (d : Distributors) (r : InRange d) where
   outsiders-some k =
       let most : energyOutside d (cappedAfter d k) ≤ totalEnergy d * outsiders d k =
       rw (← sum-scale (d .count) (totalEnergy d) _)
-      (sum-le-sum (d .count) _ _ (λ i p. count-le (cappedAfter d k i) (d .energy i) (totalEnergy d) (sum-part (d .count) (d .energy) i p))) in
+      (sum-le-sum (d .count) _ _
+      (λ i p. count-le (cappedAfter d k i) (d .energy i) (totalEnergy d) (sum-part (d .count) (d .energy) i p))) in
       lt-of-mul-lt-mul-left (totalEnergy d) {m = 0} (omega (arith, outside-some k))
 
   all-counted : (k : ℕ) → insiders d k + outsiders d k ≤ d .count
@@ -178,7 +196,8 @@ module _ (d : Distributors) (r : InRange d) where
       omega
       (arith, joined-all k f, outsiders-some k, all-counted k, any-some (d .count) _ (λ i. 1) (λ i p. omega arith) h)
 
-  pub last-is : (k : ℕ) → ((j : ℕ) → j < k → anyJoinsAfter d j ≡ true) → anyJoinsAfter d k ≡ false → roundsBeforeLast d ≡ k
+  pub last-is : (k : ℕ) → ((j : ℕ) → j < k → anyJoinsAfter d j ≡ true) → anyJoinsAfter d k ≡ false →
+      roundsBeforeLast d ≡ k
   unfolding roundsBeforeLast
   last-is k f e =
       let stop : ℕ → Option ℕ = λ j. cond (anyJoinsAfter d j) none (some j) in
@@ -220,7 +239,8 @@ module _ (d : Distributors) (r : InRange d) where
   unfolding surcharge
   surcharge-last = go (anyAbove d) refl
     where
-      none-short : (t : ℕ) → ((s : ℕ) → s < t → collectedAt d s < contractTotal d) → contractTotal d ≤ collectedAt d 0 → 0 ≡ t
+      none-short : (t : ℕ) → ((s : ℕ) → s < t → collectedAt d s < contractTotal d) → contractTotal d ≤ collectedAt d 0 →
+          0 ≡ t
       none-short zero f p = refl
       none-short (suc t) f p = absurd (omega (arith, f 0 (omega arith)))
 
@@ -232,7 +252,8 @@ module _ (d : Distributors) (r : InRange d) where
   unfolding capped anyJoinsAfter joinsAfter
   last-told i p =
       rw surcharge-last
-      (settled (capped d i) _ (round-next d mean-below (capped d) _ at-end .told i p) (any-none (d .count) _ last-stops i p))
+      (settled (capped d i) _ (round-next d mean-below (capped d) _ at-end .told i p)
+      (any-none (d .count) _ last-stops i p))
 
   -- the final prices
   pub final-min : (i : ℕ) → i < d .count → finalPrice d i ≡ min (limit d) (d .average i + surcharge d)
@@ -278,7 +299,8 @@ module _ (d : Distributors) (r : InRange d) where
   surcharge-most = rw surcharge-last (round-most (roundsBeforeLast d))
 
   -- they collect the contract total, and less than one unit of surcharge more
-  collected-paid : collected d + paidInside d (capped d) ≡ limit d * energyInside d (capped d) + roundSurcharge d (capped d) * energyOutside d (capped d) + contractTotal d
+  collected-paid : collected d + paidInside d (capped d) ≡ limit d * energyInside d (capped d) + roundSurcharge d
+      (capped d) * energyOutside d (capped d) + contractTotal d
   unfolding collected finalPrice collectedBy
   collected-paid = rw (← surcharge-last) (collected-by d (capped d) (surcharge d))
 
@@ -314,7 +336,8 @@ module _ (d : Distributors) (r : InRange d) where
 
   -- every list of whole prices of either sign, none above the limit, that collects at least R has a largest charge at
   -- least as great
-  pub smallest-largest : (q : ℕ → ℤ) → ((i : ℕ) → i < d .count → q i ≤ℤ pos (limit d)) → pos (contractTotal d) ≤ℤ pricesCollect d q → largestCharge d (λ i. pos (finalPrice d i)) ≤ℤ largestCharge d q
+  pub smallest-largest : (q : ℕ → ℤ) → ((i : ℕ) → i < d .count → q i ≤ℤ pos (limit d)) →
+      pos (contractTotal d) ≤ℤ pricesCollect d q → largestCharge d (λ i. pos (finalPrice d i)) ≤ℤ largestCharge d q
   unfolding pricesCollect largestCharge contractTotal collectedAt
   smallest-largest q h e =
       go (largestCharge d q) (λ i p. greatest-at (d .count - 1) _ i (omega arith))
@@ -327,11 +350,13 @@ module _ (d : Distributors) (r : InRange d) where
       reach = signed-collect (d .count) (contractTotal d) q (d .energy) e
 
       -- by the largest charge of the prices: from 0 up it is no less than the surcharge, and below 0 it cannot be
-      go : (z : ℤ) → ((i : ℕ) → i < d .count → (q i -ℤ pos (d .average i)) ≤ℤ z) → largestCharge d (λ i. pos (finalPrice d i)) ≤ℤ z
+      go : (z : ℤ) → ((i : ℕ) → i < d .count → (q i -ℤ pos (d .average i)) ≤ℤ z) →
+          largestCharge d (λ i. pos (finalPrice d i)) ≤ℤ z
       go (pos m) f =
           let most : bring ≤ collectedAt d m =
           sum-le-sum (d .count) _ _
-          (λ i p. mul-le-mul-right (d .energy i) (omega (arith, part-le (q i) (limit d) (h i p), price-le (q i) (d .average i) m (f i p)))) in
+          (λ i p. mul-le-mul-right (d .energy i)
+          (omega (arith, part-le (q i) (limit d) (h i p), price-le (q i) (d .average i) m (f i p)))) in
           let enough : surcharge d ≤ m = surcharge-enough m (omega (arith, reach)) in
           greatest-le (d .count - 1) _ (pos m)
           (λ i p. charge-le (finalPrice d i) (d .average i) m (omega (arith, final-min i (omega (arith, r .some)))))
@@ -344,7 +369,8 @@ module _ (d : Distributors) (r : InRange d) where
           absurd (omega (arith, reach))
 
 -- what prices that are not below 0 collect is the plain sum
-pub collect-whole : (d : Distributors) (f : ℕ → ℕ) → pricesCollect d (λ i. pos (f i)) ≡ pos (sumBelow (d .count) (λ i. f i * d .energy i))
+pub collect-whole : (d : Distributors) (f : ℕ → ℕ) →
+    pricesCollect d (λ i. pos (f i)) ≡ pos (sumBelow (d .count) (λ i. f i * d .energy i))
 unfolding pricesCollect signedSumBelow sumBelow
 collect-whole d f = below (d .count)
   where

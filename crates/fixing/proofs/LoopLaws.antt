@@ -10,12 +10,14 @@ use borrow.Author.Tests.{eq-eqb, ne-eqb}
 use Rattle.numbers.specs.Rounding.{divideUp}
 use Rattle.numbers.specs.Units.{noPrice}
 use Rattle.numbers.proofs.BoolLaws.{by-last}
-use Rattle.fixing.specs.Limit.{Distributors, InRange, contractTotal, totalEnergy, limit, roundSurcharge, aboveLimit, cappedAfter, anyJoinsAfter, anyAbove, rounds, capped, surcharge}
+use Rattle.fixing.specs.Limit.{Distributors, InRange, contractTotal, totalEnergy, limit, roundSurcharge}
+use Rattle.fixing.specs.Limit.{aboveLimit, cappedAfter, anyJoinsAfter, anyAbove, rounds, capped, surcharge}
 use Rattle.fixing.specs.Prices.{roundSums, lastRound}
 use Rattle.fixing.specs.declared.prices.RoundSums.{RoundSums}
 use Rattle.fixing.proofs.PriceLaws.{inside-outside}
 use Rattle.fixing.proofs.PassLaws.{total-fits, sums-same}
-use Rattle.fixing.proofs.LimitLaws.{surchargeBefore, outside-some, capped-above, round-most, inside-over, above-energy, joins-energy, joined-below, last-is}
+use Rattle.fixing.proofs.LimitLaws.{surchargeBefore, outside-some, capped-above, round-most, inside-over}
+use Rattle.fixing.proofs.LimitLaws.{above-energy, joins-energy, joined-below, last-is}
 
 -- what is known before a round of the code: `made` rounds were made, and somebody joined in each
 pub record Round (d : Distributors) (top : ℕ) (sums : RoundSums) (made : ℕ) : Type 0 where
@@ -26,7 +28,8 @@ pub record Round (d : Distributors) (top : ℕ) (sums : RoundSums) (made : ℕ) 
   pub summed : sums ≡ roundSums d (cappedAfter d made)
 
 -- the first pass: nobody is inside, and the answer is at hand; or the first round comes
-module _ {d : Distributors} {top : ℕ} {sums : RoundSums} (range : InRange d) (topped : top ≡ limit d) (passed : sums ≡ roundSums d (aboveLimit d 0)) where
+module _ {d : Distributors} {top : ℕ} {sums : RoundSums} (range : InRange d) (topped : top ≡ limit d)
+    (passed : sums ≡ roundSums d (aboveLimit d 0)) where
   summed : sums ≡ roundSums d (cappedAfter d 0)
   unfolding cappedAfter
   summed = passed
@@ -94,11 +97,19 @@ module _ {d : Distributors} {top : ℕ} {sums : RoundSums} {made : ℕ} (at : Ro
             range = at .range;
             topped = at .topped;
             above = at .above;
-            joined = rw add-one (by-last made (λ j. anyJoinsAfter d j ≡ true) (at .joined) (rw (joins-is, ne-eqb (next .inside .0) (sums .inside .0) h)));
+            joined =
+                rw add-one (by-last made (λ j. anyJoinsAfter d j ≡ true) (at .joined)
+                (rw (joins-is, ne-eqb (next .inside .0) (sums .inside .0) h)));
             summed = rw add-one next-is;
           }
 
-      pub round-last : next .inside .0 ≡ sums .inside .0 → record { surcharge = record { 0 = raise }; rounds = made + 1 } ≡ lastRound d
+      pub round-last : next .inside .0 ≡ sums .inside .0 →
+          record { surcharge = record { 0 = raise }; rounds = made + 1 } ≡ lastRound d
       unfolding surcharge rounds capped
       round-last h =
-          rw (at .above, last-is d (at .range) made (at .joined) (rw (joins-is, eq-eqb (next .inside .0) (sums .inside .0) h)), raise-is)
+          rw (
+            at .above,
+            last-is d (at .range) made (at .joined)
+                (rw (joins-is, eq-eqb (next .inside .0) (sums .inside .0) h)),
+            raise-is,
+          )

@@ -22,7 +22,8 @@ abbrev pub energyOutside : Distributors → (ℕ → Bool) → ℕ
 energyOutside d set = sumOutside d set (d .energy)
 
 -- a sum inside a set and the sum outside it are the whole
-pub inside-outside : (d : Distributors) (set : ℕ → Bool) (f : ℕ → ℕ) → sumInside d set f + sumOutside d set f ≡ sumBelow (d .count) f
+pub inside-outside : (d : Distributors) (set : ℕ → Bool) (f : ℕ → ℕ) →
+    sumInside d set f + sumOutside d set f ≡ sumBelow (d .count) f
 unfolding sumInside sumOutside sumBelow
 inside-outside d set f = below (d .count)
   where
@@ -45,7 +46,8 @@ above-false d s i = ltb-false (limit d) (d .average i + s)
 
 -- a price is the lesser of limit and raised average, where the set is those whom a surcharge of s or s + 1 puts above
 -- the limit
-pub price-min : (d : Distributors) (i s t : ℕ) → s ≤ t → t ≤ s + 1 → cond (aboveLimit d t i) (limit d) (d .average i + s) ≡ min (limit d) (d .average i + s)
+pub price-min : (d : Distributors) (i s t : ℕ) → s ≤ t → t ≤ s + 1 →
+    cond (aboveLimit d t i) (limit d) (d .average i + s) ≡ min (limit d) (d .average i + s)
 price-min d i s t a b = go (aboveLimit d t i) refl
   where
     go : (c : Bool) → aboveLimit d t i ≡ c → cond c (limit d) (d .average i + s) ≡ min (limit d) (d .average i + s)
@@ -57,7 +59,8 @@ module _ (d : Distributors) (set : ℕ → Bool) (s : ℕ) where
   collectedBy = sumBelow (d .count) (λ i. cond (set i) (limit d) (d .average i + s) * d .energy i)
 
   -- beside the averages: the set pays the limit instead, and those outside pay s more
-  pub collected-by : collectedBy + paidInside d set ≡ limit d * energyInside d set + s * energyOutside d set + contractTotal d
+  pub collected-by : collectedBy + paidInside d set ≡ limit d * energyInside d set + s * energyOutside d set
+      + contractTotal d
   unfolding collectedBy sumInside sumOutside contractTotal sumBelow
   collected-by = below (limit d) (d .average) (d .energy) (d .count)
     where
@@ -65,7 +68,9 @@ module _ (d : Distributors) (set : ℕ → Bool) (s : ℕ) where
       part true l p e = omega arith
       part false l p e = omega arith
 
-      below : (l : ℕ) (p e : ℕ → ℕ) (k : ℕ) → sumBelow k (λ i. cond (set i) l (p i + s) * e i) + sumBelow k (λ i. cond (set i) (p i * e i) 0) ≡ l * sumBelow k (λ i. cond (set i) (e i) 0) + s * sumBelow k (λ i. cond (set i) 0 (e i)) + sumBelow k (λ i. p i * e i)
+      below : (l : ℕ) (p e : ℕ → ℕ) (k : ℕ) →
+          sumBelow k (λ i. cond (set i) l (p i + s) * e i) + sumBelow k (λ i. cond (set i) (p i * e i) 0) ≡ l * sumBelow
+          k (λ i. cond (set i) (e i) 0) + s * sumBelow k (λ i. cond (set i) 0 (e i)) + sumBelow k (λ i. p i * e i)
       below l p e zero = omega arith
       below l p e (suc k) = omega (arith, below l p e k, part (set k) l (p k) (e k))
 
@@ -80,6 +85,7 @@ module _ (d : Distributors) (set : ℕ → Bool) (s : ℕ) where
       part false p = omega arith
 
   -- and just as much where the set is those whom a surcharge of s or s + 1 puts above the limit
-  pub collected-same : (t : ℕ) → s ≤ t → t ≤ s + 1 → ((i : ℕ) → i < d .count → set i ≡ aboveLimit d t i) → collectedBy ≡ collectedAt d s
+  pub collected-same : (t : ℕ) → s ≤ t → t ≤ s + 1 → ((i : ℕ) → i < d .count → set i ≡ aboveLimit d t i) →
+      collectedBy ≡ collectedAt d s
   unfolding collectedBy collectedAt
   collected-same t a b told = sum-same (d .count) _ _ (λ i p. rw (told i p, price-min d i s t a b))

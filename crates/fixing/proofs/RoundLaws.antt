@@ -11,7 +11,8 @@ use Rattle.numbers.proofs.SumLaws.{sum-le-sum}
 use Rattle.numbers.proofs.RoundingLaws.{divide-up-covers, divide-up-least}
 use Rattle.fixing.specs.Limit.{Distributors, contractTotal, totalEnergy, limit, roundSurcharge, aboveLimit}
 use Rattle.fixing.specs.Charge.{collectedAt}
-use Rattle.fixing.proofs.PriceLaws.{paidInside, energyInside, energyOutside, inside-outside, collected-by, collected-le, collected-same}
+use Rattle.fixing.proofs.PriceLaws.{paidInside, energyInside, energyOutside, inside-outside, collected-by}
+use Rattle.fixing.proofs.PriceLaws.{collected-le, collected-same}
 
 -- what is known before a round, of its set and the surcharge t of the round before: the set is those whom t puts above
 -- the limit, and no surcharge below t collects enough
@@ -37,14 +38,21 @@ unfolding collectedAt contractTotal
 none-collects d = sum-le-sum (d .count) _ _ (λ i p. mul-le-mul-right (d .energy i) (omega arith))
 
 -- one less than the surcharge of the round before does not cover the set's excess
-lead : (d : Distributors) (set : ℕ → Bool) (m : ℕ) → Before d set (suc m) → limit d * energyInside d set + m * energyOutside d set < paidInside d set
+lead : (d : Distributors) (set : ℕ → Bool) (m : ℕ) → Before d set (suc m) →
+    limit d * energyInside d set + m * energyOutside d set < paidInside d set
 lead d set m b =
-    omega
-    (arith, collected-same d set m (suc m) (omega arith) (omega arith) (b .told), collected-by d set m, b .short m (omega arith))
+    omega (
+      arith,
+      collected-same d set m (suc m) (omega arith) (omega arith) (b .told),
+      collected-by d set m,
+      b .short m
+          (omega arith),
+    )
 
 -- the set pays as much above the limit as is missing without a surcharge, up to 1: so no less than the limit, and more
 -- where something is missing
-pub inside-pays : (d : Distributors) (set : ℕ → Bool) (t : ℕ) → Before d set t → (x : ℕ) → x ≤ 1 → collectedAt d 0 + x ≤ contractTotal d → limit d * energyInside d set + x ≤ paidInside d set
+pub inside-pays : (d : Distributors) (set : ℕ → Bool) (t : ℕ) → Before d set t → (x : ℕ) → x ≤ 1 →
+    collectedAt d 0 + x ≤ contractTotal d → limit d * energyInside d set + x ≤ paidInside d set
 inside-pays d set zero b x p h =
     omega (arith, collected-same d set 0 0 (omega arith) (omega arith) (b .told), collected-by d set 0)
 inside-pays d set (suc m) b x p h = omega (arith, lead d set m b)
@@ -70,7 +78,8 @@ module _ (d : Distributors) (over : contractTotal d < limit d * totalEnergy d) (
     unfolding roundSurcharge
     round-covers = omega (arith, pays-limit, divide-up-covers (excess d set) (energyOutside d set) round-outside)
 
-    pub round-least : limit d * energyInside d set + roundSurcharge d set * energyOutside d set < paidInside d set + energyOutside d set
+    pub round-least : limit d * energyInside d set + roundSurcharge d set * energyOutside d set < paidInside d set
+        + energyOutside d set
     unfolding roundSurcharge
     round-least = omega (arith, pays-limit, divide-up-least (excess d set) (energyOutside d set) round-outside)
 
@@ -90,7 +99,12 @@ module _ (d : Distributors) (over : contractTotal d < limit d * totalEnergy d) (
   round-rises (suc m) b =
       lt-of-mul-lt-mul-right (energyOutside d set) (omega (arith, lead d set m b, round-covers (suc m) b))
 
-  pub round-next : (t : ℕ) → Before d set t → Before d (λ i. set i || aboveLimit d (roundSurcharge d set) i) (roundSurcharge d set)
+  pub round-next : (t : ℕ) → Before d set t →
+      Before d (λ i. set i || aboveLimit d (roundSurcharge d set) i) (roundSurcharge d set)
   unfolding aboveLimit
   round-next t b =
-      record { told = λ i p. rw (b .told i p) (above-grows (limit d) (d .average i) t (roundSurcharge d set) (round-rises t b)); short = round-short t b }
+      record {
+        told = λ i p. rw (b .told i p)
+            (above-grows (limit d) (d .average i) t (roundSurcharge d set) (round-rises t b));
+        short = round-short t b;
+      }

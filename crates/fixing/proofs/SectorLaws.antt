@@ -15,7 +15,8 @@ use Rattle.numbers.proofs.BoolLaws.{and-left}
 use Rattle.numbers.proofs.TestLaws.{all-at}
 use Rattle.numbers.proofs.ListLaws.{filled-none, filled-more, filled-same}
 use Rattle.fixing.specs.Sector.{sectorCharge}
-use Rattle.fixing.specs.Sector.{mostFactor, factorAt, sectorPresent, hasSector, sectorsAllowed, chargedPlaces, sectorCharges, noCharges}
+use Rattle.fixing.specs.Sector.{mostFactor, factorAt, sectorPresent, hasSector, sectorsAllowed, chargedPlaces}
+use Rattle.fixing.specs.Sector.{sectorCharges, noCharges}
 use Rattle.fixing.specs.declared.sector.SectorCharges.{SectorCharges}
 
 module _ (charge : ℕ → ℤ) (sectors : List ℕ) where
@@ -27,24 +28,33 @@ module _ (charge : ℕ → ℤ) (sectors : List ℕ) where
       (sym (filled-none 320 (pos 0) _) ∙ filled-none 320 (pos 0) _)
 
   -- one place more, with its presence and its charge
-  pub places-more : (k : ℕ) (force : SectorCharges) (p : Bool) (z : ℤ) → k < 320 → force ≡ chargedPlaces k charge sectors → p ≡ sectorPresent sectors k → z ≡ sectorCharge (charge (k / sectorCount)) (factorAt sectors k) → _≡_ {A = SectorCharges} (record { present = set (force .present) k p; charges = set (force .charges) k z }) (chargedPlaces (k + 1) charge sectors)
+  pub places-more : (k : ℕ) (force : SectorCharges) (p : Bool) (z : ℤ) → k < 320 →
+      force ≡ chargedPlaces k charge sectors → p ≡ sectorPresent sectors k →
+      z ≡ sectorCharge (charge (k / sectorCount)) (factorAt sectors k) →
+      _≡_ {A = SectorCharges} (record { present = set (force .present) k p; charges = set (force .charges) k z })
+      (chargedPlaces (k + 1) charge sectors)
   unfolding chargedPlaces
   places-more k force p z few e f g =
       ap₂ {C = SectorCharges} (λ x y. record { present = x; charges = y })
       (rw (e, f) (filled-more 320 false (sectorPresent sectors) k few))
       (rw (e, g) (filled-more 320 (pos 0) (λ i. sectorCharge (charge (i / sectorCount)) (factorAt sectors i)) k few))
 
-pub allowed-factor : (n : ℕ) (sectors : List ℕ) → sectorsAllowed n sectors ≡ true → (k : ℕ) → k < n * sectorCount → factorAt sectors k ≤ mostFactor
+pub allowed-factor : (n : ℕ) (sectors : List ℕ) → sectorsAllowed n sectors ≡ true → (k : ℕ) → k < n * sectorCount →
+    factorAt sectors k ≤ mostFactor
 unfolding sectorsAllowed
 allowed-factor n sectors h k p =
     leb-true _ _
     (all-at (n * sectorCount) (λ i. leb (factorAt sectors i) mostFactor)
-    (and-left (allBelow (n * sectorCount) (λ i. leb (factorAt sectors i) mostFactor)) (allBelow n (hasSector sectors)) h)
+    (and-left (allBelow (n * sectorCount) (λ i. leb (factorAt sectors i) mostFactor)) (allBelow n (hasSector sectors))
+    h)
     k p)
 
 -- charges that agree for the n distributors charge their sectors alike
-pub sectors-same : (n : ℕ) (f g : ℕ → ℤ) (sectors : List ℕ) → ((i : ℕ) → i < n → f i ≡ g i) → sectorCharges n f sectors ≡ sectorCharges n g sectors
+pub sectors-same : (n : ℕ) (f g : ℕ → ℤ) (sectors : List ℕ) → ((i : ℕ) → i < n → f i ≡ g i) →
+    sectorCharges n f sectors ≡ sectorCharges n g sectors
 unfolding sectorCharges chargedPlaces
 sectors-same n f g sectors h =
-    ap {B = SectorCharges} (λ q. record { present = filledBelow 320 false (n * sectorCount) (sectorPresent sectors); charges = q })
-    (filled-same 320 (pos 0) (n * sectorCount) _ _ (λ k p. ap (λ z. sectorCharge z (factorAt sectors k)) (h (k / sectorCount) (omega arith))))
+    ap {B = SectorCharges} (λ q. record
+    { present = filledBelow 320 false (n * sectorCount) (sectorPresent sectors); charges = q })
+    (filled-same 320 (pos 0) (n * sectorCount) _ _
+    (λ k p. ap (λ z. sectorCharge z (factorAt sectors k)) (h (k / sectorCount) (omega arith))))

@@ -1,5 +1,5 @@
--- Laws of the verdict on an input: what each check that is passed lets the code go on with, what the fixing comes to where a
--- check is met, and that its verdict has the number and values of the checks. Assumes nothing.
+-- Laws of the verdict on an input: what each check that is passed lets the code go on with, what the fixing comes to
+-- where a check is met, and that its verdict has the number and values of the checks. Assumes nothing.
 use mathlib.Core.Path.{_≡_, refl, sym, _∙_, ap}
 use mathlib.Core.Bool.{true, false}
 use mathlib.Core.List.{List}
@@ -15,7 +15,8 @@ use Rattle.numbers.specs.declared.refusal.Verdict.{Verdict}
 use Rattle.numbers.specs.declared.refusal.Verdict.the-variants.{Passed, Refused}
 use Rattle.numbers.specs.declared.units.PesoPrice.{PesoPrice}
 use Rattle.numbers.proofs.ListLaws.{filled-at}
-use Rattle.numbers.proofs.CheckLaws.{FirstPass, AllTold, passes, refused-unless, passed-test, verdict-from, all-passed, check-told, judged}
+use Rattle.numbers.proofs.CheckLaws.{FirstPass, AllTold, passes, refused-unless, passed-test, verdict-from, all-passed}
+use Rattle.numbers.proofs.CheckLaws.{check-told, judged}
 use Rattle.series.specs.Series.{valuesInRange}
 use Rattle.series.specs.Required.{TableInRange}
 use Rattle.series.proofs.SeriesLaws.{table-in-range}
@@ -39,10 +40,12 @@ use Rattle.fixing.proofs.InputLaws.{own-lines, accepted-range}
 
 -- lines are looked for before months: a distributor without line is 9, whatever months are missing
 pub no-line : (n : ℕ) (input : FixingInput) → ranged n input ≡ true → valuesInRange (input .series) ≡ true →
-    sectorsAllowed n (input .sectors) ≡ true → supplied n input ≡ false → verdictOf (inputChecks n input) ≡ Refused NoLine
+    sectorsAllowed n (input .sectors) ≡ true → supplied n input ≡ false → verdictOf (inputChecks n input) ≡ Refused
+    NoLine
 unfolding FirstPass inputChecks
 no-line n input a b c =
-    refused-unless 3 (inputChecks n input) 9 _ NoLine _ (passes OutOfRange a, (passes ValueTooLarge b, (passes WrongSector c, tt))) refl
+    refused-unless 3 (inputChecks n input) 9 _ NoLine _
+    (passes OutOfRange a, (passes ValueTooLarge b, (passes WrongSector c, tt))) refl
 
 abbrev referenceOf : FixingInput → ℕ → PesoPrice
 referenceOf input = referencePrice (inputMean input) (input .numbers) (input .lines)
@@ -63,7 +66,8 @@ module _ (n : ℕ) (input : FixingInput) where
     checked-table table e = rw e (table-in-range (input .series) (ok .small))
 
     -- references of which none is out of bounds can be averaged
-    pub checked-accepted : beyondLine input ≡ none → (prices : List PesoPrice) → prices ≡ inputReferences input → AcceptedLines n prices (input .lines)
+    pub checked-accepted : beyondLine input ≡ none → (prices : List PesoPrice) → prices ≡ inputReferences input →
+        AcceptedLines n prices (input .lines)
     unfolding inputReferences referenceList
     checked-accepted h prices e =
         record {
@@ -74,12 +78,14 @@ module _ (n : ℕ) (input : FixingInput) where
           supplied = ok .everyone;
         }
       where
-        within : (j : ℕ) → j < lineCount (input .lines) → (leastPrice ≤ referenceOf input j .0) × (referenceOf input j .0 ≤ mostPrice)
+        within : (j : ℕ) → j < lineCount (input .lines) →
+            (leastPrice ≤ referenceOf input j .0) × (referenceOf input j .0 ≤ mostPrice)
         within = search-within (inputMean input) (input .numbers) (input .lines) h
 
         listed : (j : ℕ) → j < lineCount (input .lines) → getD prices j noPrice .0 ≡ referenceOf input j .0
         listed j p =
-            rw e (ap (λ x. x .0) (filled-at mostLines noPrice (referenceOf input) (lineCount (input .lines)) j p (omega (arith, ok .lengths .lines))))
+            rw e (ap (λ x. x .0) (filled-at mostLines noPrice (referenceOf input) (lineCount (input .lines)) j p
+            (omega (arith, ok .lengths .lines))))
 
 -- the whole: a refusal, or the prices
 module _ (n : ℕ) (input : FixingInput) where
@@ -94,43 +100,58 @@ module _ (n : ℕ) (input : FixingInput) where
 
   pub input-told : AllTold (inputChecks n input)
   unfolding AllTold inputChecks
-  input-told =
+  input-told = (
+    check-told 6 (ranged n input) OutOfRange refl,
+    (
+      check-told 7 (valuesInRange (input .series)) ValueTooLarge refl,
       (
-        check-told 6 (ranged n input) OutOfRange refl,
+        check-told 8 (sectorsAllowed n (input .sectors)) WrongSector refl,
         (
-          check-told 7 (valuesInRange (input .series)) ValueTooLarge refl,
-          (
-            check-told 8 (sectorsAllowed n (input .sectors)) WrongSector refl,
-            (check-told 9 (supplied n input) NoLine refl, table-told (indexTable input) (input .numbers) (input .lines)),
-          ),
+          check-told 9 (supplied n input) NoLine refl,
+          table-told (indexTable input) (input .numbers)
+              (input .lines),
         ),
-      )
+      ),
+    ),
+  )
 
   fixing-worked : (fixing : Fixing) → fixing ≡ fixingOf n input → InputPromise n input fixing
   unfolding inputVerdict
   fixing-worked fixing e =
-      record { worked = e; judged = judged (inputChecks n input) input-told (fixing .verdict) (ap (λ (x : Fixing). x .verdict) e ∙ verdict-is) }
+      record {
+        worked = e;
+        judged = judged (inputChecks n input) input-told (fixing .verdict)
+            (ap (λ (x : Fixing). x .verdict) e ∙ verdict-is);
+      }
 
-  pub worked-refused : (fixing : Fixing) (refusal : Refusal) → fixing ≡ refusedFixing refusal → verdictOf (inputChecks n input) ≡ Refused refusal →
+  pub worked-refused : (fixing : Fixing) (refusal : Refusal) → fixing ≡ refusedFixing refusal →
+      verdictOf (inputChecks n input) ≡ Refused refusal →
       InputPromise n input fixing
   unfolding fixingOf inputVerdict
   worked-refused fixing refusal e h = fixing-worked fixing (e ∙ ap (λ v. fixingBy v (workedFixing n input)) (sym h))
 
   -- input that passed causes 6 to 9: the checks of the index table give the verdict
   module _ (ok : CheckedInput n input) where
-    table-left : verdictOf (inputChecks n input) ≡ verdictOf (tableChecks (indexTable input) (input .numbers) (input .lines))
+    table-left : verdictOf (inputChecks n input) ≡ verdictOf
+        (tableChecks (indexTable input) (input .numbers) (input .lines))
     unfolding inputChecks FirstPass
     table-left =
-        verdict-from 4 (inputChecks n input)
-        (passes OutOfRange (ok .ranges), (passes ValueTooLarge (ok .small), (passes WrongSector (ok .sectored), (passes NoLine (ok .everyone), tt))))
+        verdict-from 4 (inputChecks n input) (
+          passes OutOfRange (ok .ranges),
+          (passes ValueTooLarge (ok .small), (passes WrongSector (ok .sectored), (passes NoLine (ok .everyone), tt))),
+        )
 
     -- what the pricing of its lines says: a refusal, or references to go on with
-    module _ (table : List (List ℕ)) (e : table ≡ indexTable input) (given : References) (promise : ReferencesPromise table (input .numbers) (input .lines) given) where
-      priced : (verdict : Verdict) → given .verdict ≡ verdict → verdictOf (tableChecks (indexTable input) (input .numbers) (input .lines)) ≡ verdict
+    module _ (table : List (List ℕ)) (e : table ≡ indexTable input) (given : References)
+        (promise : ReferencesPromise table (input .numbers) (input .lines) given) where
+      priced : (verdict : Verdict) → given .verdict ≡ verdict →
+          verdictOf (tableChecks (indexTable input) (input .numbers) (input .lines)) ≡ verdict
       priced verdict v =
-          ap (λ t. verdictOf (tableChecks t (input .numbers) (input .lines))) (sym e) ∙ sym (promise .judged .answered) ∙ v
+          ap (λ t. verdictOf (tableChecks t (input .numbers) (input .lines))) (sym e) ∙ sym (promise .judged .answered)
+          ∙ v
 
-      pub priced-refused : (fixing : Fixing) (refusal : Refusal) → fixing ≡ refusedFixing refusal → given .verdict ≡ Refused refusal → InputPromise n input fixing
+      pub priced-refused : (fixing : Fixing) (refusal : Refusal) → fixing ≡ refusedFixing refusal →
+          given .verdict ≡ Refused refusal → InputPromise n input fixing
       priced-refused fixing refusal f v = worked-refused fixing refusal f (table-left ∙ priced (Refused refusal) v)
 
       module _ (v : given .verdict ≡ Passed) where
@@ -142,19 +163,25 @@ module _ (n : ℕ) (input : FixingInput) where
 
         pub priced-accepted : AcceptedLines n (given .prices) (input .lines)
         priced-accepted =
-            checked-accepted n input ok (passed-bounds (indexTable input) (input .numbers) (input .lines) (priced Passed v)) (given .prices) prices-are
+            checked-accepted n input ok
+            (passed-bounds (indexTable input) (input .numbers) (input .lines) (priced Passed v)) (given .prices)
+            prices-are
 
-        pub priced-worked : (fixing : Fixing) → fixing ≡ acceptedFixing n (averageList n (given .prices) (input .lines)) (energyList (input .lines)) (input .sectors) →
+        pub priced-worked : (fixing : Fixing) →
+            fixing ≡ acceptedFixing n (averageList n (given .prices) (input .lines)) (energyList (input .lines))
+            (input .sectors) →
             InputPromise n input fixing
         unfolding fixingOf inputVerdict workedFixing inputAverages inputEnergies
         priced-worked fixing f =
             fixing-worked fixing
-            (f ∙ ap (λ p. acceptedFixing n (averageList n p (input .lines)) (energyList (input .lines)) (input .sectors)) prices-are
+            (f ∙ ap (λ p. acceptedFixing n (averageList n p (input .lines)) (energyList (input .lines))
+            (input .sectors)) prices-are
             ∙ ap (λ x. fixingBy x (workedFixing n input)) (sym (table-left ∙ priced Passed v)))
 
   -- input that passed every check
   module _ (passed : inputVerdict n input ≡ Passed) where
-    pub passed-fixing : fixingOf n input ≡ acceptedFixing n (inputAverages n input) (inputEnergies input) (input .sectors)
+    pub passed-fixing : fixingOf n input ≡ acceptedFixing n (inputAverages n input) (inputEnergies input)
+        (input .sectors)
     unfolding fixingOf workedFixing
     passed-fixing = rw passed
 
@@ -176,4 +203,6 @@ module _ (n : ℕ) (input : FixingInput) where
           everyone = passed-test NoLine _ (all .1 .1 .1 .0);
         } in
         accepted-range n (inputReferences input) (input .lines)
-        (checked-accepted n input ok (bounds-passed (inputMean input) (input .numbers) (input .lines) (all .1 .1 .1 .1 .1 .0)) (inputReferences input) refl)
+        (checked-accepted n input ok
+        (bounds-passed (inputMean input) (input .numbers) (input .lines) (all .1 .1 .1 .1 .1 .0))
+        (inputReferences input) refl)

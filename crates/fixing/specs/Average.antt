@@ -52,4 +52,5 @@ energyList lines = listBelow mostDistributors (λ i. record { 0 = suppliedEnergy
 -- the averages of n distributors as a list; the places past n are empty
 unfoldable pub averageList : ℕ → List PesoPrice → List ℕ → List PesoPrice
 averageList n references lines =
-    filledBelow mostDistributors noPrice n (λ i. record { 0 = averagePrice (λ j. getD references j noPrice .0) lines i })
+    filledBelow mostDistributors noPrice n
+    (λ i. record { 0 = averagePrice (λ j. getD references j noPrice .0) lines i })

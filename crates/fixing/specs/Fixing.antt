@@ -1,5 +1,5 @@
--- What a fixing of input of right lengths comes to: its verdict, and, where it is accepted, averages, prices, charges and
--- sector charges; empty where it is refused. Assumes nothing.
+-- What a fixing of input of right lengths comes to: its verdict, and, where it is accepted, averages, prices, charges
+-- and sector charges; empty where it is refused. Assumes nothing.
 use mathlib.Core.Path.{_≡_}
 use mathlib.Core.List.{List}
 use Prim.Native.Nat.{ℕ}

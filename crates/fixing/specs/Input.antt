@@ -1,5 +1,5 @@
--- What a fixing is given beside the ledger, and the checks that it makes of it, causes 6 to 11 of document 01, each over
--- the whole input. Their order is the list `inputChecks`. Assumes nothing.
+-- What a fixing is given beside the ledger, and the checks that it makes of it, causes 6 to 11 of document 01, each
+-- over the whole input. Their order is the list `inputChecks`. Assumes nothing.
 use mathlib.Core.Bool.{Bool}
 use mathlib.Core.List.{List, _∷_}
 use mathlib.Core.Option.{Option}
@@ -52,8 +52,8 @@ missingPlace input = firstMissing (lacksMonth (indexTable input) (input .numbers
 abbrev pub beyondLine : FixingInput → Option ℕ
 beyondLine input = firstBeyond (inputMean input) (input .numbers) (input .lines)
 
--- "Checks go by ascending number, each over the whole input": D, F, first month or a line's word; series value too large;
--- sector factor, or no sector; distributor without line; then those that need the index table
+-- "Checks go by ascending number, each over the whole input": D, F, first month or a line's word; series value too
+-- large; sector factor, or no sector; distributor without line; then those that need the index table
 unfoldable pub inputChecks : ℕ → FixingInput → List Check
 inputChecks n input =
     check 6 (ranged n input) OutOfRange

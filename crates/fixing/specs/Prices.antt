@@ -10,7 +10,8 @@ use Rattle.numbers.specs.Units.{noPrice, noEnergy}
 use Rattle.numbers.specs.Sizes.{mostDistributors}
 use Rattle.numbers.specs.declared.units.PesoPrice.{PesoPrice}
 use Rattle.numbers.specs.declared.units.Energy.{Energy}
-use Rattle.fixing.specs.Limit.{Distributors, sumInside, sumOutside, limit, rounds, surcharge, residue, finalPrice, charge}
+use Rattle.fixing.specs.Limit.{Distributors, sumInside, sumOutside, limit, rounds, surcharge, residue, finalPrice}
+use Rattle.fixing.specs.Limit.{charge}
 use Rattle.fixing.specs.declared.prices.FixedPrices.{FixedPrices}
 use Rattle.fixing.specs.declared.prices.RoundSums.{RoundSums}
 use Rattle.fixing.specs.declared.prices.LastRound.{LastRound}

@@ -1,5 +1,5 @@
--- What the functions of this crate require, as plain facts: of lines past cause 6 and past cause 11, of sums to divide, of
--- sectors to charge, and of an input past causes 3 and 9. Assumes nothing.
+-- What the functions of this crate require, as plain facts: of lines past cause 6 and past cause 11, of sums to divide,
+-- of sectors to charge, and of an input past causes 3 and 9. Assumes nothing.
 use mathlib.Core.Path.{_≡_}
 use mathlib.Core.Bool.{true}
 use mathlib.Core.List.{List}

@@ -67,10 +67,7 @@ fn no_amounts() -> [UnsignedPesos; MOST_DISTRIBUTORS]
 }
 
 // What the lines of each distributor come to at a price for each line, in one pass: one price unit times one MWh is $1.
-fn amounts(
-    prices: [PesoPrice; MOST_LINES],
-    lines: &[u64],
-) -> [UnsignedPesos; MOST_DISTRIBUTORS]
+fn amounts(prices: [PesoPrice; MOST_LINES], lines: &[u64]) -> [UnsignedPesos; MOST_DISTRIBUTORS]
     requires { ⌜ PricedLines prices (now lines) ⌝ }
     ensures { λ r. ⌜ r ≡ listBelow mostDistributors
         (λ i. record { 0 = linesAmount (λ j. getD prices j noPrice .0) (now (lines .entry)) i }) ⌝ }

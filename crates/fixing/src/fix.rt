@@ -103,7 +103,8 @@ pub fn fix_input(
     sectors: &[u64],
 ) -> Fixing
     requires { ⌜ RightLengths n (inputOf numbers (now series) (now lines) (now sectors)) ⌝ }
-    ensures { λ r. ⌜ InputPromise n (inputOf numbers (now (series .entry)) (now (lines .entry)) (now (sectors .entry))) r ⌝ }
+    ensures { λ r. ⌜ InputPromise n (inputOf numbers (now (series .entry)) (now (lines .entry)) (now (sectors .entry)))
+        r ⌝ }
 {
     if !input_in_range(n, numbers, lines) {
         return refused(Refusal::OutOfRange);

@@ -40,7 +40,11 @@ struct LastRound {
 }
 
 // What prices collect: of the averages the contract total, of the final prices what the residue is taken from.
-fn collects(n: usize, prices: [PesoPrice; MOST_DISTRIBUTORS], energies: [Energy; MOST_DISTRIBUTORS]) -> UnsignedPesos
+fn collects(
+    n: usize,
+    prices: [PesoPrice; MOST_DISTRIBUTORS],
+    energies: [Energy; MOST_DISTRIBUTORS],
+) -> UnsignedPesos
     requires { ⌜ InRange (distributors n prices energies) ⌝ }
     ensures { λ r. ⌜ r ≡ record { 0 = contractTotal (distributors n prices energies) } ⌝ }
 {
@@ -76,7 +80,8 @@ fn round_sums(
     raise: PesoPrice,
 ) -> RoundSums
     requires { ⌜ Limited (distributors n averages energies) limit ⌝ ∗ ⌜ raise .0 ≤ limit .0 ⌝ }
-    ensures { λ r. ⌜ r ≡ roundSums (distributors n averages energies) (aboveLimit (distributors n averages energies) (raise .0)) ⌝ }
+    ensures { λ r. ⌜ r ≡ roundSums (distributors n averages energies)
+        (aboveLimit (distributors n averages energies) (raise .0)) ⌝ }
 {
     let mut paid: u64 = 0;
     let mut inside: u64 = 0;
@@ -159,8 +164,10 @@ fn final_prices(
     limit: PesoPrice,
     surcharge: PesoPrice,
 ) -> [PesoPrice; MOST_DISTRIBUTORS]
-    requires { ⌜ n ≤ mostDistributors ⌝ ∗ ⌜ surcharge .0 ≤ 2100000 ⌝ ∗ ⌜ ((i : ℕ) → i < n → getD averages i noPrice .0 ≤ mostPrice) ⌝ }
-    ensures { λ r. ⌜ r ≡ filledBelow mostDistributors noPrice n (λ i. record { 0 = min (limit .0) (getD averages i noPrice .0 + surcharge .0) }) ⌝ }
+    requires { ⌜ n ≤ mostDistributors ⌝ ∗ ⌜ surcharge .0 ≤ 2100000 ⌝
+        ∗ ⌜ ((i : ℕ) → i < n → getD averages i noPrice .0 ≤ mostPrice) ⌝ }
+    ensures { λ r. ⌜ r ≡ filledBelow mostDistributors noPrice n
+        (λ i. record { 0 = min (limit .0) (getD averages i noPrice .0 + surcharge .0) }) ⌝ }
 {
     let mut finals = no_prices();
     let mut i: usize = 0;
@@ -180,9 +187,15 @@ pub(crate) fn no_charge_list() -> [i64; MOST_DISTRIBUTORS]
 }
 
 // The charge of each distributor: final price less average, signed, in 0.001 $/kWh.
-pub(crate) fn charges(n: usize, averages: [PesoPrice; MOST_DISTRIBUTORS], finals: [PesoPrice; MOST_DISTRIBUTORS]) -> [i64; MOST_DISTRIBUTORS]
-    requires { ⌜ n ≤ mostDistributors ⌝ ∗ ⌜ ((i : ℕ) → i < n → getD averages i noPrice .0 ≤ mostPrice) ⌝ ∗ ⌜ ((i : ℕ) → i < n → getD finals i noPrice .0 ≤ mostPrice) ⌝ }
-    ensures { λ r. ⌜ r ≡ filledBelow mostDistributors (pos 0) n (λ i. subℕ (getD finals i noPrice .0) (getD averages i noPrice .0)) ⌝ }
+pub(crate) fn charges(
+    n: usize,
+    averages: [PesoPrice; MOST_DISTRIBUTORS],
+    finals: [PesoPrice; MOST_DISTRIBUTORS],
+) -> [i64; MOST_DISTRIBUTORS]
+    requires { ⌜ n ≤ mostDistributors ⌝ ∗ ⌜ ((i : ℕ) → i < n → getD averages i noPrice .0 ≤ mostPrice) ⌝
+        ∗ ⌜ ((i : ℕ) → i < n → getD finals i noPrice .0 ≤ mostPrice) ⌝ }
+    ensures { λ r. ⌜ r ≡ filledBelow mostDistributors (pos 0) n
+        (λ i. subℕ (getD finals i noPrice .0) (getD averages i noPrice .0)) ⌝ }
 {
     let mut charges = no_charge_list();
     let mut i: usize = 0;
@@ -196,7 +209,11 @@ pub(crate) fn charges(n: usize, averages: [PesoPrice; MOST_DISTRIBUTORS], finals
 }
 
 // The limit and the rounds of document 01.
-pub(crate) fn fix_prices(n: usize, averages: [PesoPrice; MOST_DISTRIBUTORS], energies: [Energy; MOST_DISTRIBUTORS]) -> FixedPrices
+pub(crate) fn fix_prices(
+    n: usize,
+    averages: [PesoPrice; MOST_DISTRIBUTORS],
+    energies: [Energy; MOST_DISTRIBUTORS],
+) -> FixedPrices
     requires { ⌜ InRange (distributors n averages energies) ⌝ }
     ensures { λ r. ⌜ PricesPromise (distributors n averages energies) r ⌝ }
 {

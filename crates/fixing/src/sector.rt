@@ -97,7 +97,11 @@ pub fn no_charges() -> SectorCharges
 }
 
 // Presences and charges of the sectors of n distributors, from their charges.
-pub(crate) fn sector_charges(n: usize, charges: [i64; MOST_DISTRIBUTORS], sectors: &[u64]) -> SectorCharges
+pub(crate) fn sector_charges(
+    n: usize,
+    charges: [i64; MOST_DISTRIBUTORS],
+    sectors: &[u64],
+) -> SectorCharges
     requires { ⌜ ChargedSectors n charges (now sectors) ⌝ }
     ensures { λ r. ⌜ r ≡ sectorCharges n (λ i. getD charges i (pos 0)) (now (sectors .entry)) ⌝ }
 {

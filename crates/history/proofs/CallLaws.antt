@@ -10,7 +10,9 @@ use lib.IntN.{ℤ, _+ℤ_}
 use Rattle.numbers.specs.Refusal.{Answered, verdictAnswered, isPassed}
 use Rattle.numbers.specs.Checks.{Met, Check, metUnless, verdictOf, answeredOr, answeredBy}
 use Rattle.numbers.specs.declared.refusal.Refusal.{Refusal}
-use Rattle.numbers.specs.declared.refusal.Refusal.the-variants.{Unsound, WrongLength, OutOfTurn, NoFixing, OutOfRange, ValueTooLarge, WrongSector, NoLine, WrongReading, PositionBeyond}
+use Rattle.numbers.specs.declared.refusal.Refusal.the-variants.{Unsound, WrongLength, OutOfTurn, NoFixing, OutOfRange}
+use Rattle.numbers.specs.declared.refusal.Refusal.the-variants.{ValueTooLarge, WrongSector, NoLine, WrongReading}
+use Rattle.numbers.specs.declared.refusal.Refusal.the-variants.{PositionBeyond}
 use Rattle.numbers.specs.Sizes.{mostDistributors}
 use Rattle.numbers.proofs.CheckLaws.{AllTold, verdict-told, passed-number}
 use Rattle.series.specs.Series.{valuesInRange}
@@ -29,15 +31,20 @@ use Rattle.settlement.proofs.MonthLaws.{money-at, money-same}
 use Rattle.ledger.specs.Ledger.{anySettled, nextMonth, billedUnder, fixedLedger, settledLedger}
 use Rattle.ledger.specs.Sound.{sound}
 use Rattle.ledger.specs.Turn.{fixingTurn, settlementTurn}
-use Rattle.ledger.specs.Fix.{FixingCall, callLengths, fixingChecks, fixingVerdict, fixingAnswer, fixingAnswered, fixingLedger}
-use Rattle.ledger.specs.Settle.{SettlementCall, billingLengths, settlementChecks, settlementVerdict, settlementLedger, positionsOf}
+use Rattle.ledger.specs.Fix.{FixingCall, callLengths, fixingChecks, fixingVerdict, fixingAnswer, fixingAnswered}
+use Rattle.ledger.specs.Fix.{fixingLedger}
+use Rattle.ledger.specs.Settle.{SettlementCall, billingLengths, settlementChecks, settlementVerdict, settlementLedger}
+use Rattle.ledger.specs.Settle.{positionsOf}
 use Rattle.ledger.proofs.SoundFacts.{sound-facts}
 use Rattle.ledger.proofs.MoneyLaws.{range-same, balance-same}
 use Rattle.ledger.proofs.CallLaws.{fixing-passed}
 use Rattle.ledger.proofs.FixLaws.{fixing-told, answer-told}
 use Rattle.ledger.proofs.SettleLaws.{settlement-told}
 use Rattle.history.specs.Run.{fixing, settlement}
-use Rattle.history.specs.Plain.{Plain, isHeld, heldMonth, plainSettled, plainNext, plainUnder, image, cause, causeAtTerm, causeAtLine, firstCause, fixingCauses, plainFixing, plainAmount, plainPosition, settlementCauses, plainSettlement, plainAnswer, plainAccepts, plainChange, plainStep}
+use Rattle.history.specs.Plain.{Plain, isHeld, heldMonth, plainSettled, plainNext, plainUnder, image, cause}
+use Rattle.history.specs.Plain.{causeAtTerm, causeAtLine, firstCause, fixingCauses, plainFixing, plainAmount}
+use Rattle.history.specs.Plain.{plainPosition, settlementCauses, plainSettlement, plainAnswer, plainAccepts}
+use Rattle.history.specs.Plain.{plainChange, plainStep}
 
 -- the same number and values, accepted by the ledger exactly where the number is 0
 pub record Same (answered : Answered) (passed : Bool) (plain : Answered) : Type 0 where
@@ -55,24 +62,33 @@ Alike [] (o ∷ causes) = ⊥
 Alike (c ∷ checks) [] = ⊥
 Alike (c ∷ checks) (o ∷ causes) = (told (c .number) (c .met) ≡ o) × Alike checks causes
 
-first-same : (checks : List Check) (causes : List (Option Answered)) (values : List ℕ) → Alike checks causes → answeredBy checks values ≡ firstCause causes values
+first-same : (checks : List Check) (causes : List (Option Answered)) (values : List ℕ) → Alike checks causes →
+    answeredBy checks values ≡ firstCause causes values
 unfolding Alike answeredBy firstCause
 first-same [] [] values h = refl
 first-same [] (o ∷ causes) values h = absurd h
 first-same (c ∷ checks) [] values h = absurd h
 first-same (c ∷ checks) (o ∷ causes) values h = rw (← h .0) (go (c .met) (first-same checks causes values (h .1)))
   where
-    go : (m : Option Met) → answeredBy checks values ≡ firstCause causes values → answeredOr (c .number) m (answeredBy checks values) ≡ firstCause (told (c .number) m ∷ causes) values
+    go : (m : Option Met) → answeredBy checks values ≡ firstCause causes values →
+        answeredOr (c .number) m (answeredBy checks values) ≡ firstCause (told (c .number) m ∷ causes) values
     go none later = later
     go (some met) later = refl
 
-call-same : (checks : List Check) (causes : List (Option Answered)) (values : List ℕ) → AllTold checks → Alike checks causes → Same (verdictAnswered values (verdictOf checks)) (isPassed (verdictOf checks)) (firstCause causes values)
+call-same : (checks : List Check) (causes : List (Option Answered)) (values : List ℕ) → AllTold checks →
+    Alike checks causes →
+    Same (verdictAnswered values (verdictOf checks)) (isPassed (verdictOf checks)) (firstCause causes values)
 call-same checks causes values t a =
     let same = verdict-told checks values t ∙ first-same checks causes values a in
-    record { answer = same; accepts = passed-number values (verdictOf checks) ∙ ap (λ (x : Answered). eqb (x .number) 0) same }
+    record {
+      answer = same;
+      accepts = passed-number values (verdictOf checks) ∙ ap (λ (x : Answered). eqb (x .number) 0)
+          same;
+    }
 
 -- one check and one cause
-test-same : (number : ℕ) (refusal : Refusal) (passed : Bool) → told number (metUnless passed refusal) ≡ cause number passed
+test-same : (number : ℕ) (refusal : Refusal) (passed : Bool) →
+    told number (metUnless passed refusal) ≡ cause number passed
 test-same number refusal true = refl
 test-same number refusal false = refl
 
@@ -85,7 +101,8 @@ line-same none = refl
 line-same (some line) = refl
 
 fixing-alike : (plain : Plain) (call : FixingCall) → Alike (fixingChecks (image plain) call) (fixingCauses plain call)
-unfolding image anySettled nextMonth plainSettled plainNext fixingChecks inputChecks tableChecks monthCheck boundsCheck fixingCauses Alike
+unfolding image anySettled nextMonth plainSettled plainNext fixingChecks inputChecks tableChecks monthCheck boundsCheck
+    fixingCauses Alike
 fixing-alike plain call =
     let n = plain .count in
     let input = call .input in (
@@ -100,7 +117,10 @@ fixing-alike plain call =
               test-same 7 ValueTooLarge (valuesInRange (input .series)),
               (
                 test-same 8 WrongSector (sectorsAllowed n (input .sectors)),
-                (test-same 9 NoLine (supplied n input), (term-same (missingPlace input), (line-same (beyondLine input), tt))),
+                (
+                  test-same 9 NoLine (supplied n input),
+                  (term-same (missingPlace input), (line-same (beyondLine input), tt)),
+                ),
               ),
             ),
           ),
@@ -108,20 +128,27 @@ fixing-alike plain call =
       ),
     )
 
-pub fixing-same : (plain : Plain) (call : FixingCall) → Same (fixingAnswered (fixingAnswer (image plain) call)) (isPassed (fixingVerdict (image plain) call)) (plainFixing plain call)
+pub fixing-same : (plain : Plain) (call : FixingCall) →
+    Same (fixingAnswered (fixingAnswer (image plain) call)) (isPassed (fixingVerdict (image plain) call))
+    (plainFixing plain call)
 unfolding image plainFixing returnedValues fixingVerdict
 fixing-same plain call =
     let values = returnedValues (inputDistributors (plain .count) (call .input)) in
-    let same = call-same (fixingChecks (image plain) call) (fixingCauses plain call) values (fixing-told (image plain) call) (fixing-alike plain call) in
+    let same = call-same (fixingChecks (image plain) call) (fixingCauses plain call) values
+    (fixing-told (image plain) call) (fixing-alike plain call) in
     record { answer = answer-told (image plain) call ∙ same .answer; accepts = same .accepts }
 
-pub fixing-step : (plain : Plain) (call : FixingCall) → fixingLedger (image plain) call ≡ image (plainStep plain (fixing call))
+pub fixing-step : (plain : Plain) (call : FixingCall) →
+    fixingLedger (image plain) call ≡ image (plainStep plain (fixing call))
 unfolding image fixingLedger fixedLedger plainStep plainAccepts plainAnswer plainChange inputDistributors acceptedFixing
 fixing-step plain call =
     go (isPassed (fixingVerdict (image plain) call)) refl
     ∙ ap (λ b. image (cond b (plainChange plain (fixing call)) plain)) (fixing-same plain call .accepts)
   where
-    go : (b : Bool) → isPassed (fixingVerdict (image plain) call) ≡ b → cond b (fixedLedger (image plain) (call .input .numbers .month) (fixingOf (plain .count) (call .input) .sectors)) (image plain) ≡ image (cond b (plainChange plain (fixing call)) plain)
+    go : (b : Bool) → isPassed (fixingVerdict (image plain) call) ≡ b →
+        cond b (fixedLedger (image plain) (call .input .numbers .month)
+        (fixingOf (plain .count) (call .input) .sectors)) (image plain) ≡ image
+        (cond b (plainChange plain (fixing call)) plain)
     go true e =
         ap (λ (x : Fixing). fixedLedger (image plain) (call .input .numbers .month) (x .sectors))
         (passed-fixing (plain .count) (call .input) (fixing-passed (image plain) call e .passed))
@@ -138,24 +165,34 @@ module _ (plain : Plain) (call : SettlementCall) (h : sound (image plain) ≡ tr
   position-same i p =
       let held : ℕ → ℤ = moneyAt (moneyBelow (plain .count) (plain .balance)) in
       money-at (positionOf held (plainAmount plain call)) (plain .count) i p (omega (arith, few))
-      ∙ ap (λ (z : ℤ). z +ℤ plainAmount plain call i) (money-at (plain .balance) (plain .count) i p (omega (arith, few)))
+      ∙ ap (λ (z : ℤ). z +ℤ plainAmount plain call i)
+      (money-at (plain .balance) (plain .count) i p (omega (arith, few)))
 
-  pub settlement-same : Same (verdictAnswered [] (settlementVerdict (image plain) call)) (isPassed (settlementVerdict (image plain) call)) (plainSettlement plain call)
-  unfolding image anySettled nextMonth billedUnder plainSettled plainNext plainUnder settlementVerdict settlementChecks settlementCauses plainSettlement Alike
+  pub settlement-same : Same (verdictAnswered [] (settlementVerdict (image plain) call))
+      (isPassed (settlementVerdict (image plain) call)) (plainSettlement plain call)
+  unfolding image anySettled nextMonth billedUnder plainSettled plainNext plainUnder settlementVerdict settlementChecks
+      settlementCauses plainSettlement Alike
   settlement-same =
       let n = plain .count in
       let within = range-same n (moneyAt (positionsOf (image plain) call)) (plainPosition plain call) position-same in
-      call-same (settlementChecks (image plain) call) (settlementCauses plain call) [] (settlement-told (image plain) call) (
+      call-same (settlementChecks (image plain) call) (settlementCauses plain call) []
+      (settlement-told (image plain) call) (
         test-same 2 Unsound (sound (image plain)),
         (
           test-same 3 WrongLength (billingLengths n call),
           (
-            test-same 4 OutOfTurn (settlementTurn (plainSettled plain) (plainNext plain) (isHeld (plain .held)) (heldMonth (plain .held)) (call .month)),
+            test-same 4 OutOfTurn (settlementTurn (plainSettled plain) (plainNext plain) (isHeld (plain .held))
+                (heldMonth (plain .held)) (call .month)),
             (
               test-same 5 NoFixing (isHeld (plain .held)),
               (
-                test-same 12 WrongReading (billingInRange n (plainUnder plain .present) (call .readings) (call .losses)),
-                (ap (λ b. told 13 (metUnless b PositionBeyond)) within ∙ test-same 13 PositionBeyond (positionsInRange n (plainPosition plain call)), tt),
+                test-same 12 WrongReading
+                    (billingInRange n (plainUnder plain .present) (call .readings) (call .losses)),
+                (
+                  ap (λ b. told 13 (metUnless b PositionBeyond)) within ∙ test-same 13 PositionBeyond
+                      (positionsInRange n (plainPosition plain call)),
+                  tt,
+                ),
               ),
             ),
           ),
@@ -168,10 +205,14 @@ module _ (plain : Plain) (call : SettlementCall) (h : sound (image plain) ≡ tr
       go (isPassed (settlementVerdict (image plain) call))
       ∙ ap (λ b. image (cond b (plainChange plain (settlement call)) plain)) (settlement-same .accepts)
     where
-      go : (b : Bool) → cond b (settledLedger (image plain) (call .month) (settledMonth (plain .count) (positionsOf (image plain) call) .balances)) (image plain) ≡ image (cond b (plainChange plain (settlement call)) plain)
+      go : (b : Bool) →
+          cond b (settledLedger (image plain) (call .month)
+          (settledMonth (plain .count) (positionsOf (image plain) call) .balances)) (image plain) ≡ image
+          (cond b (plainChange plain (settlement call)) plain)
       go true =
           ap (settledLedger (image plain) (call .month))
           (money-same (newBalance (plain .count) (moneyAt (positionsOf (image plain) call))) (plain .count)
           (newBalance (plain .count) (plainPosition plain call))
-          (balance-same (plain .count) (moneyAt (positionsOf (image plain) call)) (plainPosition plain call) position-same))
+          (balance-same (plain .count) (moneyAt (positionsOf (image plain) call)) (plainPosition plain call)
+          position-same))
       go false = refl

@@ -26,18 +26,21 @@ use Rattle.ledger.proofs.SoundFacts.{sound-facts}
 use Rattle.ledger.proofs.MoneyLaws.{money-sum}
 use Rattle.ledger.proofs.KeptLaws.{opened-sound, fixing-keeps, settlement-keeps, settlement-adds}
 use Rattle.history.specs.Run.{Call, fixing, settlement, opened, step, answer, after, answers}
-use Rattle.history.specs.Plain.{Plain, plainOpened, image, plainAnswer, plainUnder, plainAmount, plainAccepts, plainChange, plainStep, plainAfter, plainAnswers, callCollects, plainCollected}
+use Rattle.history.specs.Plain.{Plain, plainOpened, image, plainAnswer, plainUnder, plainAmount, plainAccepts}
+use Rattle.history.specs.Plain.{plainChange, plainStep, plainAfter, plainAnswers, callCollects, plainCollected}
 use Rattle.history.specs.History.{WrittenPrices, History}
 use Rattle.history.proofs.CallLaws.{fixing-same, fixing-step, settlement-same, settlement-step}
 use Rattle.history.proofs.WrittenLaws.{written}
 
 -- one call: the ledger's step is the image of the plain one, and the answer is the same
-pub step-same : (plain : Plain) (call : Call) → sound (image plain) ≡ true → step (image plain) call ≡ image (plainStep plain call)
+pub step-same : (plain : Plain) (call : Call) → sound (image plain) ≡ true →
+    step (image plain) call ≡ image (plainStep plain call)
 unfolding step
 step-same plain (fixing call) h = fixing-step plain call
 step-same plain (settlement call) h = settlement-step plain call h
 
-pub answer-same : (plain : Plain) (call : Call) → sound (image plain) ≡ true → answer (image plain) call ≡ plainAnswer plain call
+pub answer-same : (plain : Plain) (call : Call) → sound (image plain) ≡ true →
+    answer (image plain) call ≡ plainAnswer plain call
 unfolding answer plainAnswer
 answer-same plain (fixing call) h = fixing-same plain call .answer
 answer-same plain (settlement call) h = settlement-same plain call h .answer
@@ -66,20 +69,27 @@ module _ (plain : Plain) where
       go (settlement c) false = refl
 
   -- a fixing moves no balance, an accepted settlement moves them by the collected amounts
-  fixing-adds : (call : FixingCall) (b : Bool) → total (image (cond b (plainChange plain (fixing call)) plain)) ≡ total (image plain) +ℤ cond b (pos 0) (pos 0)
+  fixing-adds : (call : FixingCall) (b : Bool) →
+      total (image (cond b (plainChange plain (fixing call)) plain)) ≡ total (image plain) +ℤ cond b (pos 0) (pos 0)
   unfolding image plainChange
   fixing-adds call true = sym (+ℤ-idr (total (image plain)))
   fixing-adds call false = sym (+ℤ-idr (total (image plain)))
 
-  settled-adds : (call : SettlementCall) → sound (image plain) ≡ true → (b : Bool) → plainAccepts plain (settlement call) ≡ b → total (image (plainStep plain (settlement call))) ≡ total (image plain) +ℤ cond b (signedSumBelow (plain .count) (plainAmount plain call)) (pos 0)
+  settled-adds : (call : SettlementCall) → sound (image plain) ≡ true → (b : Bool) →
+      plainAccepts plain (settlement call) ≡ b →
+      total (image (plainStep plain (settlement call))) ≡ total (image plain) +ℤ cond b
+      (signedSumBelow (plain .count) (plainAmount plain call)) (pos 0)
   unfolding image billedUnder plainUnder plainAccepts plainAnswer plainAmount plainStep
   settled-adds call h true e =
       ap total (sym (settlement-step plain call h))
       ∙ settlement-adds (image plain) call h (settlement-same plain call h .accepts ∙ e)
   settled-adds call h false e =
-      ap (λ c. total (image (cond c (plainChange plain (settlement call)) plain))) e ∙ sym (+ℤ-idr (total (image plain)))
+      ap (λ c. total (image (cond c (plainChange plain (settlement call)) plain))) e ∙ sym
+      (+ℤ-idr (total (image plain)))
 
-  step-adds : (call : Call) → sound (image plain) ≡ true → total (image (plainStep plain call)) ≡ total (image plain) +ℤ cond (plainAccepts plain call) (callCollects plain call) (pos 0)
+  step-adds : (call : Call) → sound (image plain) ≡ true →
+      total (image (plainStep plain call)) ≡ total (image plain) +ℤ cond (plainAccepts plain call)
+      (callCollects plain call) (pos 0)
   unfolding plainStep callCollects
   step-adds (fixing call) h = fixing-adds call (plainAccepts plain (fixing call))
   step-adds (settlement call) h = settled-adds call h (plainAccepts plain (settlement call)) refl
@@ -101,7 +111,9 @@ carry (call ∷ calls) plain h =
     let gain : ℤ = cond (plainAccepts plain call) (callCollects plain call) (pos 0) in
     record {
       same = ap (λ b. after b calls) (step-same plain call h) ∙ next .same;
-      answered = ap₂ (λ (x : Answered) xs. x ∷ xs) (answer-same plain call h) (ap (λ b. answers b calls) (step-same plain call h) ∙ next .answered);
+      answered =
+          ap₂ (λ (x : Answered) xs. x ∷ xs) (answer-same plain call h)
+          (ap (λ b. answers b calls) (step-same plain call h) ∙ next .answered);
       adds =
           next .adds
           ∙ ap (λ (z : ℤ). z +ℤ plainCollected (plainStep plain call) calls) (step-adds plain call h)
@@ -125,7 +137,8 @@ module _ (n : ℕ) (p : 1 ≤ n) (q : n ≤ 40) where
   unfolding emptyLedger noBalances image plainOpened
   opened-same =
       opened-is
-      ∙ ap {B = Ledger} (λ b. record { n = n; months = 0; last = 0; fixed = false; month = 0; force = noCharges; balances = b }) none-same
+      ∙ ap {B = Ledger} (λ b. record
+      { n = n; months = 0; last = 0; fixed = false; month = 0; force = noCharges; balances = b }) none-same
 
   opened-total : total (opened n) ≡ pos 0
   unfolding emptyLedger noBalances signedSumBelow
@@ -158,6 +171,7 @@ history n p q calls =
       signs = sound-facts (after (opened n) calls) (run-sound n p q calls) .signs;
       whole = run-sound n p q calls;
       fixings = λ before rest call e accepted.
-          subst (λ m. WrittenPrices m (inputDistributors m (call .input)) (fixingList (after (opened n) before) call)) (run-count n p q before)
+          subst (λ m. WrittenPrices m (inputDistributors m (call .input)) (fixingList (after (opened n) before) call))
+          (run-count n p q before)
           (written (after (opened n) before) call (run-sound n p q before) accepted);
     }

@@ -50,7 +50,9 @@ module _ (d : Distributors) (f g : ℕ → ℤ) (h : (i : ℕ) → i < d .count 
 
 -- the three words of distributor i
 module _ (n : ℕ) (averages finals : List PesoPrice) (charges : List ℤ) (i : ℕ) (p : i < n) where
-  word-at : (j k : ℕ) → j ≡ i * 3 + k → k < 3 → getD (listBelow (n * 3) (priceWord averages finals charges)) j (pos 0) ≡ pricePart (getD averages i noPrice .0) (getD finals i noPrice .0) (getD charges i (pos 0)) k
+  word-at : (j k : ℕ) → j ≡ i * 3 + k → k < 3 →
+      getD (listBelow (n * 3) (priceWord averages finals charges)) j (pos 0) ≡ pricePart (getD averages i noPrice .0)
+      (getD finals i noPrice .0) (getD charges i (pos 0)) k
   unfolding priceWord
   word-at j k e q =
       let whole : j / 3 ≡ i = omega arith in
@@ -58,7 +60,8 @@ module _ (n : ℕ) (averages finals : List PesoPrice) (charges : List ℤ) (i : 
       list-at (priceWord averages finals charges) (n * 3) (pos 0) j (omega arith) ∙ rw (whole, part)
 
 -- a fixing that was accepted
-module _ (ledger : Ledger) (call : FixingCall) (h : sound ledger ≡ true) (e : isPassed (fixingVerdict ledger call) ≡ true) where
+module _ (ledger : Ledger) (call : FixingCall) (h : sound ledger ≡ true)
+    (e : isPassed (fixingVerdict ledger call) ≡ true) where
   abbrev d : Distributors
   d = inputDistributors (ledger .n) (call .input)
 
@@ -115,7 +118,11 @@ module _ (ledger : Ledger) (call : FixingCall) (h : sound ledger ≡ true) (e : 
             ∙ charge-is i p;
         limited = λ i p. rw (same i p) (pos-le (finalPrice d i) (limit d) (final-limit d range i p));
         collects =
-            rw (collect-same d (writtenFinal (fixingList ledger call)) (λ i. pos (finalPrice d i)) same, collect-whole d (finalPrice d))
+            rw (
+              collect-same d (writtenFinal (fixingList ledger call)) (λ i. pos (finalPrice d i)) same,
+              collect-whole d
+                  (finalPrice d),
+            )
             (pos-le (contractTotal d) (collected d) (collects d range));
         smallest = λ price below enough.
             rw (largest-same d (writtenFinal (fixingList ledger call)) (λ i. pos (finalPrice d i)) same (range .some))

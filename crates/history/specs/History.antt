@@ -33,7 +33,8 @@ pub record WrittenPrices (n : ℕ) (d : Distributors) (written : List ℤ) : Typ
   pub charged : (i : ℕ) → i < n → getD written (i * 3 + 2) (pos 0) ≡ charge d i
   pub limited : (i : ℕ) → i < n → writtenFinal written i ≤ℤ pos (limit d)
   pub collects : pos (contractTotal d) ≤ℤ pricesCollect d (writtenFinal written)
-  pub smallest : (price : ℕ → ℤ) → ((i : ℕ) → i < n → price i ≤ℤ pos (limit d)) → pos (contractTotal d) ≤ℤ pricesCollect d price → largestCharge d (writtenFinal written) ≤ℤ largestCharge d price
+  pub smallest : (price : ℕ → ℤ) → ((i : ℕ) → i < n → price i ≤ℤ pos (limit d)) →
+      pos (contractTotal d) ≤ℤ pricesCollect d price → largestCharge d (writtenFinal written) ≤ℤ largestCharge d price
   pub few : rounds d < n
 
 -- after every list of calls from an opened ledger of n distributors:
@@ -43,10 +44,13 @@ pub record History (n : ℕ) (calls : List Call) : Type 0 where
   -- the same calls were accepted, with the same numbers and values
   pub answered : answers (opened n) calls ≡ plainAnswers (plainOpened n) calls
   -- balances add up to the collected amounts worked from the inputs
-  pub total : signedSumBelow mostDistributors (moneyAt (after (opened n) calls .balances)) ≡ plainCollected (plainOpened n) calls
+  pub total : signedSumBelow mostDistributors (moneyAt (after (opened n) calls .balances)) ≡ plainCollected
+      (plainOpened n) calls
   -- never both signs
   pub signs : oneSign mostDistributors (moneyAt (after (opened n) calls .balances)) ≡ true
   -- the ledger is sound, so that no call in such a list meets 2
   pub whole : sound (after (opened n) calls) ≡ true
   -- each accepted fixing in the list wrote 01's prices, with a smallest largest charge
-  pub fixings : (before rest : List Call) (call : FixingCall) → calls ≡ before ++ (fixing call ∷ rest) → isPassed (fixingVerdict (after (opened n) before) call) ≡ true → WrittenPrices n (inputDistributors n (call .input)) (fixingList (after (opened n) before) call)
+  pub fixings : (before rest : List Call) (call : FixingCall) → calls ≡ before ++ (fixing call ∷ rest) →
+      isPassed (fixingVerdict (after (opened n) before) call) ≡ true →
+      WrittenPrices n (inputDistributors n (call .input)) (fixingList (after (opened n) before) call)

@@ -127,7 +127,8 @@ settlementCauses plain call =
     let n = plain .count in
     cause 2 (sound (image plain))
     ∷ cause 3 (billingLengths n call)
-    ∷ cause 4 (settlementTurn (plainSettled plain) (plainNext plain) (isHeld (plain .held)) (heldMonth (plain .held)) (call .month))
+    ∷ cause 4 (settlementTurn (plainSettled plain) (plainNext plain) (isHeld (plain .held)) (heldMonth (plain .held))
+    (call .month))
     ∷ cause 5 (isHeld (plain .held))
     ∷ cause 12 (billingInRange n (plainUnder plain .present) (call .readings) (call .losses))
     ∷ cause 13 (positionsInRange n (plainPosition plain call))

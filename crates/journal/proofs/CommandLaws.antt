@@ -10,14 +10,21 @@ use Rattle.numbers.specs.Sizes.{mostDistributors, sectorPlaces}
 use Rattle.journal.specs.Token.{tokenStart, tokenEnd}
 use Rattle.journal.specs.Word.{isWord}
 use Rattle.journal.specs.Cursor.{readTo, brokenAt, mostWord, Onward}
-use Rattle.journal.specs.Command.{longestList, openName, fixName, settleName, saveName, loadName, seriesName, linesName, sectorsName, pricesName, readingsName, lossesName, transfersName, presentName, chargesName, balancesName, commandIn, isUnknown, commandAfter, fixSeriesFrom, fixLinesFrom, fixSectorsFrom, fixPricesFrom, fixAfter, settleReadingsFrom, settleLossesFrom, settleTransfersFrom, settleAfter, loadFixedFrom, loadMonthFrom, loadPresentFrom, loadChargesFrom, loadBalancesFrom, loadAfter}
+use Rattle.journal.specs.Command.{longestList, openName, fixName, settleName, saveName, loadName, seriesName}
+use Rattle.journal.specs.Command.{linesName, sectorsName, pricesName, readingsName, lossesName, transfersName}
+use Rattle.journal.specs.Command.{presentName, chargesName, balancesName, commandIn, isUnknown, commandAfter}
+use Rattle.journal.specs.Command.{fixSeriesFrom, fixLinesFrom, fixSectorsFrom, fixPricesFrom, fixAfter}
+use Rattle.journal.specs.Command.{settleReadingsFrom, settleLossesFrom, settleTransfersFrom, settleAfter}
+use Rattle.journal.specs.Command.{loadFixedFrom, loadMonthFrom, loadPresentFrom, loadChargesFrom}
+use Rattle.journal.specs.Command.{loadBalancesFrom, loadAfter}
 use Rattle.journal.specs.declared.cursor.Cursor.{Cursor}
 use Rattle.journal.specs.declared.command.Command.{Command}
 use Rattle.journal.specs.declared.command.Command.the-variants.{Open, Fix, Settle, Save, Load, Unknown, End}
 use Rattle.journal.specs.declared.command.CommandRead.{CommandRead}
 use Rattle.journal.proofs.TokenLaws.{token-start-most, token-end-most}
 use Rattle.journal.proofs.CursorLaws.{onward-same, then-number}
-use Rattle.journal.proofs.ListLaws.{count-most, then-count, then-numbers, then-list, then-signed-list, list-most, signed-list-most}
+use Rattle.journal.proofs.ListLaws.{count-most, then-count, then-numbers, then-list, then-signed-list, list-most}
+use Rattle.journal.proofs.ListLaws.{signed-list-most}
 
 -- the commands by their words, in the order in which a token is tried
 abbrev pub commandWords : List (List ℕ × Command)
@@ -25,7 +32,8 @@ commandWords = (openName, Open) ∷ (fixName, Fix) ∷ (settleName, Settle) ∷ 
 
 unfoldable pub commandAmong : List ℕ → ℕ → ℕ → List (List ℕ × Command) → Command
 commandAmong text start end [] = Unknown
-commandAmong text start end (word ∷ rest) = cond (isWord text start end (word .0)) (word .1) (commandAmong text start end rest)
+commandAmong text start end (word ∷ rest) =
+    cond (isWord text start end (word .0)) (word .1) (commandAmong text start end rest)
 
 -- the token's command is by one of these words, or unknown
 pub record Among (text : List ℕ) (start end : ℕ) (words : List (List ℕ × Command)) : Type 0 where
@@ -42,7 +50,8 @@ module _ (text : List ℕ) (start end : ℕ) where
   among-all h = record { by = rw (ne-eqb start (length text) h) }
 
 -- it is the next word, or one of the rest, or none
-module _ {text : List ℕ} {start end : ℕ} {name : List ℕ} {command : Command} {rest : List (List ℕ × Command)} (a : Among text start end ((name, command) ∷ rest)) where
+module _ {text : List ℕ} {start end : ℕ} {name : List ℕ} {command : Command} {rest : List (List ℕ × Command)}
+    (a : Among text start end ((name, command) ∷ rest)) where
   pub command-word : isWord text start end name ≡ true → command ≡ commandIn text start end
   unfolding commandAmong
   command-word h = rw (a .by, h)
@@ -59,12 +68,15 @@ abbrev pub commandRead : Command → Cursor → CommandRead
 commandRead command next = record { command = command; next = next }
 
 -- the next command is that of the next token
-module _ (text : List ℕ) (at start end : ℕ) (s : start ≡ tokenStart text at) (e : end ≡ tokenEnd text start) (command : Command) (c : command ≡ commandIn text start end) where
-  pub command-broken : isUnknown command ≡ true → (next : Cursor) → next ≡ brokenAt start → commandRead command next ≡ commandAfter text at
+module _ (text : List ℕ) (at start end : ℕ) (s : start ≡ tokenStart text at) (e : end ≡ tokenEnd text start)
+    (command : Command) (c : command ≡ commandIn text start end) where
+  pub command-broken : isUnknown command ≡ true → (next : Cursor) → next ≡ brokenAt start →
+      commandRead command next ≡ commandAfter text at
   unfolding commandAfter
   command-broken h next q = rw (q, ← s, ← e, ← c, h)
 
-  pub command-read : isUnknown command ≡ false → (next : Cursor) → next ≡ readTo end → commandRead command next ≡ commandAfter text at
+  pub command-read : isUnknown command ≡ false → (next : Cursor) → next ≡ readTo end →
+      commandRead command next ≡ commandAfter text at
   unfolding commandAfter
   command-read h next q = rw (q, ← s, ← e, ← c, h)
 

@@ -12,7 +12,8 @@ use borrow.Author.Tests.{le-leb, lt-leb, leb-true}
 use Rattle.journal.specs.Token.{tokenStart, tokenEnd}
 use Rattle.journal.specs.Word.{isWord}
 use Rattle.journal.specs.Number.{numberIn, signedIn}
-use Rattle.journal.specs.Cursor.{readTo, brokenAt, wordAfter, numberFrom, numberAfter, signedFrom, signedAfter, Onward}
+use Rattle.journal.specs.Cursor.{readTo, brokenAt, wordAfter, numberFrom, numberAfter, signedFrom, signedAfter}
+use Rattle.journal.specs.Cursor.{Onward}
 use Rattle.journal.specs.declared.number.Reading.{Reading}
 use Rattle.journal.specs.declared.number.Reading.the-variants.{Number, Unreadable}
 use Rattle.journal.specs.declared.number.SignedReading.{SignedReading}
@@ -30,17 +31,20 @@ signedRead value next = record { value = value; next = next }
 
 -- a reading is a number that is small enough, one that is too large, or none
 module _ (reading : Reading) (most start end : ℕ) (next : Cursor) where
-  pub number-small : (value : ℕ) → reading ≡ Number value → value ≤ most → next ≡ readTo end → numberRead value next ≡ numberFrom reading most start end
+  pub number-small : (value : ℕ) → reading ≡ Number value → value ≤ most → next ≡ readTo end →
+      numberRead value next ≡ numberFrom reading most start end
   number-small value e p q = rw (e, le-leb value most p, q) refl
 
-  pub number-large : (value : ℕ) → reading ≡ Number value → most < value → next ≡ brokenAt start → numberRead 0 next ≡ numberFrom reading most start end
+  pub number-large : (value : ℕ) → reading ≡ Number value → most < value → next ≡ brokenAt start →
+      numberRead 0 next ≡ numberFrom reading most start end
   number-large value e p q = rw (e, lt-leb value most p, q) refl
 
   pub number-none : reading ≡ Unreadable → next ≡ brokenAt start → numberRead 0 next ≡ numberFrom reading most start end
   number-none e q = rw (e, q) refl
 
 module _ (reading : SignedReading) (start end : ℕ) (next : Cursor) where
-  pub signed-some : (value : ℤ) → reading ≡ Signed value → next ≡ readTo end → signedRead value next ≡ signedFrom reading start end
+  pub signed-some : (value : ℤ) → reading ≡ Signed value → next ≡ readTo end →
+      signedRead value next ≡ signedFrom reading start end
   signed-some value e q = rw (e, q) refl
 
   pub signed-none : reading ≡ NotSigned → next ≡ brokenAt start → signedRead (pos 0) next ≡ signedFrom reading start end
@@ -61,16 +65,19 @@ module _ (text : List ℕ) (cursor : Cursor) (h : cursor .broken ≡ true) where
   signed-after-broken = rw h
 
 -- what is read is the next token
-module _ (text : List ℕ) (cursor : Cursor) (h : cursor .broken ≡ false) (start end : ℕ) (s : start ≡ tokenStart text (cursor .at)) (e : end ≡ tokenEnd text start) where
+module _ (text : List ℕ) (cursor : Cursor) (h : cursor .broken ≡ false) (start end : ℕ)
+    (s : start ≡ tokenStart text (cursor .at)) (e : end ≡ tokenEnd text start) where
   pub word-after-same : (word : List ℕ) → isWord text start end word ≡ true → readTo end ≡ wordAfter text cursor word
   unfolding wordAfter
   word-after-same word w = rw (h, ← s, ← e, w)
 
-  pub word-after-other : (word : List ℕ) → isWord text start end word ≡ false → brokenAt start ≡ wordAfter text cursor word
+  pub word-after-other : (word : List ℕ) → isWord text start end word ≡ false →
+      brokenAt start ≡ wordAfter text cursor word
   unfolding wordAfter
   word-after-other word w = rw (h, ← s, ← e, w)
 
-  pub number-after-token : (most : ℕ) → numberFrom (numberIn text start end) most start end ≡ numberAfter text cursor most
+  pub number-after-token : (most : ℕ) →
+      numberFrom (numberIn text start end) most start end ≡ numberAfter text cursor most
   unfolding numberAfter
   number-after-token most = rw (h, ← s, ← e)
 
@@ -111,7 +118,8 @@ module _ (text : List ℕ) (cursor : Cursor) (p : cursor .at ≤ length text) wh
   }
 
   -- what is read where nothing is broken
-  onward-if : (next : Cursor) → (cursor .broken ≡ false → Onward text cursor next) → Onward text cursor (cond (cursor .broken) cursor next)
+  onward-if : (next : Cursor) → (cursor .broken ≡ false → Onward text cursor next) →
+      Onward text cursor (cond (cursor .broken) cursor next)
   onward-if next h = go (cursor .broken) refl
     where
       go : (b : Bool) → cursor .broken ≡ b → Onward text cursor (cond b cursor next)
@@ -120,7 +128,9 @@ module _ (text : List ℕ) (cursor : Cursor) (p : cursor .at ≤ length text) wh
 
   onward-word : (word : List ℕ) → Onward text cursor (wordAfter text cursor word)
   unfolding wordAfter
-  onward-word word = onward-if (cond (isWord text start end word) (readTo end) (brokenAt start)) (λ h. go h (isWord text start end word))
+  onward-word word =
+      onward-if (cond (isWord text start end word) (readTo end) (brokenAt start))
+      (λ h. go h (isWord text start end word))
     where
       go : cursor .broken ≡ false → (b : Bool) → Onward text cursor (cond b (readTo end) (brokenAt start))
       go h true = onward-read h
@@ -130,11 +140,13 @@ module _ (text : List ℕ) (cursor : Cursor) (p : cursor .at ≤ length text) wh
   unfolding numberAfter
   onward-number most = go (cursor .broken) refl (numberIn text start end)
     where
-      within : cursor .broken ≡ false → (value : ℕ) (b : Bool) → Onward text cursor (cond b (numberRead value (readTo end)) (numberRead 0 (brokenAt start)) .next)
+      within : cursor .broken ≡ false → (value : ℕ) (b : Bool) →
+          Onward text cursor (cond b (numberRead value (readTo end)) (numberRead 0 (brokenAt start)) .next)
       within h value true = onward-read h
       within h value false = onward-broken
 
-      go : (b : Bool) → cursor .broken ≡ b → (reading : Reading) → Onward text cursor (cond b (numberRead 0 cursor) (numberFrom reading most start end) .next)
+      go : (b : Bool) → cursor .broken ≡ b → (reading : Reading) →
+          Onward text cursor (cond b (numberRead 0 cursor) (numberFrom reading most start end) .next)
       go true h reading = onward-same text cursor p
       go false h (Number value) = within h value (leb value most)
       go false h Unreadable = onward-broken
@@ -143,7 +155,8 @@ module _ (text : List ℕ) (cursor : Cursor) (p : cursor .at ≤ length text) wh
   unfolding signedAfter
   onward-signed = go (cursor .broken) refl (signedIn text start end)
     where
-      go : (b : Bool) → cursor .broken ≡ b → (reading : SignedReading) → Onward text cursor (cond b (signedRead (pos 0) cursor) (signedFrom reading start end) .next)
+      go : (b : Bool) → cursor .broken ≡ b → (reading : SignedReading) →
+          Onward text cursor (cond b (signedRead (pos 0) cursor) (signedFrom reading start end) .next)
       go true h reading = onward-same text cursor p
       go false h (Signed value) = onward-read h
       go false h NotSigned = onward-broken
@@ -164,7 +177,8 @@ module _ (text : List ℕ) (cursor : Cursor) (p : cursor .at ≤ length text) wh
   pub word-within : (word : List ℕ) (next : Cursor) → next ≡ wordAfter text cursor word → next .at ≤ length text
   word-within word next e = rw e (onward-word text cursor p word .within)
 
-  pub number-within : (most : ℕ) (read : NumberRead) → read ≡ numberAfter text cursor most → read .next .at ≤ length text
+  pub number-within : (most : ℕ) (read : NumberRead) → read ≡ numberAfter text cursor most →
+      read .next .at ≤ length text
   number-within most read e = rw e (onward-number text cursor p most .within)
 
   pub signed-within : (read : SignedRead) → read ≡ signedAfter text cursor → read .next .at ≤ length text
@@ -182,7 +196,8 @@ number-most text cursor most =
     end : ℕ
     end = tokenEnd text start
 
-    within : (value : ℕ) (b : Bool) → leb value most ≡ b → cond b (numberRead value (readTo end)) (numberRead 0 (brokenAt start)) .value ≤ most
+    within : (value : ℕ) (b : Bool) → leb value most ≡ b →
+        cond b (numberRead value (readTo end)) (numberRead 0 (brokenAt start)) .value ≤ most
     within value true h = leb-true value most h
     within value false h = omega arith
 

@@ -35,7 +35,8 @@ pub record Digits (token : List ℕ) (x : ℕ) : Type 0 where
   pub value : digitsValue (length token) token 0 ≡ x
 
 -- digits have their value wherever they stand
-value-same : (text : List ℕ) (start : ℕ) (token tail : List ℕ) → drop start text ≡ token ++ tail → (k : ℕ) → k ≤ length token → digitsValue k text start ≡ digitsValue k token 0
+value-same : (text : List ℕ) (start : ℕ) (token tail : List ℕ) → drop start text ≡ token ++ tail → (k : ℕ) →
+    k ≤ length token → digitsValue k text start ≡ digitsValue k token 0
 unfolding digitsValue
 value-same text start token tail h zero p = refl
 value-same text start token tail h (suc k) p =
@@ -60,7 +61,8 @@ unfolding digitsValue
 more-digits a y d t p =
     let more : List ℕ = a ++ digit d ∷ [] in
     let size : length more ≡ suc (length a) = length-append a (digit d ∷ []) ∙ omega arith in
-    let last : byteAt more (0 + length a) ≡ digit d = ap (λ (i : ℕ). byteAt more i) (zero-add (length a)) ∙ getD-append-seam a (digit d) [] 0 in
+    let last : byteAt more (0 + length a) ≡ digit d = ap (λ (i : ℕ). byteAt more i) (zero-add (length a))
+    ∙ getD-append-seam a (digit d) [] 0 in
     record {
       some = omega (arith, size);
       each = λ i q. by-last (length a) (λ (j : ℕ). isDigit (byteAt more j) ≡ true)
@@ -69,7 +71,8 @@ more-digits a y d t p =
           i (omega (arith, size));
       value =
           ap (λ (n : ℕ). digitsValue n more 0) size
-          ∙ ap₂ (λ (v b : ℕ). v * 10 + (b - 48)) (value-same more 0 a (digit d ∷ []) refl (length a) (omega arith) ∙ t .value) last
+          ∙ ap₂ (λ (v b : ℕ). v * 10 + (b - 48))
+          (value-same more 0 a (digit d ∷ []) refl (length a) (omega arith) ∙ t .value) last
           ∙ omega arith;
     }
 
@@ -96,43 +99,64 @@ digit-plain : (byte : ℕ) → isDigit byte ≡ true → endsToken byte ≡ fals
 unfolding endsToken isBlank
 digit-plain byte h =
     let least : 48 ≤ byte = digit-least byte h in
-    rw (ne-eqb byte 32 (λ e. omega arith), ne-eqb byte 9 (λ e. omega arith), ne-eqb byte 10 (λ e. omega arith), ne-eqb byte 13 (λ e. omega arith), ne-eqb byte 35 (λ e. omega arith))
+    rw (
+      ne-eqb byte 32 (λ e. omega arith),
+      ne-eqb byte 9 (λ e. omega arith),
+      ne-eqb byte 10 (λ e. omega arith),
+      ne-eqb
+          byte 13 (λ e. omega arith),
+      ne-eqb byte 35 (λ e. omega arith),
+    )
 
 pub digits-plain : (token : List ℕ) (x : ℕ) → Digits token x → Plain token
 digits-plain token x t = record { some = t .some; plain = λ i p. digit-plain (byteAt token i) (t .each i p) }
 
 -- digits that stand in a text are read as their number
-module _ (text : List ℕ) (start end : ℕ) (token tail : List ℕ) (h : drop start text ≡ token ++ tail) (e : end ≡ start + length token) (x : ℕ) (t : Digits token x) where
+module _ (text : List ℕ) (start end : ℕ) (token tail : List ℕ) (h : drop start text ≡ token ++ tail)
+    (e : end ≡ start + length token) (x : ℕ) (t : Digits token x) where
   pub number-in : x < 2 ^ 64 → numberIn text start end ≡ Number x
   unfolding numberIn
   number-in p =
       let size : end - start ≡ length token = omega arith in
-      let value : digitsValue (length token) text start ≡ x = value-same text start token tail h (length token) (omega arith) ∙ t .value in
-      let digits : allBelow (length token) (digitAt text start) ≡ true = all-of (length token) (digitAt text start) (λ i q. ap isDigit (byte-of text start token tail h i q) ∙ t .each i q) in
+      let value : digitsValue (length token) text start ≡ x = value-same text start token tail h (length token)
+      (omega arith) ∙ t .value in
+      let digits : allBelow (length token) (digitAt text start) ≡ true = all-of (length token) (digitAt text start)
+      (λ i q. ap isDigit (byte-of text start token tail h i q) ∙ t .each i q) in
       rw (size, all-readable text start (length token) (t .some) digits (omega (arith, value)), value)
 
   not-minus : isMinus text start end ≡ false
   unfolding isMinus
   not-minus =
-      let first : byteAt text start ≡ byteAt token 0 = ap (λ (i : ℕ). byteAt text i) (sym (add-zero start)) ∙ byte-of text start token tail h 0 (t .some) in
+      let first : byteAt text start ≡ byteAt token 0 = ap (λ (i : ℕ). byteAt text i) (sym (add-zero start)) ∙ byte-of
+      text start token tail h 0 (t .some) in
       let least : 48 ≤ byteAt token 0 = digit-least (byteAt token 0) (t .each 0 (t .some)) in
       rw (ne-eqb (byteAt text start) 45 (λ q. omega (arith, first)), and-false (ltb start end))
 
   above-in : x < 2 ^ 63 → signedIn text start end ≡ Signed (pos x)
-  above-in p = sym (signed-plain text start end not-minus) ∙ sym (above-small _ x (number-in (omega arith)) (pos x) p (sym (pos-sub-zero x)))
+  above-in p =
+      sym (signed-plain text start end not-minus) ∙ sym
+      (above-small _ x (number-in (omega arith)) (pos x) p (sym (pos-sub-zero x)))
 
 -- and with a minus in front as the number below zero
-module _ (text : List ℕ) (start end : ℕ) (token tail : List ℕ) (h : drop start text ≡ minus ∷ (token ++ tail)) (e : end ≡ start + suc (length token)) (n : ℕ) (t : Digits token (suc n)) where
+module _ (text : List ℕ) (start end : ℕ) (token tail : List ℕ) (h : drop start text ≡ minus ∷ (token ++ tail))
+    (e : end ≡ start + suc (length token)) (n : ℕ) (t : Digits token (suc n)) where
   is-minus : isMinus text start end ≡ true
   unfolding isMinus
-  is-minus = rw (lt-ltb start end (omega arith), eq-eqb (byteAt text start) 45 (byte-first text start (minus ∷ (token ++ tail)) h))
+  is-minus =
+      rw (
+        lt-ltb start end (omega arith),
+        eq-eqb (byteAt text start) 45
+            (byte-first text start (minus ∷ (token ++ tail)) h),
+      )
 
   below-in : n < 2 ^ 63 → signedIn text start end ≡ Signed (negsuc n)
   unfolding signedIn
   below-in p =
       let size : numberIn text (start + 1) end ≡ Number (suc n) =
-      number-in text (start + 1) end token tail (one-after text start minus (token ++ tail) h) (omega arith) (suc n) t (omega arith) in
-      rw (is-minus, size, le-leb (suc n) (2 ^ 63) (omega arith)) (ap Signed (sub-lt 0 (suc n) (omega arith) ∙ ap negsuc (omega arith)))
+      number-in text (start + 1) end token tail (one-after text start minus (token ++ tail) h) (omega arith) (suc n) t
+      (omega arith) in
+      rw (is-minus, size, le-leb (suc n) (2 ^ 63) (omega arith))
+      (ap Signed (sub-lt 0 (suc n) (omega arith) ∙ ap negsuc (omega arith)))
 
 minus-plain : (token : List ℕ) → Plain token → Plain (minus ∷ token)
 unfolding endsToken isBlank
@@ -146,11 +170,17 @@ minus-plain token t = record { some = omega arith; plain = byte }
 pub signed-token : (z : ℤ) → SFits w64 z → Plain (signedDecimal z)
 unfolding signedDecimal isNegative
 signed-token (pos n) f = digits-plain (decimal n) n (decimal-digits n (omega (arith, f .sfits)))
-signed-token (negsuc n) f = minus-plain (decimal (suc n)) (digits-plain (decimal (suc n)) (suc n) (decimal-digits (suc n) (omega (arith, f .sfits))))
+signed-token (negsuc n) f =
+    minus-plain (decimal (suc n))
+    (digits-plain (decimal (suc n)) (suc n) (decimal-digits (suc n) (omega (arith, f .sfits))))
 
-pub signed-in : (text : List ℕ) (start end : ℕ) (z : ℤ) (tail : List ℕ) → SFits w64 z → drop start text ≡ signedDecimal z ++ tail → end ≡ start + length (signedDecimal z) → signedIn text start end ≡ Signed z
+pub signed-in : (text : List ℕ) (start end : ℕ) (z : ℤ) (tail : List ℕ) → SFits w64 z →
+    drop start text ≡ signedDecimal z ++ tail → end ≡ start + length (signedDecimal z) →
+    signedIn text start end ≡ Signed z
 unfolding signedDecimal isNegative
 signed-in text start end (pos n) tail f h e =
-    above-in text start end (decimal n) tail h e n (decimal-digits n (omega (arith, f .sfits))) (omega (arith, f .sfits))
+    above-in text start end (decimal n) tail h e n (decimal-digits n (omega (arith, f .sfits)))
+    (omega (arith, f .sfits))
 signed-in text start end (negsuc n) tail f h e =
-    below-in text start end (decimal (suc n)) tail h e n (decimal-digits (suc n) (omega (arith, f .sfits))) (omega (arith, f .sfits))
+    below-in text start end (decimal (suc n)) tail h e n (decimal-digits (suc n) (omega (arith, f .sfits)))
+    (omega (arith, f .sfits))

@@ -1,5 +1,5 @@
--- Laws of a list's reading: number by number, by its count, how far it reaches, how long it is, and where its words stand.
--- Assumes nothing.
+-- Laws of a list's reading: number by number, by its count, how far it reaches, how long it is, and where its words
+-- stand. Assumes nothing.
 use mathlib.Core.Path.{_≡_, refl, sym, _∙_, ap}
 use mathlib.Core.List.{List, _++_}
 use Prim.Native.Nat.{ℕ, zero, suc, _+_, _≤_}
@@ -9,7 +9,8 @@ use lib.IntN.{ℤ}
 use Rattle.numbers.specs.Bounded.{listBelow}
 use Rattle.numbers.proofs.ListLaws.{list-length, Front, front}
 use Rattle.journal.specs.Cursor.{wordAfter, numberAfter, signedAfter, Onward}
-use Rattle.journal.specs.List.{cursorAfter, numberAt, signedCursorAfter, signedAt, countAfter, listAfter, listWords, signedListAfter, signedListWords}
+use Rattle.journal.specs.List.{cursorAfter, numberAt, signedCursorAfter, signedAt, countAfter, listAfter}
+use Rattle.journal.specs.List.{listWords, signedListAfter, signedListWords}
 use Rattle.journal.specs.declared.cursor.Cursor.{Cursor}
 use Rattle.journal.specs.declared.cursor.NumberRead.{NumberRead}
 use Rattle.journal.specs.declared.cursor.SignedRead.{SignedRead}
@@ -30,7 +31,8 @@ signed-cursor-none text cursor = refl
 
 -- number k is read after the k before it
 module _ (text : List ℕ) (cursor next : Cursor) (k : ℕ) where
-  module _ (most : ℕ) (e : next ≡ cursorAfter k text cursor most) (read : NumberRead) (r : read ≡ numberAfter text next most) where
+  module _ (most : ℕ) (e : next ≡ cursorAfter k text cursor most) (read : NumberRead)
+      (r : read ≡ numberAfter text next most) where
     pub cursor-next : read .next ≡ cursorAfter (k + 1) text cursor most
     unfolding cursorAfter
     cursor-next = rw add-one (ap (λ x. x .next) (r ∙ ap (λ m. numberAfter text m most) e))
@@ -50,7 +52,8 @@ module _ (text : List ℕ) (cursor next : Cursor) (k : ℕ) where
 
 -- the count is the number after the name
 module _ (text : List ℕ) (cursor : Cursor) (name : List ℕ) (longest : ℕ) where
-  pub count-read : (named : Cursor) (counted : NumberRead) → named ≡ wordAfter text cursor name → counted ≡ numberAfter text named longest → counted ≡ countAfter text cursor name longest
+  pub count-read : (named : Cursor) (counted : NumberRead) → named ≡ wordAfter text cursor name →
+      counted ≡ numberAfter text named longest → counted ≡ countAfter text cursor name longest
   unfolding countAfter
   count-read named counted w n = n ∙ ap (λ m. numberAfter text m longest) w
 
@@ -59,20 +62,25 @@ module _ (text : List ℕ) (cursor : Cursor) (name : List ℕ) (longest : ℕ) w
   count-most = number-most text (wordAfter text cursor name) longest
 
   -- a list is as many numbers as its count
-  module _ (counted : NumberRead) (e : counted ≡ countAfter text cursor name longest) (k : ℕ) (same : k ≡ counted .value) where
-    pub list-read : (most : ℕ) (next : Cursor) → next ≡ cursorAfter k text (counted .next) most → listRead (counted .value) next ≡ listAfter text cursor name longest most
+  module _ (counted : NumberRead) (e : counted ≡ countAfter text cursor name longest) (k : ℕ)
+      (same : k ≡ counted .value) where
+    pub list-read : (most : ℕ) (next : Cursor) → next ≡ cursorAfter k text (counted .next) most →
+        listRead (counted .value) next ≡ listAfter text cursor name longest most
     unfolding listAfter
     list-read most next q = rw (← e, q, same)
 
-    pub words-read : (most : ℕ) (words : List ℕ) → words ≡ listBelow k (numberAt text (counted .next) most) → words ≡ listWords text cursor name longest most
+    pub words-read : (most : ℕ) (words : List ℕ) → words ≡ listBelow k (numberAt text (counted .next) most) →
+        words ≡ listWords text cursor name longest most
     unfolding listWords
     words-read most words q = rw (← e, q, same)
 
-    pub signed-list-read : (next : Cursor) → next ≡ signedCursorAfter k text (counted .next) → listRead (counted .value) next ≡ signedListAfter text cursor name longest
+    pub signed-list-read : (next : Cursor) → next ≡ signedCursorAfter k text (counted .next) →
+        listRead (counted .value) next ≡ signedListAfter text cursor name longest
     unfolding signedListAfter
     signed-list-read next q = rw (← e, q, same)
 
-    pub signed-words-read : (words : List ℤ) → words ≡ listBelow k (signedAt text (counted .next)) → words ≡ signedListWords text cursor name longest
+    pub signed-words-read : (words : List ℤ) → words ≡ listBelow k (signedAt text (counted .next)) →
+        words ≡ signedListWords text cursor name longest
     unfolding signedListWords
     signed-words-read words q = rw (← e, q, same)
 
@@ -102,7 +110,8 @@ module _ {text : List ℕ} {cursor middle : Cursor} (o : Onward text cursor midd
   then-signed-list = then-signed-numbers (then-count o name longest) _
 
 -- a cursor that the code read a list to lies within the text
-module _ (text : List ℕ) (cursor : Cursor) (p : cursor .at ≤ length text) (name : List ℕ) (longest : ℕ) (read : ListRead) where
+module _ (text : List ℕ) (cursor : Cursor) (p : cursor .at ≤ length text) (name : List ℕ) (longest : ℕ)
+    (read : ListRead) where
   pub list-within : (most : ℕ) → read ≡ listAfter text cursor name longest most → read .next .at ≤ length text
   list-within most e = rw e (then-list (onward-same text cursor p) name longest most .within)
 
@@ -119,17 +128,23 @@ module _ (text : List ℕ) (cursor : Cursor) (name : List ℕ) (longest : ℕ) w
   unfolding signedListAfter
   signed-list-most = count-most text cursor name longest
 
-  words-length : (most : ℕ) → length (listWords text cursor name longest most) ≡ listAfter text cursor name longest most .count
+  words-length : (most : ℕ) →
+      length (listWords text cursor name longest most) ≡ listAfter text cursor name longest most .count
   unfolding listAfter listWords
   words-length most = list-length _ (countAfter text cursor name longest .value)
 
-  signed-words-length : length (signedListWords text cursor name longest) ≡ signedListAfter text cursor name longest .count
+  signed-words-length : length (signedListWords text cursor name longest) ≡ signedListAfter text cursor name
+      longest .count
   unfolding signedListAfter signedListWords
   signed-words-length = list-length _ (countAfter text cursor name longest .value)
 
   -- a list that was read into stands with its words first
-  pub words-first : (most count : ℕ) (rest list : List ℕ) → count ≡ listAfter text cursor name longest most .count → list ≡ listWords text cursor name longest most ++ rest → Front count (listWords text cursor name longest most) list
+  pub words-first : (most count : ℕ) (rest list : List ℕ) → count ≡ listAfter text cursor name longest most .count →
+      list ≡ listWords text cursor name longest most ++ rest →
+      Front count (listWords text cursor name longest most) list
   words-first most count rest list e h = front count _ rest list (words-length most ∙ sym e) h
 
-  pub signed-words-first : (count : ℕ) (rest list : List ℤ) → count ≡ signedListAfter text cursor name longest .count → list ≡ signedListWords text cursor name longest ++ rest → Front count (signedListWords text cursor name longest) list
+  pub signed-words-first : (count : ℕ) (rest list : List ℤ) → count ≡ signedListAfter text cursor name longest .count →
+      list ≡ signedListWords text cursor name longest ++ rest →
+      Front count (signedListWords text cursor name longest) list
   signed-words-first count rest list e h = front count _ rest list (signed-words-length ∙ sym e) h

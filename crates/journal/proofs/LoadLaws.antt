@@ -15,12 +15,16 @@ use Rattle.journal.specs.Token.{isBlank, endsToken}
 use Rattle.journal.specs.Word.{sameByte, isWord}
 use Rattle.journal.specs.Cursor.{readTo, mostWord}
 use Rattle.journal.specs.List.{cursorAfter, numberAt, listWords, signedListWords}
-use Rattle.journal.specs.Command.{loadName, presentName, chargesName, balancesName, commandIn, commandAfter, loadFixedFrom, loadMonthFrom, loadPresentFrom, loadChargesFrom, loadBalancesFrom, loadAfter}
+use Rattle.journal.specs.Command.{loadName, presentName, chargesName, balancesName, commandIn, commandAfter}
+use Rattle.journal.specs.Command.{loadFixedFrom, loadMonthFrom, loadPresentFrom, loadChargesFrom}
+use Rattle.journal.specs.Command.{loadBalancesFrom, loadAfter}
 use Rattle.journal.specs.declared.cursor.Cursor.{Cursor}
 use Rattle.journal.specs.declared.command.Command.the-variants.{Load, End}
 use Rattle.journal.proofs.CommandLaws.{command-end, command-read, commandRead}
-use Rattle.journal.proofs.TextLaws.{Gap, line-gap, Ends, gap-ends, Plain, start-same, end-same, start-none, end-none}
-use Rattle.journal.proofs.StandsLaws.{Ahead, plain-name, word-ends, number-stands, listLine, signedListLine, list-stands, signed-list-stands}
+use Rattle.journal.proofs.TextLaws.{Gap, line-gap, Ends, gap-ends, Plain, start-same, end-same, start-none}
+use Rattle.journal.proofs.TextLaws.{end-none}
+use Rattle.journal.proofs.StandsLaws.{Ahead, plain-name, word-ends, number-stands, listLine, signedListLine}
+use Rattle.journal.proofs.StandsLaws.{list-stands, signed-list-stands}
 
 -- the names in it end no token
 load-plain : Plain loadName
@@ -44,14 +48,20 @@ load-in : (tail : List ℕ) → Load ≡ commandIn (loadName ++ tail) 0 (length 
 unfolding commandIn isWord sameByte allBelow
 load-in tail = rw (ne-eqb 0 (length (loadName ++ tail)) (λ e. omega arith))
 
-pub load-command : (tail : List ℕ) → Ends tail → commandRead Load (readTo (length loadName)) ≡ commandAfter (loadName ++ tail) 0
+pub load-command : (tail : List ℕ) → Ends tail →
+    commandRead Load (readTo (length loadName)) ≡ commandAfter (loadName ++ tail) 0
 load-command tail e =
-    command-read (loadName ++ tail) 0 0 (length loadName) (sym (start-same (loadName ++ tail) 0 loadName tail load-plain e refl)) (sym (end-same (loadName ++ tail) 0 loadName tail load-plain e refl)) Load (load-in tail) refl (readTo (length loadName)) refl
+    command-read (loadName ++ tail) 0 0 (length loadName)
+    (sym (start-same (loadName ++ tail) 0 loadName tail load-plain e refl))
+    (sym (end-same (loadName ++ tail) 0 loadName tail load-plain e refl)) Load (load-in tail) refl
+    (readTo (length loadName)) refl
 
 -- only a line end is left: no command follows
-pub end-command : (text : List ℕ) (at gap : ℕ) → Gap gap → drop at text ≡ gap ∷ [] → commandRead End (readTo (length text)) ≡ commandAfter text at
+pub end-command : (text : List ℕ) (at gap : ℕ) → Gap gap → drop at text ≡ gap ∷ [] →
+    commandRead End (readTo (length text)) ≡ commandAfter text at
 end-command text at gap g h =
-    command-read text at (length text) (length text) (sym (start-none text at gap g h)) (sym (end-none text)) End (command-end text (length text) (length text) refl) refl (readTo (length text)) refl
+    command-read text at (length text) (length text) (sym (start-none text at gap g h)) (sym (end-none text)) End
+    (command-end text (length text) (length text) refl) refl (readTo (length text)) refl
 
 -- the text of a kept ledger after the word `load`
 pub record LoadWords : Type 0 where
@@ -75,7 +85,8 @@ module _ (w : LoadWords) where
   presentText = listLine presentName (w .present) chargesText
 
   abbrev pub loadText : List ℕ
-  loadText = word (w .n) ++ (word (w .months) ++ (word (w .last) ++ (word (w .fixed) ++ (word (w .month) ++ presentText))))
+  loadText =
+      word (w .n) ++ (word (w .months) ++ (word (w .last) ++ (word (w .fixed) ++ (word (w .month) ++ presentText))))
 
 -- words that the text can hold
 pub record LoadFits (w : LoadWords) : Type 0 where
@@ -110,14 +121,22 @@ module _ (text : List ℕ) (cursor : Cursor) (w : LoadWords) (fits : LoadFits w)
   pub load-stands : Ahead text cursor (loadText w) → LoadStands text cursor w
   unfolding loadAfter loadBalancesFrom loadChargesFrom loadPresentFrom loadMonthFrom loadFixedFrom cursorAfter numberAt
   load-stands s =
-      let n = number-stands text cursor (w .n) mostWord _ (omega (arith, fits .n)) (omega arith) (word-ends (w .months) _) s in
-      let months = number-stands text _ (w .months) mostWord _ (omega (arith, fits .months)) (omega arith) (word-ends (w .last) _) (n .next) in
-      let last = number-stands text _ (w .last) mostWord _ (omega (arith, fits .last)) (omega arith) (word-ends (w .fixed) _) (months .next) in
-      let fixed = number-stands text _ (w .fixed) 1 _ (fits .fixed) (omega arith) (word-ends (w .month) _) (last .next) in
-      let month = number-stands text _ (w .month) mostWord (presentText w) (omega (arith, fits .month)) (omega arith) (line-ends _) (fixed .next) in
-      let present = list-stands text _ presentName present-plain sectorPlaces (omega arith) (chargesText w) (line-ends _) (w .present) 1 (fits .presents) (fits .present) (omega arith) (month .next) in
-      let charges = signed-list-stands text _ chargesName charges-plain sectorPlaces (omega arith) (balancesText w) (line-ends _) (w .charges) (fits .charged) (fits .charges) (present .next) in
-      let balances = signed-list-stands text _ balancesName balances-plain mostDistributors (omega arith) (lineEnd ∷ []) (line-ends []) (w .balances) (fits .balanced) (fits .balances) (charges .next) in
+      let n = number-stands text cursor (w .n) mostWord _ (omega (arith, fits .n)) (omega arith)
+      (word-ends (w .months) _) s in
+      let months = number-stands text _ (w .months) mostWord _ (omega (arith, fits .months)) (omega arith)
+      (word-ends (w .last) _) (n .next) in
+      let last = number-stands text _ (w .last) mostWord _ (omega (arith, fits .last)) (omega arith)
+      (word-ends (w .fixed) _) (months .next) in
+      let fixed = number-stands text _ (w .fixed) 1 _ (fits .fixed) (omega arith) (word-ends (w .month) _)
+      (last .next) in
+      let month = number-stands text _ (w .month) mostWord (presentText w) (omega (arith, fits .month)) (omega arith)
+      (line-ends _) (fixed .next) in
+      let present = list-stands text _ presentName present-plain sectorPlaces (omega arith) (chargesText w)
+      (line-ends _) (w .present) 1 (fits .presents) (fits .present) (omega arith) (month .next) in
+      let charges = signed-list-stands text _ chargesName charges-plain sectorPlaces (omega arith) (balancesText w)
+      (line-ends _) (w .charges) (fits .charged) (fits .charges) (present .next) in
+      let balances = signed-list-stands text _ balancesName balances-plain mostDistributors (omega arith) (lineEnd ∷ [])
+      (line-ends []) (w .balances) (fits .balanced) (fits .balances) (charges .next) in
       record {
         n = n .value;
         months = months .value;

@@ -39,7 +39,8 @@ module _ (text : List ℕ) (start : ℕ) where
   unfolding digitsValue
   value-step k = rw add-one refl
 
-  pub value-next : (value k : ℕ) → value ≡ digitsValue k text start → value * 10 + (byteAt text (start + k) - 48) ≡ digitsValue (k + 1) text start
+  pub value-next : (value k : ℕ) → value ≡ digitsValue k text start →
+      value * 10 + (byteAt text (start + k) - 48) ≡ digitsValue (k + 1) text start
   value-next value k e = rw e (sym (value-step k))
 
   value-up : (k m : ℕ) → digitsValue k text start ≤ digitsValue (m + k) text start
@@ -71,6 +72,7 @@ module _ (text : List ℕ) (start : ℕ) where
       last true false = refl
       last false b = refl
 
-  pub all-readable : (count : ℕ) → 0 < count → allBelow count digitAt ≡ true → digitsValue count text start < 2 ^ 64 → readable count text start ≡ true
+  pub all-readable : (count : ℕ) → 0 < count → allBelow count digitAt ≡ true → digitsValue count text start < 2 ^ 64 →
+      readable count text start ≡ true
   unfolding readable
   all-readable count p h q = rw (lt-ltb 0 count p, h) (lt-ltb (digitsValue count text start) (2 ^ 64) q)

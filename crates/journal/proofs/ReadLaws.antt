@@ -6,8 +6,14 @@ use Prim.Native.Nat.{ℕ}
 use lib.IntN.{ℤ}
 use Rattle.numbers.specs.Sizes.{mostDistributors, sectorPlaces}
 use Rattle.journal.specs.Cursor.{wordAfter, numberAfter, mostWord}
-use Rattle.journal.specs.List.{cursorAfter, numberAt, countAfter, listAfter, listWords, signedListAfter, signedListWords}
-use Rattle.journal.specs.Command.{longestList, seriesName, linesName, sectorsName, pricesName, readingsName, lossesName, transfersName, presentName, chargesName, balancesName, fixSeriesFrom, fixLinesFrom, fixSectorsFrom, fixPricesFrom, fixAfter, settleReadingsFrom, settleLossesFrom, settleTransfersFrom, settleAfter, loadFixedFrom, loadMonthFrom, loadPresentFrom, loadChargesFrom, loadBalancesFrom, loadAfter}
+use Rattle.journal.specs.List.{cursorAfter, numberAt, countAfter, listAfter, listWords, signedListAfter}
+use Rattle.journal.specs.List.{signedListWords}
+use Rattle.journal.specs.Command.{longestList, seriesName, linesName, sectorsName, pricesName, readingsName}
+use Rattle.journal.specs.Command.{lossesName, transfersName, presentName, chargesName, balancesName}
+use Rattle.journal.specs.Command.{fixSeriesFrom, fixLinesFrom, fixSectorsFrom, fixPricesFrom, fixAfter}
+use Rattle.journal.specs.Command.{settleReadingsFrom, settleLossesFrom, settleTransfersFrom, settleAfter}
+use Rattle.journal.specs.Command.{loadFixedFrom, loadMonthFrom, loadPresentFrom, loadChargesFrom}
+use Rattle.journal.specs.Command.{loadBalancesFrom, loadAfter}
 use Rattle.journal.specs.declared.cursor.Cursor.{Cursor}
 use Rattle.journal.specs.declared.cursor.NumberRead.{NumberRead}
 use Rattle.journal.specs.declared.list.ListRead.{ListRead}
@@ -64,15 +70,18 @@ module _ {text : List ℕ} {cursor : Cursor} (parts : FixParts text cursor) wher
   unfolding countAfter fixAfter fixPricesFrom fixSectorsFrom fixLinesFrom fixSeriesFrom cursorAfter numberAt
   fix-read = cc
 
-  pub series-words : parts .series .list ≡ listWords text (fixSeriesFrom text cursor) seriesName longestList mostWord ++ parts .series .rest
+  pub series-words : parts .series .list ≡ listWords text (fixSeriesFrom text cursor) seriesName longestList mostWord
+      ++ parts .series .rest
   unfolding fixSeriesFrom cursorAfter
   series-words = cc
 
-  pub lines-words : parts .lines .list ≡ listWords text (fixLinesFrom text cursor) linesName longestList mostWord ++ parts .lines .rest
+  pub lines-words : parts .lines .list ≡ listWords text (fixLinesFrom text cursor) linesName longestList mostWord
+      ++ parts .lines .rest
   unfolding fixLinesFrom fixSeriesFrom cursorAfter
   lines-words = cc
 
-  pub sectors-words : parts .sectors .list ≡ listWords text (fixSectorsFrom text cursor) sectorsName longestList mostWord ++ parts .sectors .rest
+  pub sectors-words : parts .sectors .list ≡ listWords text (fixSectorsFrom text cursor) sectorsName longestList
+      mostWord ++ parts .sectors .rest
   unfolding fixSectorsFrom fixLinesFrom fixSeriesFrom cursorAfter
   sectors-words = cc
 
@@ -94,11 +103,13 @@ module _ {text : List ℕ} {cursor : Cursor} (parts : SettleParts text cursor) w
   unfolding countAfter settleAfter settleTransfersFrom settleLossesFrom settleReadingsFrom cursorAfter numberAt
   settle-read = cc
 
-  pub readings-words : parts .readings .list ≡ listWords text (settleReadingsFrom text cursor) readingsName longestList mostWord ++ parts .readings .rest
+  pub readings-words : parts .readings .list ≡ listWords text (settleReadingsFrom text cursor) readingsName longestList
+      mostWord ++ parts .readings .rest
   unfolding settleReadingsFrom cursorAfter
   readings-words = cc
 
-  pub losses-words : parts .losses .list ≡ listWords text (settleLossesFrom text cursor) lossesName longestList mostWord ++ parts .losses .rest
+  pub losses-words : parts .losses .list ≡ listWords text (settleLossesFrom text cursor) lossesName longestList mostWord
+      ++ parts .losses .rest
   unfolding settleLossesFrom settleReadingsFrom cursorAfter
   losses-words = cc
 
@@ -128,14 +139,17 @@ module _ {text : List ℕ} {cursor : Cursor} (parts : LoadParts text cursor) whe
   unfolding loadAfter loadBalancesFrom loadChargesFrom loadPresentFrom loadMonthFrom loadFixedFrom cursorAfter numberAt
   load-read = cc
 
-  pub present-words : parts .present .list ≡ listWords text (loadPresentFrom text cursor) presentName sectorPlaces 1 ++ parts .present .rest
+  pub present-words : parts .present .list ≡ listWords text (loadPresentFrom text cursor) presentName sectorPlaces 1
+      ++ parts .present .rest
   unfolding loadPresentFrom loadMonthFrom loadFixedFrom cursorAfter
   present-words = cc
 
-  pub charges-words : parts .charges .list ≡ signedListWords text (loadChargesFrom text cursor) chargesName sectorPlaces ++ parts .charges .rest
+  pub charges-words : parts .charges .list ≡ signedListWords text (loadChargesFrom text cursor) chargesName sectorPlaces
+      ++ parts .charges .rest
   unfolding loadChargesFrom loadPresentFrom loadMonthFrom loadFixedFrom cursorAfter
   charges-words = cc
 
-  pub balances-words : parts .balances .list ≡ signedListWords text (loadBalancesFrom text cursor) balancesName mostDistributors ++ parts .balances .rest
+  pub balances-words : parts .balances .list ≡ signedListWords text (loadBalancesFrom text cursor) balancesName
+      mostDistributors ++ parts .balances .rest
   unfolding loadBalancesFrom loadChargesFrom loadPresentFrom loadMonthFrom loadFixedFrom cursorAfter
   balances-words = cc

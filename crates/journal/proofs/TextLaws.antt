@@ -10,7 +10,8 @@ use lib.Seq.{drop-drop, drop-append-seam, getD-drop}
 use borrow.Author.Tests.{eq-eqb}
 use Rattle.numbers.proofs.TestLaws.{all-of}
 use Rattle.text.specs.Text.{blank, lineEnd}
-use Rattle.journal.specs.Token.{byteAt, isBlank, endsToken, commentAfter, startFrom, tokenStart, endFrom, tokenEnd}
+use Rattle.journal.specs.Token.{byteAt, isBlank, endsToken, commentAfter, startFrom, tokenStart, endFrom}
+use Rattle.journal.specs.Token.{tokenEnd}
 use Rattle.journal.specs.Word.{sameByte, isWord}
 use Rattle.journal.proofs.TokenLaws.{end-here, end-on, start-here, start-on}
 
@@ -32,7 +33,8 @@ module _ (text : List ℕ) (k : ℕ) (token tail : List ℕ) (h : drop k text �
   byte-of i p = byte-on text k (token ++ tail) h i ∙ List·getD-append token tail 0 i p
 
   stands-after : drop (k + length token) text ≡ tail
-  stands-after = sym (drop-drop (length token) k text) ∙ ap (λ (l : List ℕ). drop (length token) l) h ∙ drop-append-seam token tail
+  stands-after =
+      sym (drop-drop (length token) k text) ∙ ap (λ (l : List ℕ). drop (length token) l) h ∙ drop-append-seam token tail
 
 pub one-after : (text : List ℕ) (k b : ℕ) (tail : List ℕ) → drop k text ≡ b ∷ tail → drop (k + 1) text ≡ tail
 one-after text k b tail h = stands-after text k (b ∷ []) tail h
@@ -65,10 +67,14 @@ pub record Plain (token : List ℕ) : Type 0 where
   pub some : 0 < length token
   pub plain : (i : ℕ) → i < length token → endsToken (byteAt token i) ≡ false
 
-end-walked : (text token tail : List ℕ) (k : ℕ) → drop k text ≡ token ++ tail → ((i : ℕ) → i < length token → endsToken (byteAt token i) ≡ false) → Ends tail → endFrom (length text - k) text k ≡ k + length token
-end-walked text [] tail k h p e = end-here text k (length text - k) (ap endsToken (byte-first text k tail h) ∙ e .ends) ∙ sym (add-zero k)
+end-walked : (text token tail : List ℕ) (k : ℕ) → drop k text ≡ token ++ tail →
+    ((i : ℕ) → i < length token → endsToken (byteAt token i) ≡ false) → Ends tail →
+    endFrom (length text - k) text k ≡ k + length token
+end-walked text [] tail k h p e =
+    end-here text k (length text - k) (ap endsToken (byte-first text k tail h) ∙ e .ends) ∙ sym (add-zero k)
 end-walked text (b ∷ token) tail k h p e =
-    end-on text k (place-within text k b (token ++ tail) h) (ap endsToken (byte-first text k (b ∷ (token ++ tail)) h) ∙ p 0 (omega arith))
+    end-on text k (place-within text k b (token ++ tail) h)
+    (ap endsToken (byte-first text k (b ∷ (token ++ tail)) h) ∙ p 0 (omega arith))
     ∙ end-walked text token tail (k + 1) (one-after text k b (token ++ tail) h) (λ i q. p (suc i) (omega arith)) e
     ∙ omega arith
 

@@ -15,39 +15,47 @@ module _ (text : List ℕ) (k : ℕ) where
   end-here zero h = refl
   end-here (suc left) h = rw h
 
-  pub end-on : k < length text → endsToken (byteAt text k) ≡ false → endFrom (length text - k) text k ≡ endFrom (length text - (k + 1)) text (k + 1)
+  pub end-on : k < length text → endsToken (byteAt text k) ≡ false →
+      endFrom (length text - k) text k ≡ endFrom (length text - (k + 1)) text (k + 1)
   unfolding endFrom
   end-on p h =
       let e : length text - k ≡ suc (length text - (k + 1)) = omega arith in
       rw (e, h)
 
-  pub start-here : (comment : Bool) (left : ℕ) → (comment || endsToken (byteAt text k)) ≡ false → startFrom left comment text k ≡ k
+  pub start-here : (comment : Bool) (left : ℕ) → (comment || endsToken (byteAt text k)) ≡ false →
+      startFrom left comment text k ≡ k
   unfolding startFrom
   start-here comment zero h = refl
   start-here comment (suc left) h = rw h
 
-  pub start-on : (comment : Bool) → k < length text → (comment || endsToken (byteAt text k)) ≡ true → startFrom (length text - k) comment text k ≡ startFrom (length text - (k + 1)) (commentAfter comment (byteAt text k)) text (k + 1)
+  pub start-on : (comment : Bool) → k < length text → (comment || endsToken (byteAt text k)) ≡ true →
+      startFrom (length text - k) comment text k ≡ startFrom (length text - (k + 1))
+      (commentAfter comment (byteAt text k)) text (k + 1)
   unfolding startFrom
   start-on comment p h =
       let e : length text - k ≡ suc (length text - (k + 1)) = omega arith in
       rw (e, h)
 
 -- a walk stops here or goes on by a byte
-stop-or-on : (b : Bool) (k left on : ℕ) → (k + 1 ≤ on) × (on ≤ k + 1 + left) → (k ≤ cond b on k) × (cond b on k ≤ k + suc left)
+stop-or-on : (b : Bool) (k left on : ℕ) → (k + 1 ≤ on) × (on ≤ k + 1 + left) →
+    (k ≤ cond b on k) × (cond b on k ≤ k + suc left)
 stop-or-on true k left on h = (omega arith, omega arith)
 stop-or-on false k left on h = (omega arith, omega arith)
 
-on-or-stop : (b : Bool) (k left on : ℕ) → (k + 1 ≤ on) × (on ≤ k + 1 + left) → (k ≤ cond b k on) × (cond b k on ≤ k + suc left)
+on-or-stop : (b : Bool) (k left on : ℕ) → (k + 1 ≤ on) × (on ≤ k + 1 + left) →
+    (k ≤ cond b k on) × (cond b k on ≤ k + suc left)
 on-or-stop true k left on h = (omega arith, omega arith)
 on-or-stop false k left on h = (omega arith, omega arith)
 
 -- so it ends among the bytes that are left
 module _ (text : List ℕ) where
-  start-walk : (left : ℕ) (comment : Bool) (k : ℕ) → (k ≤ startFrom left comment text k) × (startFrom left comment text k ≤ k + left)
+  start-walk : (left : ℕ) (comment : Bool) (k : ℕ) →
+      (k ≤ startFrom left comment text k) × (startFrom left comment text k ≤ k + left)
   unfolding startFrom
   start-walk zero comment k = (omega arith, omega arith)
   start-walk (suc left) comment k =
-      stop-or-on (comment || endsToken (byteAt text k)) k left _ (start-walk left (commentAfter comment (byteAt text k)) (k + 1))
+      stop-or-on (comment || endsToken (byteAt text k)) k left _
+      (start-walk left (commentAfter comment (byteAt text k)) (k + 1))
 
   end-walk : (left k : ℕ) → (k ≤ endFrom left text k) × (endFrom left text k ≤ k + left)
   unfolding endFrom
@@ -55,7 +63,8 @@ module _ (text : List ℕ) where
   end-walk (suc left) k = on-or-stop (endsToken (byteAt text k)) k left _ (end-walk left (k + 1))
 
   -- a walk that stops before its end stops at a byte of a token
-  start-byte : (left : ℕ) (comment : Bool) (k : ℕ) → startFrom left comment text k < k + left → endsToken (byteAt text (startFrom left comment text k)) ≡ false
+  start-byte : (left : ℕ) (comment : Bool) (k : ℕ) → startFrom left comment text k < k + left →
+      endsToken (byteAt text (startFrom left comment text k)) ≡ false
   unfolding startFrom
   start-byte zero comment k p = absurd (omega arith)
   start-byte (suc left) comment k p =
@@ -64,7 +73,8 @@ module _ (text : List ℕ) where
       on : ℕ
       on = startFrom left (commentAfter comment (byteAt text k)) text (k + 1)
 
-      go : (b : Bool) → (comment || endsToken (byteAt text k)) ≡ b → cond b on k < k + suc left → (on < k + 1 + left → endsToken (byteAt text on) ≡ false) → endsToken (byteAt text (cond b on k)) ≡ false
+      go : (b : Bool) → (comment || endsToken (byteAt text k)) ≡ b → cond b on k < k + suc left →
+          (on < k + 1 + left → endsToken (byteAt text on) ≡ false) → endsToken (byteAt text (cond b on k)) ≡ false
       go true h q r = r (omega arith)
       go false h q r = or-right comment (endsToken (byteAt text k)) h
 
@@ -89,7 +99,8 @@ module _ (text : List ℕ) where
   unfolding tokenEnd
   end-past start p h = rw (end-on text start p h) (omega (arith, end-walk (length text - (start + 1)) (start + 1) .0))
 
-  pub token-some : (from : ℕ) → tokenStart text from < length text → tokenStart text from < tokenEnd text (tokenStart text from)
+  pub token-some : (from : ℕ) → tokenStart text from < length text →
+      tokenStart text from < tokenEnd text (tokenStart text from)
   unfolding tokenStart
   token-some from p =
       end-past (tokenStart text from) p

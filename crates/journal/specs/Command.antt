@@ -146,7 +146,8 @@ settleAfter text cursor =
       next = transfers .next;
     }
 
--- "load N MONTHS LAST FIXED MONTH present K .. charges K .. balances K .."; "FIXED and the words of `present` are 0 or 1"
+-- "load N MONTHS LAST FIXED MONTH present K .. charges K .. balances K .."; "FIXED and the words of `present` are 0 or
+-- 1"
 unfoldable pub loadFixedFrom : List ℕ → Cursor → Cursor
 loadFixedFrom text cursor = cursorAfter 3 text cursor mostWord
 

@@ -23,11 +23,13 @@ digitsValue (suc k) text start = digitsValue k text start * 10 + (byteAt text (s
 -- "A number is decimal digits", and fits 64 bits
 unfoldable pub readable : ℕ → List ℕ → ℕ → Bool
 readable count text start =
-    ltb 0 count && (allBelow count (λ k. isDigit (byteAt text (start + k))) && ltb (digitsValue count text start) (2 ^ 64))
+    ltb 0 count && (allBelow count (λ k. isDigit (byteAt text (start + k))) && ltb (digitsValue count text start)
+    (2 ^ 64))
 
 -- the reading of the bytes from start to before end
 unfoldable pub numberIn : List ℕ → ℕ → ℕ → Reading
-numberIn text start end = cond (readable (end - start) text start) (Number (digitsValue (end - start) text start)) Unreadable
+numberIn text start end =
+    cond (readable (end - start) text start) (Number (digitsValue (end - start) text start)) Unreadable
 
 -- "with `-` in front where it is signed"
 unfoldable pub isMinus : List ℕ → ℕ → ℕ → Bool

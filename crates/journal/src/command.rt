@@ -6,8 +6,12 @@ ghost use lib.ListN.{length, drop};
 ghost use Rattle.numbers.specs.Sizes.{mostDistributors, sectorPlaces};
 ghost use Rattle.journal.specs.Cursor.{mostWord};
 ghost use Rattle.journal.specs.List.{listWords, signedListWords};
-ghost use Rattle.journal.specs.Command.{longestList, isUnknown, commandIn, commandAfter, seriesName, linesName, sectorsName, readingsName, lossesName, presentName, chargesName, balancesName};
-ghost use Rattle.journal.specs.Command.{fixSeriesFrom, fixLinesFrom, fixSectorsFrom, fixAfter, settleReadingsFrom, settleLossesFrom, settleAfter, loadPresentFrom, loadChargesFrom, loadBalancesFrom, loadAfter};
+ghost use Rattle.journal.specs.Command.{longestList, isUnknown, commandIn, commandAfter, seriesName, linesName};
+ghost use Rattle.journal.specs.Command.{sectorsName, readingsName, lossesName, presentName, chargesName};
+ghost use Rattle.journal.specs.Command.{balancesName};
+ghost use Rattle.journal.specs.Command.{fixSeriesFrom, fixLinesFrom, fixSectorsFrom, fixAfter};
+ghost use Rattle.journal.specs.Command.{settleReadingsFrom, settleLossesFrom, settleAfter, loadPresentFrom};
+ghost use Rattle.journal.specs.Command.{loadChargesFrom, loadBalancesFrom, loadAfter};
 use crate::cursor::Cursor;
 use crate::cursor::broken_at;
 use crate::cursor::next_number;
@@ -141,11 +145,15 @@ pub fn read_fix(
     lines: &mut [u64],
     sectors: &mut [u64],
 ) -> FixRead
-    requires { ⌜ cursor .at ≤ length (now text) ⌝ ∗ ⌜ length (now series) ≡ longestList ⌝ ∗ ⌜ length (now lines) ≡ longestList ⌝ ∗ ⌜ length (now sectors) ≡ longestList ⌝ }
+    requires { ⌜ cursor .at ≤ length (now text) ⌝ ∗ ⌜ length (now series) ≡ longestList ⌝
+        ∗ ⌜ length (now lines) ≡ longestList ⌝ ∗ ⌜ length (now sectors) ≡ longestList ⌝ }
     ensures { λ r. ⌜ r ≡ fixAfter (now (text .entry)) cursor ⌝ }
-    ensures { λ r. ⌜ now (series .exit) ≡ listWords (now (text .entry)) (fixSeriesFrom (now (text .entry)) cursor) seriesName longestList mostWord ++ drop (r .series) (now (series .entry)) ⌝ }
-    ensures { λ r. ⌜ now (lines .exit) ≡ listWords (now (text .entry)) (fixLinesFrom (now (text .entry)) cursor) linesName longestList mostWord ++ drop (r .lines) (now (lines .entry)) ⌝ }
-    ensures { λ r. ⌜ now (sectors .exit) ≡ listWords (now (text .entry)) (fixSectorsFrom (now (text .entry)) cursor) sectorsName longestList mostWord ++ drop (r .sectors) (now (sectors .entry)) ⌝ }
+    ensures { λ r. ⌜ now (series .exit) ≡ listWords (now (text .entry)) (fixSeriesFrom (now (text .entry)) cursor)
+        seriesName longestList mostWord ++ drop (r .series) (now (series .entry)) ⌝ }
+    ensures { λ r. ⌜ now (lines .exit) ≡ listWords (now (text .entry)) (fixLinesFrom (now (text .entry)) cursor)
+        linesName longestList mostWord ++ drop (r .lines) (now (lines .entry)) ⌝ }
+    ensures { λ r. ⌜ now (sectors .exit) ≡ listWords (now (text .entry)) (fixSectorsFrom (now (text .entry)) cursor)
+        sectorsName longestList mostWord ++ drop (r .sectors) (now (sectors .entry)) ⌝ }
 {
     let month = next_number(text, cursor, MOST_WORD);
     let dollar = next_number(text, month.next, MOST_WORD);
@@ -177,10 +185,14 @@ pub fn read_settle(
     readings: &mut [u64],
     losses: &mut [u64],
 ) -> SettleRead
-    requires { ⌜ cursor .at ≤ length (now text) ⌝ ∗ ⌜ length (now readings) ≡ longestList ⌝ ∗ ⌜ length (now losses) ≡ longestList ⌝ }
+    requires { ⌜ cursor .at ≤ length (now text) ⌝ ∗ ⌜ length (now readings) ≡ longestList ⌝
+        ∗ ⌜ length (now losses) ≡ longestList ⌝ }
     ensures { λ r. ⌜ r ≡ settleAfter (now (text .entry)) cursor ⌝ }
-    ensures { λ r. ⌜ now (readings .exit) ≡ listWords (now (text .entry)) (settleReadingsFrom (now (text .entry)) cursor) readingsName longestList mostWord ++ drop (r .readings) (now (readings .entry)) ⌝ }
-    ensures { λ r. ⌜ now (losses .exit) ≡ listWords (now (text .entry)) (settleLossesFrom (now (text .entry)) cursor) lossesName longestList mostWord ++ drop (r .losses) (now (losses .entry)) ⌝ }
+    ensures { λ r. ⌜ now (readings .exit) ≡ listWords (now (text .entry))
+        (settleReadingsFrom (now (text .entry)) cursor) readingsName longestList mostWord ++ drop (r .readings)
+        (now (readings .entry)) ⌝ }
+    ensures { λ r. ⌜ now (losses .exit) ≡ listWords (now (text .entry)) (settleLossesFrom (now (text .entry)) cursor)
+        lossesName longestList mostWord ++ drop (r .losses) (now (losses .entry)) ⌝ }
 {
     let month = next_number(text, cursor, MOST_WORD);
     let readings_read = read_list(text, month.next, b"readings", MOST_WORD, readings);
@@ -205,11 +217,17 @@ pub fn read_load(
     charges: &mut [i64],
     balances: &mut [i64],
 ) -> LoadRead
-    requires { ⌜ cursor .at ≤ length (now text) ⌝ ∗ ⌜ length (now present) ≡ sectorPlaces ⌝ ∗ ⌜ length (now charges) ≡ sectorPlaces ⌝ ∗ ⌜ length (now balances) ≡ mostDistributors ⌝ }
+    requires { ⌜ cursor .at ≤ length (now text) ⌝ ∗ ⌜ length (now present) ≡ sectorPlaces ⌝
+        ∗ ⌜ length (now charges) ≡ sectorPlaces ⌝ ∗ ⌜ length (now balances) ≡ mostDistributors ⌝ }
     ensures { λ r. ⌜ r ≡ loadAfter (now (text .entry)) cursor ⌝ }
-    ensures { λ r. ⌜ now (present .exit) ≡ listWords (now (text .entry)) (loadPresentFrom (now (text .entry)) cursor) presentName sectorPlaces 1 ++ drop (r .present) (now (present .entry)) ⌝ }
-    ensures { λ r. ⌜ now (charges .exit) ≡ signedListWords (now (text .entry)) (loadChargesFrom (now (text .entry)) cursor) chargesName sectorPlaces ++ drop (r .charges) (now (charges .entry)) ⌝ }
-    ensures { λ r. ⌜ now (balances .exit) ≡ signedListWords (now (text .entry)) (loadBalancesFrom (now (text .entry)) cursor) balancesName mostDistributors ++ drop (r .balances) (now (balances .entry)) ⌝ }
+    ensures { λ r. ⌜ now (present .exit) ≡ listWords (now (text .entry)) (loadPresentFrom (now (text .entry)) cursor)
+        presentName sectorPlaces 1 ++ drop (r .present) (now (present .entry)) ⌝ }
+    ensures { λ r. ⌜ now (charges .exit) ≡ signedListWords (now (text .entry))
+        (loadChargesFrom (now (text .entry)) cursor) chargesName sectorPlaces ++ drop (r .charges)
+        (now (charges .entry)) ⌝ }
+    ensures { λ r. ⌜ now (balances .exit) ≡ signedListWords (now (text .entry))
+        (loadBalancesFrom (now (text .entry)) cursor) balancesName mostDistributors ++ drop (r .balances)
+        (now (balances .entry)) ⌝ }
 {
     let n = next_number(text, cursor, MOST_WORD);
     let months = next_number(text, n.next, MOST_WORD);

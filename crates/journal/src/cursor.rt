@@ -1,9 +1,10 @@
-// Reading on from a place in a journal: the next word or number. What cannot be read is told by the byte where its token
-// starts, and after it nothing is read.
+// Reading on from a place in a journal: the next word or number. What cannot be read is told by the byte where its
+// token starts, and after it nothing is read.
 ghost use mathlib.Core.Path.{_≡_};
 ghost use Prim.Native.Nat.{_≤_};
 ghost use lib.ListN.{length};
-ghost use Rattle.journal.specs.Cursor.{readTo, brokenAt, wordAfter, numberFrom, numberAfter, signedFrom, signedAfter};
+ghost use Rattle.journal.specs.Cursor.{readTo, brokenAt, wordAfter, numberFrom, numberAfter, signedFrom};
+ghost use Rattle.journal.specs.Cursor.{signedAfter};
 use crate::number::Reading;
 use crate::number::SignedReading;
 use crate::number::read_number;

@@ -4,7 +4,8 @@ ghost use mathlib.Core.List.{_++_};
 ghost use Prim.Native.Nat.{_≤_};
 ghost use lib.ListN.{length, drop};
 ghost use Rattle.numbers.specs.Bounded.{listBelow};
-ghost use Rattle.journal.specs.List.{numberAt, cursorAfter, signedAt, signedCursorAfter, listAfter, listWords, signedListAfter, signedListWords};
+ghost use Rattle.journal.specs.List.{numberAt, cursorAfter, signedAt, signedCursorAfter, listAfter, listWords};
+ghost use Rattle.journal.specs.List.{signedListAfter, signedListWords};
 use crate::cursor::Cursor;
 use crate::cursor::next_number;
 use crate::cursor::next_signed;
@@ -20,7 +21,8 @@ pub struct ListRead {
 fn fill_numbers(text: &[u8], cursor: Cursor, most: u64, into: &mut [u64]) -> Cursor
     requires { ⌜ cursor .at ≤ length (now text) ⌝ }
     ensures { λ r. ⌜ r ≡ cursorAfter (length (now (into .entry))) (now (text .entry)) cursor most ⌝ }
-    ensures { λ r. ⌜ now (into .exit) ≡ listBelow (length (now (into .entry))) (numberAt (now (text .entry)) cursor most) ⌝ }
+    ensures { λ r. ⌜ now (into .exit) ≡ listBelow (length (now (into .entry)))
+        (numberAt (now (text .entry)) cursor most) ⌝ }
 {
     let mut next = cursor;
     let mut k: usize = 0;
@@ -44,7 +46,8 @@ pub(crate) fn read_list(
 ) -> ListRead
     requires { ⌜ cursor .at ≤ length (now text) ⌝ }
     ensures { λ r. ⌜ r ≡ listAfter (now (text .entry)) cursor (now (name .entry)) (length (now (into .entry))) most ⌝ }
-    ensures { λ r. ⌜ now (into .exit) ≡ listWords (now (text .entry)) cursor (now (name .entry)) (length (now (into .entry))) most ++ drop (r .count) (now (into .entry)) ⌝ }
+    ensures { λ r. ⌜ now (into .exit) ≡ listWords (now (text .entry)) cursor (now (name .entry))
+        (length (now (into .entry))) most ++ drop (r .count) (now (into .entry)) ⌝ }
 {
     let named = next_word(text, cursor, name);
     let counted = next_number(text, named, into.len() as u64);
@@ -80,7 +83,8 @@ pub(crate) fn read_signed_list(
 ) -> ListRead
     requires { ⌜ cursor .at ≤ length (now text) ⌝ }
     ensures { λ r. ⌜ r ≡ signedListAfter (now (text .entry)) cursor (now (name .entry)) (length (now (into .entry))) ⌝ }
-    ensures { λ r. ⌜ now (into .exit) ≡ signedListWords (now (text .entry)) cursor (now (name .entry)) (length (now (into .entry))) ++ drop (r .count) (now (into .entry)) ⌝ }
+    ensures { λ r. ⌜ now (into .exit) ≡ signedListWords (now (text .entry)) cursor (now (name .entry))
+        (length (now (into .entry))) ++ drop (r .count) (now (into .entry)) ⌝ }
 {
     let named = next_word(text, cursor, name);
     let counted = next_number(text, named, into.len() as u64);

@@ -1,5 +1,5 @@
--- Two answers that hold the definitions of a settlement's checks: class example 9 is accepted, by computation; and the turn
--- is looked at before the fixing. Assumes nothing.
+-- Two answers that hold the definitions of a settlement's checks: class example 9 is accepted, by computation; and the
+-- turn is looked at before the fixing. Assumes nothing.
 use mathlib.Core.Path.{_≡_, refl}
 use mathlib.Core.Bool.{true, false}
 use Rattle.numbers.specs.Refusal.{isPassed}
@@ -71,7 +71,8 @@ unfolding sumBelow allBelow anyBelow firstBelow listBelow filledBelow verdictOf 
 example-settled = refl
 
 -- a month out of turn is 4, with a fixing or without
-pub out-of-turn : (ledger : Ledger) (call : SettlementCall) → sound ledger ≡ true → billingLengths (ledger .n) call ≡ true →
+pub out-of-turn : (ledger : Ledger) (call : SettlementCall) → sound ledger ≡ true →
+    billingLengths (ledger .n) call ≡ true →
     settlementTurn (anySettled ledger) (nextMonth ledger) (ledger .fixed) (ledger .month) (call .month) ≡ false →
     verdictOf (settlementChecks ledger call) ≡ Refused OutOfTurn
 unfolding FirstPass settlementChecks

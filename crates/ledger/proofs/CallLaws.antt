@@ -10,7 +10,8 @@ use Rattle.numbers.specs.Refusal.{isPassed}
 use Rattle.numbers.specs.Checks.{verdictOf}
 use Rattle.numbers.specs.Units.{between}
 use Rattle.numbers.specs.Sizes.{mostDistributors, sectorCount}
-use Rattle.numbers.specs.declared.refusal.Refusal.the-variants.{Unsound, WrongLength, OutOfTurn, NoFixing, WrongReading, PositionBeyond}
+use Rattle.numbers.specs.declared.refusal.Refusal.the-variants.{Unsound, WrongLength, OutOfTurn, NoFixing, WrongReading}
+use Rattle.numbers.specs.declared.refusal.Refusal.the-variants.{PositionBeyond}
 use Rattle.numbers.specs.declared.refusal.Verdict.the-variants.{Passed}
 use Rattle.numbers.proofs.BoolLaws.{and-left, and-right, and-three}
 use Rattle.numbers.proofs.CheckLaws.{FirstPass, passed-test, verdict-from, all-passed, is-passed}
@@ -29,7 +30,8 @@ use Rattle.settlement.specs.Month.{moneyAt}
 use Rattle.ledger.specs.Ledger.{anySettled, nextMonth, billedUnder}
 use Rattle.ledger.specs.Sound.{sound}
 use Rattle.ledger.specs.Turn.{fixingTurn}
-use Rattle.ledger.specs.Fix.{FixingCall, linesWhole, fixingLengths, callLengths, fixingChecks, fixingVerdict, priceList, fixingList}
+use Rattle.ledger.specs.Fix.{FixingCall, linesWhole, fixingLengths, callLengths, fixingChecks, fixingVerdict}
+use Rattle.ledger.specs.Fix.{priceList, fixingList}
 use Rattle.ledger.specs.Settle.{SettlementCall, settlementChecks, settlementVerdict, positionsOf}
 use Rattle.ledger.specs.Required.{Due}
 use Rattle.ledger.specs.declared.ledger.Ledger.{Ledger}
@@ -41,7 +43,8 @@ pub record FixingPassed (ledger : Ledger) (call : FixingCall) : Type 0 where
   pub turn : fixingTurn (anySettled ledger) (nextMonth ledger) (call .input .numbers .month) ≡ true
   pub passed : inputVerdict (ledger .n) (call .input) ≡ Passed
 
-pub fixing-passed : (ledger : Ledger) (call : FixingCall) → isPassed (fixingVerdict ledger call) ≡ true → FixingPassed ledger call
+pub fixing-passed : (ledger : Ledger) (call : FixingCall) → isPassed (fixingVerdict ledger call) ≡ true →
+    FixingPassed ledger call
 unfolding fixingVerdict fixingChecks inputVerdict FirstPass
 fixing-passed ledger call h =
     let passed : verdictOf (fixingChecks ledger call) ≡ Passed = is-passed (fixingVerdict ledger call) h in
@@ -74,17 +77,23 @@ pub fixing-list-length : (ledger : Ledger) (call : FixingCall) → length (fixin
 unfolding fixingList priceList
 fixing-list-length ledger call = kept (isPassed (fixingVerdict ledger call)) refl
   where
-    kept : (b : Bool) → isPassed (fixingVerdict ledger call) ≡ b → length (cond b (priceList (ledger .n) (fixingOf (ledger .n) (call .input))) (call .prices)) ≡ length (call .prices)
+    kept : (b : Bool) → isPassed (fixingVerdict ledger call) ≡ b →
+        length (cond b (priceList (ledger .n) (fixingOf (ledger .n) (call .input))) (call .prices)) ≡ length
+        (call .prices)
     kept true e =
-        list-length _ (ledger .n * 3) ∙ sym (eqb-true (length (call .prices)) (ledger .n * 3) (length-parts (ledger .n) call (fixing-passed ledger call e .lengths) .3))
+        list-length _ (ledger .n * 3) ∙ sym
+        (eqb-true (length (call .prices)) (ledger .n * 3)
+        (length-parts (ledger .n) call (fixing-passed ledger call e .lengths) .3))
     kept false e = refl
 
 -- the lengths as facts
-pub right-lengths : (n : ℕ) (call : FixingCall) → 1 ≤ n → n ≤ mostDistributors → callLengths n call ≡ true → RightLengths n (call .input)
+pub right-lengths : (n : ℕ) (call : FixingCall) → 1 ≤ n → n ≤ mostDistributors → callLengths n call ≡ true →
+    RightLengths n (call .input)
 unfolding linesWhole
 right-lengths n call p q h =
     let parts = length-parts n call h in
-    let counted = and-right (eqb (length (call .input .lines) % lineWords) 0) (between 1 mostLines (lineCount (call .input .lines))) (parts .1) in
+    let counted = and-right (eqb (length (call .input .lines) % lineWords) 0)
+    (between 1 mostLines (lineCount (call .input .lines))) (parts .1) in
     record {
       some = p;
       few = q;
@@ -94,7 +103,8 @@ right-lengths n call p q h =
     }
 
 -- so its distributors are in range of the limit
-pub passed-range : (n : ℕ) (call : FixingCall) → 1 ≤ n → n ≤ mostDistributors → callLengths n call ≡ true → inputVerdict n (call .input) ≡ Passed → InRange (inputDistributors n (call .input))
+pub passed-range : (n : ℕ) (call : FixingCall) → 1 ≤ n → n ≤ mostDistributors → callLengths n call ≡ true →
+    inputVerdict n (call .input) ≡ Passed → InRange (inputDistributors n (call .input))
 unfolding inputDistributors
 passed-range n call p q h v = input-range n (call .input) v (right-lengths n call p q h)
 
@@ -104,7 +114,8 @@ pub record SettlementPassed (ledger : Ledger) (call : SettlementCall) : Type 0 w
   pub billed : billingInRange (ledger .n) (billedUnder ledger .present) (call .readings) (call .losses) ≡ true
   pub within : positionsInRange (ledger .n) (moneyAt (positionsOf ledger call)) ≡ true
 
-pub settlement-passed : (ledger : Ledger) (call : SettlementCall) → isPassed (settlementVerdict ledger call) ≡ true → SettlementPassed ledger call
+pub settlement-passed : (ledger : Ledger) (call : SettlementCall) → isPassed (settlementVerdict ledger call) ≡ true →
+    SettlementPassed ledger call
 unfolding settlementVerdict settlementChecks FirstPass
 settlement-passed ledger call h =
     let all = all-passed (settlementChecks ledger call) (is-passed (settlementVerdict ledger call) h) in

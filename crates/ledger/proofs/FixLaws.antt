@@ -23,7 +23,9 @@ use Rattle.fixing.proofs.VerdictLaws.{verdict-is, input-told, passed-fixing, in
 use Rattle.ledger.specs.Ledger.{anySettled, nextMonth, fixedLedger}
 use Rattle.ledger.specs.Sound.{sound}
 use Rattle.ledger.specs.Turn.{fixingTurn}
-use Rattle.ledger.specs.Fix.{FixingCall, callLengths, fixingChecks, fixingVerdict, acceptedAnswer, answerBy, fixingAnswer, fixingAnswered, roundsBelow, fixingLedger, priceList, fixingList, FixingPromise}
+use Rattle.ledger.specs.Fix.{FixingCall, callLengths, fixingChecks, fixingVerdict, acceptedAnswer, answerBy}
+use Rattle.ledger.specs.Fix.{fixingAnswer, fixingAnswered, roundsBelow, fixingLedger, priceList, fixingList}
+use Rattle.ledger.specs.Fix.{FixingPromise}
 use Rattle.ledger.specs.declared.ledger.Ledger.{Ledger}
 use Rattle.ledger.specs.declared.fix.FixingAnswer.{FixingAnswer}
 use Rattle.ledger.specs.declared.fix.FixingAnswer.the-variants as answer
@@ -42,29 +44,38 @@ module _ (ledger : Ledger) (call : FixingCall) where
     check-told 2 (sound ledger) Unsound refl,
     (
       check-told 3 (callLengths (ledger .n) call) WrongLength refl,
-      (check-told 4 (fixingTurn (anySettled ledger) (nextMonth ledger) (call .input .numbers .month)) OutOfTurn refl, input-told (ledger .n) (call .input)),
+      (
+        check-told 4 (fixingTurn (anySettled ledger) (nextMonth ledger) (call .input .numbers .month)) OutOfTurn refl,
+        input-told (ledger .n) (call .input),
+      ),
     ),
   )
 
-  pub answer-told : fixingAnswered (fixingAnswer ledger call) ≡ verdictAnswered (returnedValues (inputDistributors (ledger .n) (call .input))) (fixingVerdict ledger call)
+  pub answer-told : fixingAnswered (fixingAnswer ledger call) ≡ verdictAnswered
+      (returnedValues (inputDistributors (ledger .n) (call .input))) (fixingVerdict ledger call)
   unfolding fixingAnswer acceptedAnswer acceptedFixing fixedPrices returnedValues inputDistributors
   answer-told = go (fixingVerdict ledger call) refl
     where
       values : List ℕ
       values = returnedValues (inputDistributors (ledger .n) (call .input))
 
-      go : (v : Verdict) → fixingVerdict ledger call ≡ v → fixingAnswered (answerBy v (acceptedAnswer (fixingOf (ledger .n) (call .input) .prices))) ≡ verdictAnswered values v
+      go : (v : Verdict) → fixingVerdict ledger call ≡ v →
+          fixingAnswered (answerBy v (acceptedAnswer (fixingOf (ledger .n) (call .input) .prices))) ≡ verdictAnswered
+          values v
       go Passed e =
           ap (λ (f : Fixing). fixingAnswered (acceptedAnswer (f .prices)))
           (passed-fixing (ledger .n) (call .input) (fixing-passed ledger call (ap isPassed e) .passed))
       go (Refused refusal) e = refl
 
-  numbered-by : fixingAnswered (fixingAnswer ledger call) ≡ answeredBy (fixingChecks ledger call) (returnedValues (inputDistributors (ledger .n) (call .input)))
+  numbered-by : fixingAnswered (fixingAnswer ledger call) ≡ answeredBy (fixingChecks ledger call)
+      (returnedValues (inputDistributors (ledger .n) (call .input)))
   unfolding fixingVerdict
   numbered-by = answer-told ∙ verdict-told (fixingChecks ledger call) _ fixing-told
 
   -- what is promised of a refusal: ledger and list as they were
-  pub fixed-refused : (refusal : Refusal) → verdictOf (fixingChecks ledger call) ≡ Refused refusal → (r : FixingOutcome) → r ≡ record { answer = answer.Refused refusal; ledger = ledger } → FixingPromise ledger call (r .answer) (r .ledger) (call .prices)
+  pub fixed-refused : (refusal : Refusal) → verdictOf (fixingChecks ledger call) ≡ Refused refusal →
+      (r : FixingOutcome) → r ≡ record { answer = answer.Refused refusal; ledger = ledger } →
+      FixingPromise ledger call (r .answer) (r .ledger) (call .prices)
   unfolding fixingLedger fixingList fixingAnswer fixingVerdict
   fixed-refused refusal v r e =
       let given : r .answer ≡ answer.Refused refusal = ap (λ (o : FixingOutcome). o .answer) e in
@@ -77,7 +88,8 @@ module _ (ledger : Ledger) (call : FixingCall) where
         listed = rw v;
       }
 
-  module _ (first : FirstPass 3 (fixingChecks ledger call)) (fixing : Fixing) (e : fixing ≡ fixingOf (ledger .n) (call .input)) where
+  module _ (first : FirstPass 3 (fixingChecks ledger call)) (fixing : Fixing)
+      (e : fixing ≡ fixingOf (ledger .n) (call .input)) where
     -- where the ledger's checks are passed, the input's verdict is the call's
     pub verdict-left : verdictOf (fixingChecks ledger call) ≡ fixing .verdict
     unfolding fixingChecks inputVerdict
@@ -89,18 +101,25 @@ module _ (ledger : Ledger) (call : FixingCall) where
     input-passes h = sym (verdict-is (ledger .n) (call .input)) ∙ ap (λ (f : Fixing). f .verdict) (sym e) ∙ h
 
     -- what is promised of an accepted fixing
-    pub fixed-accepted : RightLengths (ledger .n) (call .input) → fixing .verdict ≡ Passed → (given : FixingAnswer) (next : Ledger) (list : List ℤ) → given ≡ acceptedAnswer (fixing .prices) → next ≡ fixedLedger ledger (call .input .numbers .month) (fixing .sectors) → list ≡ priceList (ledger .n) fixing → FixingPromise ledger call given next list
-    unfolding fixingLedger fixingList fixingAnswer fixingVerdict acceptedAnswer acceptedFixing fixedPrices returnedValues inputDistributors
+    pub fixed-accepted : RightLengths (ledger .n) (call .input) → fixing .verdict ≡ Passed →
+        (given : FixingAnswer) (next : Ledger) (list : List ℤ) → given ≡ acceptedAnswer (fixing .prices) →
+        next ≡ fixedLedger ledger (call .input .numbers .month) (fixing .sectors) →
+        list ≡ priceList (ledger .n) fixing → FixingPromise ledger call given next list
+    unfolding fixingLedger fixingList fixingAnswer fixingVerdict acceptedAnswer acceptedFixing fixedPrices
+        returnedValues inputDistributors
     fixed-accepted right h given next list p q r =
         let v = verdict-left ∙ h in
         let passed = input-passes h in
         let d = inputDistributors (ledger .n) (call .input) in
-        let prices : fixing .prices ≡ fixedPrices d = ap (λ (f : Fixing). f .prices) (e ∙ passed-fixing (ledger .n) (call .input) passed) in
+        let prices : fixing .prices ≡ fixedPrices d = ap (λ (f : Fixing). f .prices)
+        (e ∙ passed-fixing (ledger .n) (call .input) passed) in
         let told : given ≡ fixingAnswer ledger call = p ∙ ap (λ (f : Fixing). acceptedAnswer (f .prices)) e ∙ rw v in
         record {
           answered = told;
           numbered = ap fixingAnswered told ∙ numbered-by;
-          few = ap (roundsBelow (ledger .n)) (p ∙ ap acceptedAnswer prices) ∙ lt-ltb _ _ (rounds-few d (input-range (ledger .n) (call .input) passed right));
+          few =
+              ap (roundsBelow (ledger .n)) (p ∙ ap acceptedAnswer prices) ∙ lt-ltb _ _
+              (rounds-few d (input-range (ledger .n) (call .input) passed right));
           booked = q ∙ ap (λ (f : Fixing). fixedLedger ledger (call .input .numbers .month) (f .sectors)) e ∙ rw v;
           listed = r ∙ ap (priceList (ledger .n)) e ∙ rw v;
         }

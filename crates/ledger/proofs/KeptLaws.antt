@@ -1,5 +1,5 @@
--- Soundness is kept: an opened ledger is sound, and every fixing and every settlement, accepted or refused, hands back a
--- sound ledger where it was given one. Theorems about the definitions alone. Assumes nothing.
+-- Soundness is kept: an opened ledger is sound, and every fixing and every settlement, accepted or refused, hands back
+-- a sound ledger where it was given one. Theorems about the definitions alone. Assumes nothing.
 use mathlib.Core.Path.{_≡_, refl, sym, _∙_, ap}
 use mathlib.Core.Bool.{Bool, true, false, cond, not, _||_, true≢false}
 use mathlib.Core.List.{List}
@@ -21,7 +21,8 @@ use Rattle.numbers.proofs.RoundingLaws.{away-size}
 use Rattle.numbers.proofs.SignedLaws.{zero-size, size-mul, signed-sum-add, signed-sum-same, sum-wide}
 use Rattle.series.specs.Series.{lastMonth}
 use Rattle.fixing.specs.Limit.{Distributors, InRange, charge}
-use Rattle.fixing.specs.Sector.{mostFactor, factorAt, sectorPresent, sectorCharge, chargedPlaces, sectorCharges, noCharges}
+use Rattle.fixing.specs.Sector.{mostFactor, factorAt, sectorPresent, sectorCharge, chargedPlaces, sectorCharges}
+use Rattle.fixing.specs.Sector.{noCharges}
 use Rattle.fixing.specs.Input.{inputDistributors}
 use Rattle.fixing.specs.Fixing.{acceptedFixing, fixingOf}
 use Rattle.fixing.specs.declared.fix.Fixing.{Fixing}
@@ -33,7 +34,8 @@ use Rattle.settlement.specs.Settlement.{positionOf, newBalance, oneSign}
 use Rattle.settlement.specs.Month.{moneyAt, moneyBelow, positionList, settledMonth}
 use Rattle.settlement.proofs.SettlementLaws.{balances-sign, balances-total}
 use Rattle.settlement.proofs.MonthLaws.{money-at, positions-within, balances-within}
-use Rattle.ledger.specs.Ledger.{anySettled, nextMonth, billedUnder, noBalances, emptyLedger, fixedLedger, settledLedger}
+use Rattle.ledger.specs.Ledger.{anySettled, nextMonth, billedUnder, noBalances, emptyLedger, fixedLedger}
+use Rattle.ledger.specs.Ledger.{settledLedger}
 use Rattle.ledger.specs.Sound.{presentIn, chargeIn, sound}
 use Rattle.ledger.specs.Turn.{fixingTurn, settlementTurn}
 use Rattle.ledger.specs.Fix.{FixingCall, fixingVerdict, fixingLedger}
@@ -42,7 +44,8 @@ use Rattle.ledger.specs.declared.ledger.Ledger.{Ledger}
 use Rattle.ledger.proofs.SoundFacts.{PlaceFacts, BalanceFacts, sound-facts, sound-test}
 use Rattle.ledger.proofs.SoundLaws.{none-settled, opened-settled, month-settled}
 use Rattle.ledger.proofs.MoneyLaws.{money-past, money-sum, money-sign}
-use Rattle.ledger.proofs.CallLaws.{FixingPassed, fixing-passed, passed-range, SettlementPassed, settlement-passed}
+use Rattle.ledger.proofs.CallLaws.{FixingPassed, fixing-passed, passed-range, SettlementPassed}
+use Rattle.ledger.proofs.CallLaws.{settlement-passed}
 
 -- the places of charged sectors: those of the first k hold presence and charge, the others nothing
 module _ (k : ℕ) (charge : ℕ → ℤ) (sectors : List ℕ) (j : ℕ) (p : j < sectorPlaces) where
@@ -50,9 +53,11 @@ module _ (k : ℕ) (charge : ℕ → ℤ) (sectors : List ℕ) (j : ℕ) (p : j 
   unfolding chargedPlaces
   present-at q = filled-at sectorPlaces false (sectorPresent sectors) k j q p
 
-  charge-at : j < k → chargeIn (chargedPlaces k charge sectors) j ≡ sectorCharge (charge (j / sectorCount)) (factorAt sectors j)
+  charge-at : j < k →
+      chargeIn (chargedPlaces k charge sectors) j ≡ sectorCharge (charge (j / sectorCount)) (factorAt sectors j)
   unfolding chargedPlaces
-  charge-at q = filled-at sectorPlaces (pos 0) (λ i. sectorCharge (charge (i / sectorCount)) (factorAt sectors i)) k j q p
+  charge-at q =
+      filled-at sectorPlaces (pos 0) (λ i. sectorCharge (charge (i / sectorCount)) (factorAt sectors i)) k j q p
 
   present-past : k ≤ j → presentIn (chargedPlaces k charge sectors) j ≡ false
   unfolding chargedPlaces
@@ -60,7 +65,8 @@ module _ (k : ℕ) (charge : ℕ → ℤ) (sectors : List ℕ) (j : ℕ) (p : j 
 
   charge-past : k ≤ j → chargeIn (chargedPlaces k charge sectors) j ≡ pos 0
   unfolding chargedPlaces
-  charge-past q = filled-past sectorPlaces (pos 0) (λ i. sectorCharge (charge (i / sectorCount)) (factorAt sectors i)) k j q p
+  charge-past q =
+      filled-past sectorPlaces (pos 0) (λ i. sectorCharge (charge (i / sectorCount)) (factorAt sectors i)) k j q p
 
 -- a place with nothing in it is sound
 empty-place : (n : ℕ) (present : Bool) (z : ℤ) (k : ℕ) → present ≡ false → z ≡ pos 0 → PlaceFacts n present z k
@@ -106,11 +112,16 @@ sector-none z f e =
     (rw (away-size (z *ℤ pos f) 10000, size-mul z (pos f), e, mul-zero (natAbs z)))
 
 -- an accepted fixing's sectors
-charged-place : (n : ℕ) (d : Distributors) (sectors : List ℕ) → n ≤ mostDistributors → ((i : ℕ) → i < n → natAbs (charge d i) ≤ 2000000) → ((k : ℕ) → k < n * sectorCount → factorAt sectors k ≤ mostFactor) → (k : ℕ) → k < sectorPlaces → PlaceFacts n (presentIn (sectorCharges n (charge d) sectors) k) (chargeIn (sectorCharges n (charge d) sectors) k) k
+charged-place : (n : ℕ) (d : Distributors) (sectors : List ℕ) → n ≤ mostDistributors →
+    ((i : ℕ) → i < n → natAbs (charge d i) ≤ 2000000) →
+    ((k : ℕ) → k < n * sectorCount → factorAt sectors k ≤ mostFactor) → (k : ℕ) → k < sectorPlaces →
+    PlaceFacts n (presentIn (sectorCharges n (charge d) sectors) k) (chargeIn (sectorCharges n (charge d) sectors) k) k
 unfolding sectorCharges sectorPresent
 charged-place n d sectors few size factor k p = go (decLt k (n * sectorCount))
   where
-    go : Dec (k < n * sectorCount) → PlaceFacts n (presentIn (sectorCharges n (charge d) sectors) k) (chargeIn (sectorCharges n (charge d) sectors) k) k
+    go : Dec (k < n * sectorCount) →
+        PlaceFacts n (presentIn (sectorCharges n (charge d) sectors) k)
+        (chargeIn (sectorCharges n (charge d) sectors) k) k
     go (no q) =
         empty-place n _ _ k
         (present-past (n * sectorCount) (charge d) sectors k p (omega arith))
@@ -119,10 +130,15 @@ charged-place n d sectors few size factor k p = go (decLt k (n * sectorCount))
         rw (present-at (n * sectorCount) (charge d) sectors k p q, charge-at (n * sectorCount) (charge d) sectors k p q)
         (record {
           past = λ r. absurd (omega arith);
-          absent = λ e. sector-none (charge d (k / sectorCount)) (factorAt sectors k) (eqb-true _ 0 (not-false (eqb (factorAt sectors k) 0) e));
+          absent =
+              λ e. sector-none (charge d (k / sectorCount)) (factorAt sectors k)
+              (eqb-true _ 0 (not-false (eqb (factorAt sectors k) 0) e));
           within =
-              omega
-              (arith, sector-size (charge d (k / sectorCount)) (factorAt sectors k) (size (k / sectorCount) (omega arith)) (factor k q));
+              omega (
+                arith,
+                sector-size (charge d (k / sectorCount)) (factorAt sectors k)
+                    (size (k / sectorCount) (omega arith)) (factor k q),
+              );
         })
 
 -- what a fixing's turn says
@@ -135,7 +151,8 @@ module _ (settled : Bool) (next month : ℕ) (h : fixingTurn settled next month 
   unfolding fixingTurn
   fixing-next e =
       eqb-true month next
-      (or-else (not settled) (eqb month next) (and-right (leb month lastMonth) (not settled || eqb month next) h) (ap not e))
+      (or-else (not settled) (eqb month next) (and-right (leb month lastMonth) (not settled || eqb month next) h)
+      (ap not e))
 
 pub fixing-keeps : (ledger : Ledger) (call : FixingCall) → sound ledger ≡ true → sound (fixingLedger ledger call) ≡ true
 unfolding fixingLedger fixedLedger acceptedFixing inputDistributors anySettled nextMonth
@@ -144,20 +161,24 @@ fixing-keeps ledger call h = go (isPassed (fixingVerdict ledger call)) refl
     d : Distributors
     d = inputDistributors (ledger .n) (call .input)
 
-    accepted : FixingPassed ledger call → sound (fixedLedger ledger (call .input .numbers .month) (fixingOf (ledger .n) (call .input) .sectors)) ≡ true
+    accepted : FixingPassed ledger call →
+        sound (fixedLedger ledger (call .input .numbers .month) (fixingOf (ledger .n) (call .input) .sectors)) ≡ true
     accepted f =
         let g = sound-facts ledger h in
         let r : InRange d = passed-range (ledger .n) call (g .some) (g .few) (f .lengths) (f .passed) in
-        let e : fixingOf (ledger .n) (call .input) .sectors ≡ sectorCharges (ledger .n) (charge d) (call .input .sectors) =
+        let e : fixingOf (ledger .n) (call .input) .sectors ≡ sectorCharges (ledger .n) (charge d)
+        (call .input .sectors) =
         ap (λ (x : Fixing). x .sectors) (passed-fixing (ledger .n) (call .input) (f .passed)) in
         rw e
-        (sound-test (fixedLedger ledger (call .input .numbers .month) (sectorCharges (ledger .n) (charge d) (call .input .sectors)))
+        (sound-test (fixedLedger ledger (call .input .numbers .month)
+        (sectorCharges (ledger .n) (charge d) (call .input .sectors)))
         (record {
           some = g .some;
           few = g .few;
           place =
               charged-place (ledger .n) d (call .input .sectors) (g .few) (charge-size d r)
-              (allowed-factor (ledger .n) (call .input .sectors) (passed-sectors (ledger .n) (call .input) (f .passed)));
+              (allowed-factor (ledger .n) (call .input .sectors)
+              (passed-sectors (ledger .n) (call .input) (f .passed)));
           unset =
               record {
                 unfixed = λ t. absurd (true≢false t);
@@ -169,19 +190,30 @@ fixing-keeps ledger call h = go (isPassed (fixingVerdict ledger call)) refl
                 lastMost = g .month .lastMost;
                 monthMost = fixing-most (anySettled ledger) (nextMonth ledger) (call .input .numbers .month) (f .turn);
                 few = g .month .few;
-                due = λ p. omega (arith, fixing-next (anySettled ledger) (nextMonth ledger) (call .input .numbers .month) (f .turn) p);
+                due =
+                    λ p. omega (
+                      arith,
+                      fixing-next (anySettled ledger) (nextMonth ledger) (call .input .numbers .month)
+                          (f .turn) p,
+                    );
                 inForce = λ p. refl;
               };
           balance = g .balance;
           signs = g .signs;
         }))
 
-    go : (b : Bool) → isPassed (fixingVerdict ledger call) ≡ b → sound (cond b (fixedLedger ledger (call .input .numbers .month) (fixingOf (ledger .n) (call .input) .sectors)) ledger) ≡ true
+    go : (b : Bool) → isPassed (fixingVerdict ledger call) ≡ b →
+        sound (cond b (fixedLedger ledger (call .input .numbers .month) (fixingOf (ledger .n) (call .input) .sectors))
+        ledger) ≡ true
     go true e = accepted (fixing-passed ledger call e)
     go false e = h
 
 -- an accepted settlement's balances add up to the old ones plus the collected amounts
-pub settlement-adds : (ledger : Ledger) (call : SettlementCall) → sound ledger ≡ true → isPassed (settlementVerdict ledger call) ≡ true → signedSumBelow mostDistributors (moneyAt (settlementLedger ledger call .balances)) ≡ signedSumBelow mostDistributors (moneyAt (ledger .balances)) +ℤ signedSumBelow (ledger .n) (collectedAmount (billedUnder ledger .charges) (call .readings) (call .losses))
+pub settlement-adds : (ledger : Ledger) (call : SettlementCall) → sound ledger ≡ true →
+    isPassed (settlementVerdict ledger call) ≡ true →
+    signedSumBelow mostDistributors (moneyAt (settlementLedger ledger call .balances)) ≡ signedSumBelow mostDistributors
+    (moneyAt (ledger .balances)) +ℤ signedSumBelow (ledger .n)
+    (collectedAmount (billedUnder ledger .charges) (call .readings) (call .losses))
 unfolding settlementLedger settledLedger settledMonth positionsOf positionList positionOf
 settlement-adds ledger call h e =
     let g = sound-facts ledger h in
@@ -194,10 +226,12 @@ settlement-adds ledger call h e =
     ∙ signed-sum-same (ledger .n) held position (λ i p. money-at position (ledger .n) i p (omega (arith, g .few)))
     ∙ signed-sum-add (ledger .n) (moneyAt (ledger .balances)) amount
     ∙ ap (λ (z : ℤ). z +ℤ signedSumBelow (ledger .n) amount)
-    (sym (sum-wide (ledger .n) mostDistributors (moneyAt (ledger .balances)) (g .few) (λ i p q. g .balance i q .past p))))
+    (sym (sum-wide (ledger .n) mostDistributors (moneyAt (ledger .balances)) (g .few)
+    (λ i p q. g .balance i q .past p))))
 
 -- what a settled month's turn says
-module _ (settled : Bool) (next : ℕ) (fixed : Bool) (fixingMonth month : ℕ) (h : settlementTurn settled next fixed fixingMonth month ≡ true) where
+module _ (settled : Bool) (next : ℕ) (fixed : Bool) (fixingMonth month : ℕ)
+    (h : settlementTurn settled next fixed fixingMonth month ≡ true) where
   abbrev due : Bool
   due = cond settled (eqb month next) (not fixed || eqb month fixingMonth)
 
@@ -213,25 +247,43 @@ module _ (settled : Bool) (next : ℕ) (fixed : Bool) (fixingMonth month : ℕ) 
   turn-later e = eqb-true month next (rw e at turn-due)
 
   turn-first : settled ≡ false → fixed ≡ true → month ≡ fixingMonth
-  turn-first p e = eqb-true month fixingMonth (or-else (not fixed) (eqb month fixingMonth) (rw p at turn-due) (ap not e))
+  turn-first p e =
+      eqb-true month fixingMonth (or-else (not fixed) (eqb month fixingMonth) (rw p at turn-due) (ap not e))
 
-pub settlement-keeps : (ledger : Ledger) (call : SettlementCall) → sound ledger ≡ true → sound (settlementLedger ledger call) ≡ true
+pub settlement-keeps : (ledger : Ledger) (call : SettlementCall) → sound ledger ≡ true →
+    sound (settlementLedger ledger call) ≡ true
 unfolding settlementLedger settledLedger settledMonth nextMonth
 settlement-keeps ledger call h = go (isPassed (settlementVerdict ledger call)) refl
   where
-    accepted : SettlementPassed ledger call → sound (settledLedger ledger (call .month) (settledMonth (ledger .n) (positionsOf ledger call) .balances)) ≡ true
+    accepted : SettlementPassed ledger call →
+        sound (settledLedger ledger (call .month) (settledMonth (ledger .n) (positionsOf ledger call) .balances)) ≡ true
     accepted f =
         let g = sound-facts ledger h in
         let balance : ℕ → ℤ = newBalance (ledger .n) (moneyAt (positionsOf ledger call)) in
-        let small = balances-within (ledger .n) (positionsOf ledger call) (positions-within (ledger .n) (positionsOf ledger call) (g .few) (f .within)) in
-        let most = turn-most (anySettled ledger) (nextMonth ledger) (ledger .fixed) (ledger .month) (call .month) (f .due .turn) in
-        let later = turn-later (anySettled ledger) (nextMonth ledger) (ledger .fixed) (ledger .month) (call .month) (f .due .turn) in
-        let first = turn-first (anySettled ledger) (nextMonth ledger) (ledger .fixed) (ledger .month) (call .month) (f .due .turn) in
+        let small = balances-within (ledger .n) (positionsOf ledger call)
+        (positions-within (ledger .n) (positionsOf ledger call) (g .few) (f .within)) in
+        let most = turn-most (anySettled ledger) (nextMonth ledger) (ledger .fixed) (ledger .month) (call .month)
+        (f .due .turn) in
+        let later = turn-later (anySettled ledger) (nextMonth ledger) (ledger .fixed) (ledger .month) (call .month)
+        (f .due .turn) in
+        let first = turn-first (anySettled ledger) (nextMonth ledger) (ledger .fixed) (ledger .month) (call .month)
+        (f .due .turn) in
         -- the first settled month is the fixing's own, a later one the month after the last
-        let next : (b : Bool) → anySettled ledger ≡ b → (ledger .months ≤ call .month) × (ledger .month ≤ call .month + 1) =
-        elim [ true ↦ λ e. (omega (arith, later e, g .month .few e), omega (arith, later e, g .month .due e)) | false ↦ λ e. (omega (arith, none-settled ledger e), omega (arith, first e (f .due .inForce))) ] in
-        let held : (i : ℕ) → i < mostDistributors → Dec (i < ledger .n) → BalanceFacts (ledger .n) true (moneyAt (moneyBelow (ledger .n) balance) i) i =
-        λ i p. elim [ yes q ↦ record { past = λ r. absurd (omega arith); till = λ r. absurd (true≢false r); within = small .within i q } | no q ↦ empty-balance (ledger .n) true _ i (money-past balance (ledger .n) i (omega arith) p) ] in
+        let next : (b : Bool) → anySettled ledger ≡ b → (ledger .months ≤ call .month) ×
+        (ledger .month ≤ call .month + 1) =
+        elim [
+          | true ↦ λ e. (omega (arith, later e, g .month .few e), omega (arith, later e, g .month .due e))
+          | false ↦
+              λ e. (omega (arith, none-settled ledger e), omega (arith, first e (f .due .inForce)))
+        ] in
+        let held : (i : ℕ) → i < mostDistributors → Dec (i < ledger .n) → BalanceFacts (ledger .n) true
+        (moneyAt (moneyBelow (ledger .n) balance) i) i =
+        λ i p. elim [
+          | yes q ↦ record
+              { past = λ r. absurd (omega arith); till = λ r. absurd (true≢false r); within = small .within i q }
+          | no q ↦
+              empty-balance (ledger .n) true _ i (money-past balance (ledger .n) i (omega arith) p)
+        ] in
         sound-test (settledLedger ledger (call .month) (moneyBelow (ledger .n) balance))
         (record {
           some = g .some;
@@ -251,10 +303,15 @@ settlement-keeps ledger call h = go (isPassed (settlementVerdict ledger call)) r
                 due = λ p. omega (arith, next (anySettled ledger) refl);
                 inForce = λ p. f .due .inForce;
               };
-          balance = λ i p. rw (month-settled ledger (call .month) (moneyBelow (ledger .n) balance)) (held i p (decLt i (ledger .n)));
-          signs = money-sign (ledger .n) (g .few) balance (balances-sign (ledger .n) (moneyAt (positionsOf ledger call)));
+          balance =
+              λ i p. rw (month-settled ledger (call .month) (moneyBelow (ledger .n) balance))
+              (held i p (decLt i (ledger .n)));
+          signs =
+              money-sign (ledger .n) (g .few) balance (balances-sign (ledger .n) (moneyAt (positionsOf ledger call)));
         })
 
-    go : (b : Bool) → isPassed (settlementVerdict ledger call) ≡ b → sound (cond b (settledLedger ledger (call .month) (settledMonth (ledger .n) (positionsOf ledger call) .balances)) ledger) ≡ true
+    go : (b : Bool) → isPassed (settlementVerdict ledger call) ≡ b →
+        sound (cond b (settledLedger ledger (call .month)
+        (settledMonth (ledger .n) (positionsOf ledger call) .balances)) ledger) ≡ true
     go true e = accepted (settlement-passed ledger call e)
     go false e = h

@@ -19,7 +19,8 @@ use Rattle.numbers.proofs.SignedLaws.{signed-sum-same, sum-wide}
 use Rattle.numbers.proofs.SumLaws.{sum-same}
 use Rattle.numbers.proofs.ListLaws.{filled-past}
 use Rattle.settlement.specs.Share.{sideTotal}
-use Rattle.settlement.specs.Settlement.{mostPosition, positionsInRange, owing, owed, transferred, paid, received, transfer, newBalance, oneSign}
+use Rattle.settlement.specs.Settlement.{mostPosition, positionsInRange, owing, owed, transferred, paid, received}
+use Rattle.settlement.specs.Settlement.{transfer, newBalance, oneSign}
 use Rattle.settlement.specs.Month.{moneyAt, moneyBelow}
 use Rattle.settlement.proofs.ShareLaws.{share-same}
 use Rattle.settlement.proofs.MonthLaws.{money-at}
@@ -36,7 +37,8 @@ module _ (n : ℕ) (few : n ≤ mostDistributors) (f : ℕ → ℤ) where
       ∙ signed-sum-same n (moneyAt (moneyBelow n f)) f (λ i p. money-at f n i p (omega arith))
 
   -- a test that 0 fails, and that no value passes, no place passes
-  none-wide : (t : ℤ → Bool) → t (pos 0) ≡ false → anyBelow n (λ i. t (f i)) ≡ false → anyBelow mostDistributors (λ i. t (moneyAt (moneyBelow n f) i)) ≡ false
+  none-wide : (t : ℤ → Bool) → t (pos 0) ≡ false → anyBelow n (λ i. t (f i)) ≡ false →
+      anyBelow mostDistributors (λ i. t (moneyAt (moneyBelow n f) i)) ≡ false
   none-wide t z h = any-never mostDistributors (λ i. t (moneyAt (moneyBelow n f) i)) (λ i p. go i p (decLt i n))
     where
       go : (i : ℕ) → i < mostDistributors → Dec (i < n) → t (moneyAt (moneyBelow n f) i) ≡ false
@@ -47,10 +49,15 @@ module _ (n : ℕ) (few : n ≤ mostDistributors) (f : ℕ → ℤ) where
   unfolding oneSign isNegative
   money-sign h = go (anyBelow n (λ i. ltZ (pos 0) (f i))) refl
     where
-      go : (b : Bool) → anyBelow n (λ i. ltZ (pos 0) (f i)) ≡ b → oneSign mostDistributors (moneyAt (moneyBelow n f)) ≡ true
+      go : (b : Bool) → anyBelow n (λ i. ltZ (pos 0) (f i)) ≡ b →
+          oneSign mostDistributors (moneyAt (moneyBelow n f)) ≡ true
       go false e = rw (none-wide (λ z. ltZ (pos 0) z) refl e)
       go true e =
-          rw (none-wide isNegative refl (not-both (anyBelow n (λ i. ltZ (pos 0) (f i))) (anyBelow n (λ i. isNegative (f i))) h e), and-false)
+          rw (
+            none-wide isNegative refl
+                (not-both (anyBelow n (λ i. ltZ (pos 0) (f i))) (anyBelow n (λ i. isNegative (f i))) h e),
+            and-false,
+          )
 
 -- positions that agree below n
 module _ (n : ℕ) (f g : ℕ → ℤ) (h : (i : ℕ) → i < n → f i ≡ g i) where

@@ -23,8 +23,10 @@ module _ (n : ℕ) (next : Ledger) where
       let v : verdictOf (openingChecks n) ≡ Passed = verdict-passed (openingChecks n) (passes WrongCount h, tt) in
       record { judged = judged (openingChecks n) opening-told Passed (sym v); opened = e ∙ rw v }
 
-  pub opening-refused : between 1 mostDistributors n ≡ false → next ≡ emptyLedger 0 → OpeningPromise n (Refused WrongCount) next
+  pub opening-refused : between 1 mostDistributors n ≡ false → next ≡ emptyLedger 0 →
+      OpeningPromise n (Refused WrongCount) next
   unfolding openingLedger openingVerdict openingChecks FirstPass
   opening-refused h e =
-      let v : verdictOf (openingChecks n) ≡ Refused WrongCount = refused-unless 0 (openingChecks n) 1 _ WrongCount [] tt refl h in
+      let v : verdictOf (openingChecks n) ≡ Refused WrongCount = refused-unless 0 (openingChecks n) 1 _ WrongCount [] tt
+      refl h in
       record { judged = judged (openingChecks n) opening-told (Refused WrongCount) (sym v); opened = e ∙ rw v }

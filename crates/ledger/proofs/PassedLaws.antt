@@ -22,7 +22,9 @@ use Rattle.fixing.proofs.VerdictLaws.{passed-fixing, input-range}
 use Rattle.ledger.specs.Required.{PricesSmall}
 
 -- prices that are at most so much where they are filled in are so at every place
-filled-most : (k : ℕ) (f : ℕ → PesoPrice) → ((i : ℕ) → i < k → getD (filledBelow 40 noPrice k f) i noPrice .0 ≤ mostPrice) → (i : ℕ) → getD (filledBelow 40 noPrice k f) i noPrice .0 < 2 ^ 62
+filled-most : (k : ℕ) (f : ℕ → PesoPrice) →
+    ((i : ℕ) → i < k → getD (filledBelow 40 noPrice k f) i noPrice .0 ≤ mostPrice) → (i : ℕ) →
+    getD (filledBelow 40 noPrice k f) i noPrice .0 < 2 ^ 62
 filled-most k f h i = go (decLt i k) (decLt i 40)
   where
     go : Dec (i < k) → Dec (i < 40) → getD (filledBelow 40 noPrice k f) i noPrice .0 < 2 ^ 62
@@ -31,11 +33,14 @@ filled-most k f h i = go (decLt i k) (decLt i 40)
     go (no p) (no q) =
         omega (
           arith,
-          ap (λ (x : PesoPrice). x .0) (List·getD-eq-default (filledBelow 40 noPrice k f) noPrice {n = i} (omega (arith, filled-length 40 noPrice f k))),
+          ap (λ (x : PesoPrice). x .0)
+              (List·getD-eq-default (filledBelow 40 noPrice k f) noPrice {n = i}
+              (omega (arith, filled-length 40 noPrice f k))),
         )
 
 module _ (n : ℕ) (input : FixingInput) (right : RightLengths n input) (passed : inputVerdict n input ≡ Passed) where
-  accepted-small : PricesSmall (inputAverages n input) (fixedPrices (distributors n (inputAverages n input) (inputEnergies input)) .finals)
+  accepted-small : PricesSmall (inputAverages n input)
+      (fixedPrices (distributors n (inputAverages n input) (inputEnergies input)) .finals)
   unfolding inputAverages averageList fixedPrices finalPrices
   accepted-small =
       let r = input-range n input passed right in
@@ -50,6 +55,7 @@ module _ (n : ℕ) (input : FixingInput) (right : RightLengths n input) (passed 
       }
 
   -- so the prices of a fixing that passed fit their words
-  pub prices-small : (fixing : Fixing) → fixing ≡ fixingOf n input → PricesSmall (fixing .averages) (fixing .prices .finals)
+  pub prices-small : (fixing : Fixing) → fixing ≡ fixingOf n input →
+      PricesSmall (fixing .averages) (fixing .prices .finals)
   unfolding acceptedFixing
   prices-small fixing e = rw (e, passed-fixing n input passed) accepted-small

@@ -20,8 +20,10 @@ use Rattle.settlement.specs.Amount.{mostCharge}
 use Rattle.settlement.specs.Settlement.{mostPosition, oneSign}
 use Rattle.settlement.specs.Month.{moneyAt}
 use Rattle.ledger.specs.Ledger.{anySettled}
-use Rattle.ledger.specs.Sound.{presentIn, chargeIn, mostChargeOf, placeTest, placeSound, forceSound, nothingPresent, unsetZero}
-use Rattle.ledger.specs.Sound.{monthsSound, mostBalanceOf, balanceTest, balanceSound, eachBalance, balancesSound, sound}
+use Rattle.ledger.specs.Sound.{presentIn, chargeIn, mostChargeOf, placeTest, placeSound, forceSound}
+use Rattle.ledger.specs.Sound.{nothingPresent, unsetZero}
+use Rattle.ledger.specs.Sound.{monthsSound, mostBalanceOf, balanceTest, balanceSound, eachBalance, balancesSound}
+use Rattle.ledger.specs.Sound.{sound}
 use Rattle.ledger.specs.declared.ledger.Ledger.{Ledger}
 
 -- a bound that is 0 where a test fails
@@ -60,7 +62,9 @@ module _ (n : ℕ) (present : Bool) (charge : ℤ) (k : ℕ) where
   place-facts h =
       let small = and-right own (withinSize (mostChargeOf present) charge) h in
       record {
-        past = λ p. not-true present (or-else (ltb k (n * sectorCount)) (not present) (and-left own (withinSize (mostChargeOf present) charge) h) (le-ltb k (n * sectorCount) p));
+        past =
+            λ p. not-true present (or-else (ltb k (n * sectorCount)) (not present)
+            (and-left own (withinSize (mostChargeOf present) charge) h) (le-ltb k (n * sectorCount) p));
         absent = λ e. within-zero present mostCharge charge e small;
         within = within-most present mostCharge charge small;
       }
@@ -85,13 +89,16 @@ module _ (settled : Bool) (last : ℕ) (fixed : Bool) (month : ℕ) (force : Sec
   pub unset-facts : unsetZero settled last fixed month force ≡ true → UnsetFacts settled last fixed month force
   unfolding unsetZero nothingPresent
   unset-facts h =
-      let held : fixed ≡ false → none ≡ true = or-else fixed none (and-left (fixed || none) (settled || eqb last 0) h) in
+      let held : fixed ≡ false → none ≡ true = or-else fixed none
+      (and-left (fixed || none) (settled || eqb last 0) h) in
       record {
         unfixed = λ e. eqb-true month 0 (and-left (eqb month 0) (nothingPresent force) (held e));
         nobody = λ e k p.
             not-true (presentIn force k)
-            (all-at sectorPlaces (λ j. not (presentIn force j)) (and-right (eqb month 0) (nothingPresent force) (held e)) k p);
-        unsettled = λ e. eqb-true last 0 (or-else settled (eqb last 0) (and-right (fixed || none) (settled || eqb last 0) h) e);
+            (all-at sectorPlaces (λ j. not (presentIn force j))
+            (and-right (eqb month 0) (nothingPresent force) (held e)) k p);
+        unsettled =
+            λ e. eqb-true last 0 (or-else settled (eqb last 0) (and-right (fixed || none) (settled || eqb last 0) h) e);
       }
 
   pub unset-test : UnsetFacts settled last fixed month force → unsetZero settled last fixed month force ≡ true
@@ -120,7 +127,8 @@ module _ (settled : Bool) (months last : ℕ) (fixed : Bool) (month : ℕ) where
   month-facts h =
       let p = and-three (leb last lastMonth) (leb month lastMonth) (not settled || late) h in
       let held : settled ≡ true → (leb months (last + 1) ≡ true) × (leb month (last + 1) ≡ true) × (fixed ≡ true) =
-      λ e. and-three (leb months (last + 1)) (leb month (last + 1)) fixed (or-else (not settled) late (p .2) (ap not e)) in
+      λ e. and-three (leb months (last + 1)) (leb month (last + 1)) fixed
+      (or-else (not settled) late (p .2) (ap not e)) in
       record {
         lastMost = leb-true last lastMonth (p .0);
         monthMost = leb-true month lastMonth (p .1);
@@ -133,13 +141,15 @@ module _ (settled : Bool) (months last : ℕ) (fixed : Bool) (month : ℕ) where
   unfolding monthsSound
   month-test f =
       and-both (leb last lastMonth && leb month lastMonth) (not settled || late)
-      (and-both (leb last lastMonth) (leb month lastMonth) (le-leb last lastMonth (f .lastMost)) (le-leb month lastMonth (f .monthMost)))
+      (and-both (leb last lastMonth) (leb month lastMonth) (le-leb last lastMonth (f .lastMost))
+      (le-leb month lastMonth (f .monthMost)))
       (or-of (not settled) late (λ e. go (not-false settled e)))
     where
       go : settled ≡ true → late ≡ true
       go e =
           and-both (leb months (last + 1) && leb month (last + 1)) fixed
-          (and-both (leb months (last + 1)) (leb month (last + 1)) (le-leb months (last + 1) (f .few e)) (le-leb month (last + 1) (f .due e)))
+          (and-both (leb months (last + 1)) (leb month (last + 1)) (le-leb months (last + 1) (f .few e))
+          (le-leb month (last + 1) (f .due e)))
           (f .inForce e)
 
 -- one balance
@@ -176,10 +186,12 @@ module _ (n : ℕ) (settled : Bool) (balance : ℤ) (i : ℕ) where
 pub record SoundFacts (ledger : Ledger) : Type 0 where
   pub some : 1 ≤ ledger .n
   pub few : ledger .n ≤ mostDistributors
-  pub place : (k : ℕ) → k < sectorPlaces → PlaceFacts (ledger .n) (presentIn (ledger .force) k) (chargeIn (ledger .force) k) k
+  pub place : (k : ℕ) → k < sectorPlaces →
+      PlaceFacts (ledger .n) (presentIn (ledger .force) k) (chargeIn (ledger .force) k) k
   pub unset : UnsetFacts (anySettled ledger) (ledger .last) (ledger .fixed) (ledger .month) (ledger .force)
   pub month : MonthFacts (anySettled ledger) (ledger .months) (ledger .last) (ledger .fixed) (ledger .month)
-  pub balance : (i : ℕ) → i < mostDistributors → BalanceFacts (ledger .n) (anySettled ledger) (moneyAt (ledger .balances) i) i
+  pub balance : (i : ℕ) → i < mostDistributors →
+      BalanceFacts (ledger .n) (anySettled ledger) (moneyAt (ledger .balances) i) i
   pub signs : oneSign mostDistributors (moneyAt (ledger .balances)) ≡ true
 
 module _ (ledger : Ledger) where
@@ -218,7 +230,8 @@ module _ (ledger : Ledger) where
         month = month-facts settled (ledger .months) (ledger .last) (ledger .fixed) (ledger .month) (p .3);
         balance = λ i q.
             balance-facts (ledger .n) settled (moneyAt (ledger .balances) i) i
-            (all-at mostDistributors (balanceSound (ledger .n) settled (ledger .balances)) (and-left money signs (p .4)) i q);
+            (all-at mostDistributors (balanceSound (ledger .n) settled (ledger .balances)) (and-left money signs (p .4))
+            i q);
         signs = and-right money signs (p .4);
       }
 
@@ -228,8 +241,10 @@ module _ (ledger : Ledger) where
       let one = and-both range places (between-yes 1 mostDistributors (ledger .n) (f .some) (f .few))
       (all-of sectorPlaces (placeSound (ledger .n) (ledger .force))
       (λ k q. place-test (ledger .n) (presentIn (ledger .force) k) (chargeIn (ledger .force) k) k (f .place k q))) in
-      let two = and-both (range && places) unset one (unset-test settled (ledger .last) (ledger .fixed) (ledger .month) (ledger .force) (f .unset)) in
-      let three = and-both (range && places && unset) dates two (month-test settled (ledger .months) (ledger .last) (ledger .fixed) (ledger .month) (f .month)) in
+      let two = and-both (range && places) unset one
+      (unset-test settled (ledger .last) (ledger .fixed) (ledger .month) (ledger .force) (f .unset)) in
+      let three = and-both (range && places && unset) dates two
+      (month-test settled (ledger .months) (ledger .last) (ledger .fixed) (ledger .month) (f .month)) in
       and-both (range && places && unset && dates) (money && signs) three
       (and-both money signs
       (all-of mostDistributors (balanceSound (ledger .n) settled (ledger .balances))

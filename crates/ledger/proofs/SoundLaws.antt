@@ -27,11 +27,13 @@ pub opened-settled : (n : ℕ) → anySettled (emptyLedger n) ≡ false
 unfolding anySettled emptyLedger
 opened-settled n = refl
 
-pub fixed-settled : (ledger : Ledger) (month : ℕ) (force : SectorCharges) → anySettled (fixedLedger ledger month force) ≡ anySettled ledger
+pub fixed-settled : (ledger : Ledger) (month : ℕ) (force : SectorCharges) →
+    anySettled (fixedLedger ledger month force) ≡ anySettled ledger
 unfolding anySettled fixedLedger
 fixed-settled ledger month force = refl
 
-pub month-settled : (ledger : Ledger) (month : ℕ) (balances : List Pesos) → anySettled (settledLedger ledger month balances) ≡ true
+pub month-settled : (ledger : Ledger) (month : ℕ) (balances : List Pesos) →
+    anySettled (settledLedger ledger month balances) ≡ true
 unfolding anySettled settledLedger
 month-settled ledger month balances = ap not (ne-eqb (ledger .months + 1) 0 (λ e. omega arith))
 
@@ -53,7 +55,8 @@ module _ (ledger : Ledger) (h : sound ledger ≡ true) where
       go true e = omega (arith, sound-last, sound-facts ledger h .month .few e)
       go false e = omega (arith, none-settled ledger e)
 
-  pub sound-charges : (i s : ℕ) → i < ledger .n → s < sectorCount → natAbs (chargeAt (billedUnder ledger .charges) i s) ≤ mostCharge
+  pub sound-charges : (i s : ℕ) → i < ledger .n → s < sectorCount →
+      natAbs (chargeAt (billedUnder ledger .charges) i s) ≤ mostCharge
   unfolding billedUnder
   sound-charges i s p q = sound-facts ledger h .place (i * sectorCount + s) (omega (arith, sound-few)) .within
 

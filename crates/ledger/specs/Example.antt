@@ -18,8 +18,8 @@ plainLine distributor base energy = (distributor ∷ base ∷ 10000 ∷ 10000 �
 unfoldable pub plainNumbers : FixingNumbers
 plainNumbers = record { month = 0; dollar = 100000; «reference_factor» = 10000; «first_month» = 0 }
 
--- a fixing in month 0 of plain lines at D 100,000 and F 10,000, whose references are their base prices; so many words are
--- lent for the prices
+-- a fixing in month 0 of plain lines at D 100,000 and F 10,000, whose references are their base prices; so many words
+-- are lent for the prices
 unfoldable pub plainCall : ℕ → List ℕ → List ℕ → FixingCall
 plainCall words lines sectors =
     fixingCallOf plainNumbers (replicate 240 0) lines sectors (replicate words (pos 0))
@@ -27,7 +27,8 @@ plainCall words lines sectors =
 -- "the print": base prices 100,000, 83,000, 60,000 and energies 10, 10, 11, sector 0 alone present
 unfoldable pub printCall : FixingCall
 printCall =
-    plainCall 9 (plainLine 0 100000 10 ++ (plainLine 1 83000 10 ++ plainLine 2 60000 11)) (inSectorZero 0 10000 10000 10000)
+    plainCall 9 (plainLine 0 100000 10 ++ (plainLine 1 83000 10 ++ plainLine 2 60000 11))
+    (inSectorZero 0 10000 10000 10000)
 
 unfoldable pub printLedger : Ledger
 printLedger = fixingLedger (openingLedger 3) printCall

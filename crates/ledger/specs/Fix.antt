@@ -56,8 +56,8 @@ fixingLengths n series lines sectors prices =
 abbrev pub callLengths : ℕ → FixingCall → Bool
 callLengths n call = fixingLengths n (call .input .series) (call .input .lines) (call .input .sectors) (call .prices)
 
--- the checks of a fixing in their order: unsound ledger, a lent list of wrong length or line count, month above 1,199 or
--- out of turn, then those of its input
+-- the checks of a fixing in their order: unsound ledger, a lent list of wrong length or line count, month above 1,199
+-- or out of turn, then those of its input
 unfoldable pub fixingChecks : Ledger → FixingCall → List Check
 fixingChecks ledger call =
     check 2 (sound ledger) Unsound
@@ -77,7 +77,8 @@ answerBy Passed accepted = accepted
 answerBy (Refused refusal) accepted = answer.Refused refusal
 
 unfoldable pub fixingAnswer : Ledger → FixingCall → FixingAnswer
-fixingAnswer ledger call = answerBy (fixingVerdict ledger call) (acceptedAnswer (fixingOf (ledger .n) (call .input) .prices))
+fixingAnswer ledger call =
+    answerBy (fixingVerdict ledger call) (acceptedAnswer (fixingOf (ledger .n) (call .input) .prices))
 
 -- 01's number for each answer (0: accepted), and the values returned with it
 abbrev pub fixingAnswered : FixingAnswer → Answered
@@ -112,10 +113,12 @@ priceList n fixing =
 
 unfoldable pub fixingList : Ledger → FixingCall → List ℤ
 fixingList ledger call =
-    cond (isPassed (fixingVerdict ledger call)) (priceList (ledger .n) (fixingOf (ledger .n) (call .input))) (call .prices)
+    cond (isPassed (fixingVerdict ledger call))
+    (priceList (ledger .n) (fixingOf (ledger .n) (call .input)))
+    (call .prices)
 
--- what the open call promises, for every ledger and every call: answer, its number and values, rounds below n, ledger and
--- written list
+-- what the open call promises, for every ledger and every call: answer, its number and values, rounds below n, ledger
+-- and written list
 pub record FixingPromise (ledger : Ledger) (call : FixingCall) (given : FixingAnswer) (next : Ledger) (list : List ℤ) :
     Type 0 where
   pub answered : given ≡ fixingAnswer ledger call

@@ -10,7 +10,8 @@ use lib.IntN.{ℤ}
 use Rattle.numbers.specs.Bounded.{listBelow}
 use Rattle.numbers.specs.Refusal.{isPassed}
 use Rattle.numbers.specs.Checks.{Check, check, verdictOf, Judged}
-use Rattle.numbers.specs.declared.refusal.Refusal.the-variants.{Unsound, WrongLength, OutOfTurn, NoFixing, WrongReading, PositionBeyond}
+use Rattle.numbers.specs.declared.refusal.Refusal.the-variants.{Unsound, WrongLength, OutOfTurn, NoFixing, WrongReading}
+use Rattle.numbers.specs.declared.refusal.Refusal.the-variants.{PositionBeyond}
 use Rattle.numbers.specs.declared.refusal.Verdict.{Verdict}
 use Rattle.numbers.specs.declared.units.Pesos.{Pesos}
 use Rattle.settlement.specs.Amount.{billingInRange}
@@ -48,13 +49,14 @@ unfoldable pub positionsOf : Ledger → SettlementCall → List Pesos
 positionsOf ledger call =
     positionList (ledger .n) (ledger .balances) (billedUnder ledger .charges) (call .readings) (call .losses)
 
--- the checks of a settlement in their order: unsound ledger, a lent list of wrong length, month above 1,199 or out of turn,
--- no fixing, reading or loss factor, position beyond ±10^15
+-- the checks of a settlement in their order: unsound ledger, a lent list of wrong length, month above 1,199 or out of
+-- turn, no fixing, reading or loss factor, position beyond ±10^15
 unfoldable pub settlementChecks : Ledger → SettlementCall → List Check
 settlementChecks ledger call =
     check 2 (sound ledger) Unsound
     ∷ check 3 (billingLengths (ledger .n) call) WrongLength
-    ∷ check 4 (settlementTurn (anySettled ledger) (nextMonth ledger) (ledger .fixed) (ledger .month) (call .month)) OutOfTurn
+    ∷ check 4
+    (settlementTurn (anySettled ledger) (nextMonth ledger) (ledger .fixed) (ledger .month) (call .month)) OutOfTurn
     ∷ check 5 (ledger .fixed) NoFixing
     ∷ check 12 (billingInRange (ledger .n) (billedUnder ledger .present) (call .readings) (call .losses)) WrongReading
     ∷ check 13 (positionsInRange (ledger .n) (moneyAt (positionsOf ledger call))) PositionBeyond
@@ -79,8 +81,8 @@ settlementList ledger call =
 
 -- what the open call promises, for every ledger and every call: verdict with its number and values, ledger and written
 -- list
-pub record SettlementPromise (ledger : Ledger) (call : SettlementCall) (verdict : Verdict) (next : Ledger) (list : List ℤ) :
-    Type 0 where
+pub record SettlementPromise (ledger : Ledger) (call : SettlementCall) (verdict : Verdict) (next : Ledger)
+    (list : List ℤ) : Type 0 where
   pub judged : Judged verdict (settlementChecks ledger call)
   pub booked : next ≡ settlementLedger ledger call
   pub listed : list ≡ settlementList ledger call

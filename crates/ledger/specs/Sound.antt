@@ -25,8 +25,8 @@ presentIn force k = getD (force .present) k false
 abbrev pub chargeIn : SectorCharges → ℕ → ℤ
 chargeIn force k = getD (force .charges) k (pos 0)
 
--- one sector's place: "entries past n .. are zero"; "charges within ±10,500,000", "charges of absent sectors .. are zero",
--- and a charge past n is that of an absent sector
+-- one sector's place: "entries past n .. are zero"; "charges within ±10,500,000", "charges of absent sectors .. are
+-- zero", and a charge past n is that of an absent sector
 unfoldable pub mostChargeOf : Bool → ℕ
 mostChargeOf present = cond present mostCharge 0
 

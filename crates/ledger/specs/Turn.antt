@@ -9,8 +9,8 @@ use Rattle.series.specs.Series.{lastMonth}
 unfoldable pub fixingTurn : Bool → ℕ → ℕ → Bool
 fixingTurn settled next month = leb month lastMonth && (not settled || eqb month next)
 
--- "The first settled month is the fixing's, later ones last+1"; "with no month settled and no fixing, no turn is due to a
--- settlement"
+-- "The first settled month is the fixing's, later ones last+1"; "with no month settled and no fixing, no turn is due to
+-- a settlement"
 unfoldable pub settlementTurn : Bool → ℕ → Bool → ℕ → ℕ → Bool
 settlementTurn settled next fixed fixingMonth month =
     leb month lastMonth && cond settled (eqb month next) (not fixed || eqb month fixingMonth)

@@ -70,7 +70,8 @@ fn lines_whole(lines: &[u64]) -> bool
 // Whether every lent list has its length.
 fn lengths_right(n: usize, series: &[u64], lines: &[u64], sectors: &[u64], prices: &[i64]) -> bool
     requires { ⌜ n ≤ mostDistributors ⌝ }
-    ensures { λ r. ⌜ r ≡ fixingLengths n (now (series .entry)) (now (lines .entry)) (now (sectors .entry)) (now (prices .entry)) ⌝ }
+    ensures { λ r. ⌜ r ≡ fixingLengths n (now (series .entry)) (now (lines .entry)) (now (sectors .entry))
+        (now (prices .entry)) ⌝ }
 {
     (series.len() == WORDS)
         & lines_whole(lines)
@@ -146,8 +147,8 @@ fn refused(refusal: Refusal, ledger: Ledger) -> FixingOutcome
 }
 
 // A fixing of the ledger's distributors for a month, from the dollar, the reference factor, the index series with its
-// first month, the supply lines and the sector factors. Where it is accepted the price list is written and the fixing is
-// in force in the ledger handed back; where it is refused both are as they were.
+// first month, the supply lines and the sector factors. Where it is accepted the price list is written and the fixing
+// is in force in the ledger handed back; where it is refused both are as they were.
 pub fn fix(
     ledger: Ledger,
     numbers: FixingNumbers,

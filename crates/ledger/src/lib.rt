@@ -1,7 +1,7 @@
 // The ledger of document 01: opened, fixed and settled by open calls that refuse bad input by the paper's numbers. A
 // ledger goes in by value and comes back by value; lists are lent, and written only after the last check.
-pub mod ledger;
 pub mod fix;
+pub mod ledger;
 pub mod open;
 pub mod settle;
 mod sound;

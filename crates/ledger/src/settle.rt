@@ -94,7 +94,9 @@ fn settle_month(
     transfers: &mut [i64],
 ) -> SettlementOutcome
     requires { ⌜ Due ledger (settlementCallOf month (now readings) (now losses) (now transfers)) ⌝ }
-    ensures { λ r. ⌜ SettlementPromise ledger (settlementCallOf month (now (readings .entry)) (now (losses .entry)) (now (transfers .entry))) (r .verdict) (r .ledger) (now (transfers .exit)) ⌝ }
+    ensures { λ r. ⌜ SettlementPromise ledger
+        (settlementCallOf month (now (readings .entry)) (now (losses .entry)) (now (transfers .entry))) (r .verdict)
+        (r .ledger) (now (transfers .exit)) ⌝ }
 {
     let n = ledger.n;
     let force = ledger.billed_under();
@@ -119,8 +121,8 @@ fn settle_month(
     }
 }
 
-// A month's settlement from readings and loss factors. Where it is accepted the transfers are written and the balances of
-// the ledger handed back are moved; where it is refused both are as they were.
+// A month's settlement from readings and loss factors. Where it is accepted the transfers are written and the balances
+// of the ledger handed back are moved; where it is refused both are as they were.
 pub fn settle(
     ledger: Ledger,
     month: u64,
@@ -128,7 +130,9 @@ pub fn settle(
     losses: &[u64],
     transfers: &mut [i64],
 ) -> SettlementOutcome
-    ensures { λ r. ⌜ SettlementPromise ledger (settlementCallOf month (now (readings .entry)) (now (losses .entry)) (now (transfers .entry))) (r .verdict) (r .ledger) (now (transfers .exit)) ⌝ }
+    ensures { λ r. ⌜ SettlementPromise ledger
+        (settlementCallOf month (now (readings .entry)) (now (losses .entry)) (now (transfers .entry))) (r .verdict)
+        (r .ledger) (now (transfers .exit)) ⌝ }
 {
     if !is_sound(ledger) {
         return refused(Refusal::Unsound, ledger);

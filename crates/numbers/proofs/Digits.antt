@@ -2,7 +2,9 @@
 use mathlib.Core.Path.{_≡_, sym, _∙_, ap}
 use Prim.Native.Nat.{ℕ, zero, suc, _+_, _-_, _*_, _/_, _%_, _^_, _<_, _≤_}
 use native.Mathlib.Omega.{arith}
-use native.Mathlib.Nat.{mul-add, mul-assoc, mul-comm, div-add-mod, add-mul-div-left, add-mul-mod-self-left, div-le-of-le-mul, mul-le-mul-right, mul-le-mul, mod-lt, mul-zero, zero-div, zero-mod, div-le-self, pow-suc, div-div-eq-div-mul}
+use native.Mathlib.Nat.{mul-add, mul-assoc, mul-comm, div-add-mod, add-mul-div-left, add-mul-mod-self-left}
+use native.Mathlib.Nat.{div-le-of-le-mul, mul-le-mul-right, mul-le-mul, mod-lt, mul-zero, zero-div, zero-mod}
+use native.Mathlib.Nat.{div-le-self, pow-suc, div-div-eq-div-mul}
 
 -- what has been divided so far: x is the part of b that has gone in
 pub record Part (a m x q r : ℕ) : Type 0 where
@@ -47,7 +49,9 @@ module _ (a b m q r p : ℕ) (some : 0 < m) (ale : a ≤ m) (h : Part a m (b / (
   pub next : Part a m (b / p) (q * 128 + (r * 128 + b / p % 128 * a) / m) ((r * 128 + b / p % 128 * a) % m)
   next =
       record {
-        quot = rw (h .quot, h .rest, quot-next a m (b / (p * 128)) (b / p % 128) some) (ap (λ x. a * x / m) (sym (digit b p)));
+        quot =
+            rw (h .quot, h .rest, quot-next a m (b / (p * 128)) (b / p % 128) some)
+            (ap (λ x. a * x / m) (sym (digit b p)));
         rest = rw (h .rest, rest-next a m (b / (p * 128)) (b / p % 128) some) (ap (λ x. a * x % m) (sym (digit b p)));
       }
 

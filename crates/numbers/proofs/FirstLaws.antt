@@ -48,7 +48,8 @@ first-never f zero h = refl
 first-never f (suc k) h = rw (first-never f k (λ j p. h j (omega arith))) (h k (omega arith))
 
 -- the same answers have the same first
-pub first-same : {A : Type 0} (f g : ℕ → Option A) (k : ℕ) → ((j : ℕ) → j < k → f j ≡ g j) → firstBelow k f ≡ firstBelow k g
+pub first-same : {A : Type 0} (f g : ℕ → Option A) (k : ℕ) → ((j : ℕ) → j < k → f j ≡ g j) →
+    firstBelow k f ≡ firstBelow k g
 unfolding firstBelow
 first-same f g zero h = refl
 first-same f g (suc k) h = ap₂ orElse (first-same f g k (λ j p. h j (omega arith))) (h k (omega arith))

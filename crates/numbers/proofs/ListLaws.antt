@@ -8,7 +8,8 @@ use native.Mathlib.Numerals.{add-one}
 use native.Mathlib.Omega.{arith}
 use native.Mathlib.Decide.{ℕ-discrete, decLt}
 use lib.Dec.{ltb}
-use lib.ListN.{length, getD, take, set, replicate, length-append, length-set, length-replicate, getD-replicate, List·getD-append}
+use lib.ListN.{length, getD, take, set, replicate, length-append, length-set, length-replicate, getD-replicate}
+use lib.ListN.{List·getD-append}
 use lib.Seq.{take-suc-set, take-all, take-at, getD-at, ext-getD, getD-set-same, getD-set-other}
 use borrow.Author.Tests.{lt-ltb, le-ltb, ltb-true}
 use Rattle.numbers.specs.Bounded.{listBelow, filledBelow}
@@ -34,7 +35,8 @@ module _ {A : Type 0} (f : ℕ → A) where
   unfolding listBelow
   list-none l = refl
 
-  pub list-more : (l : List A) (k : ℕ) (v : A) → k < length l → take k l ≡ listBelow k f → v ≡ f k → take (k + 1) (set l k v) ≡ listBelow (k + 1) f
+  pub list-more : (l : List A) (k : ℕ) (v : A) → k < length l → take k l ≡ listBelow k f → v ≡ f k →
+      take (k + 1) (set l k v) ≡ listBelow (k + 1) f
   unfolding listBelow
   list-more l k v p h e = rw (add-one, take-suc-set l k v p, h, e)
 
@@ -93,20 +95,25 @@ module _ {A : Type 0} (size : ℕ) (empty : A) (f : ℕ → A) where
   -- one place more
   pub filled-more : (k : ℕ) → k < size → set (filledBelow size empty k f) k (f k) ≡ filledBelow size empty (k + 1) f
   filled-more k p =
-      ext-getD empty _ _ (length-set (filledBelow size empty k f) k (f k) ∙ filled-length k ∙ sym (filled-length (k + 1)))
+      ext-getD empty _ _ (length-set (filledBelow size empty k f) k (f k) ∙ filled-length k ∙ sym
+      (filled-length (k + 1)))
       (λ j q. at j (omega (arith, length-set (filledBelow size empty k f) k (f k), filled-length k)) (ℕ-discrete j k))
     where
-      beside : (j : ℕ) → j < size → Dec (j < k) → (j ≡ k → ⊥) → getD (filledBelow size empty k f) j empty ≡ getD (filledBelow size empty (k + 1) f) j empty
+      beside : (j : ℕ) → j < size → Dec (j < k) → (j ≡ k → ⊥) →
+          getD (filledBelow size empty k f) j empty ≡ getD (filledBelow size empty (k + 1) f) j empty
       beside j q (yes h) e = filled-at k j h q ∙ sym (filled-at (k + 1) j (omega arith) q)
       beside j q (no h) e = filled-past k j (omega arith) q ∙ sym (filled-past (k + 1) j (omega arith) q)
 
-      at : (j : ℕ) → j < size → Dec (j ≡ k) → getD (set (filledBelow size empty k f) k (f k)) j empty ≡ getD (filledBelow size empty (k + 1) f) j empty
+      at : (j : ℕ) → j < size → Dec (j ≡ k) →
+          getD (set (filledBelow size empty k f) k (f k)) j empty ≡ getD (filledBelow size empty (k + 1) f) j empty
       at j q (yes e) =
-          rw e (getD-set-same (filledBelow size empty k f) k (f k) empty (omega (arith, filled-length k)) ∙ sym (filled-at (k + 1) k (omega arith) p))
+          rw e (getD-set-same (filledBelow size empty k f) k (f k) empty (omega (arith, filled-length k)) ∙ sym
+          (filled-at (k + 1) k (omega arith) p))
       at j q (no e) = getD-set-other (filledBelow size empty k f) k j (f k) empty e ∙ beside j q (decLt j k) e
 
 -- two functions that agree below k fill alike
-pub filled-same : {A : Type 0} (size : ℕ) (empty : A) (k : ℕ) (f g : ℕ → A) → ((j : ℕ) → j < k → f j ≡ g j) → filledBelow size empty k f ≡ filledBelow size empty k g
+pub filled-same : {A : Type 0} (size : ℕ) (empty : A) (k : ℕ) (f g : ℕ → A) → ((j : ℕ) → j < k → f j ≡ g j) →
+    filledBelow size empty k f ≡ filledBelow size empty k g
 unfolding filledBelow
 filled-same {A = A} size empty k f g h =
     list-same size (λ j. cond (ltb j k) (f j) empty) (λ j. cond (ltb j k) (g j) empty) (λ j p. pick j (ltb j k) refl)
@@ -125,7 +132,8 @@ module _ {A : Type 0} (size : ℕ) (empty : A) (k : ℕ) (f : ℕ → A) where
       go j (yes q) = rw (le-ltb j 0 (omega arith), lt-ltb j k q) (sym (h j q))
       go j (no q) = rw (le-ltb j 0 (omega arith), le-ltb j k (omega arith))
 
-  pub filled-next : (l : List A) (v : A) → k < size → l ≡ filledBelow size empty k f → v ≡ f k → set l k v ≡ filledBelow size empty (k + 1) f
+  pub filled-next : (l : List A) (v : A) → k < size → l ≡ filledBelow size empty k f → v ≡ f k →
+      set l k v ≡ filledBelow size empty (k + 1) f
   filled-next l v p h e = ap₂ (λ m w. set m k w) h e ∙ filled-more size empty f k p
 
   pub filled-skip : f k ≡ empty → filledBelow size empty k f ≡ filledBelow size empty (k + 1) f
@@ -144,7 +152,8 @@ pub record Front {A : Type 0} (k : ℕ) (words list : List A) : Type 0 where
   pub long : k ≤ length list
   pub first : take k list ≡ words
 
-pub front : {A : Type 0} (k : ℕ) (words rest list : List A) → length words ≡ k → list ≡ words ++ rest → Front k words list
+pub front : {A : Type 0} (k : ℕ) (words rest list : List A) → length words ≡ k → list ≡ words ++ rest →
+    Front k words list
 front k words rest list e h =
     record {
       long = rw (h, length-append) (omega (arith, e));

@@ -37,20 +37,23 @@ module _ (k : ℕ) (t : ℕ → Bool) (f : ℕ → ℕ) (least : (j : ℕ) → j
       omega
       (arith, least (w .at) (w .below), rw (w .holds) at (sum-part k (λ j. cond (t j) (f j) 0) (w .at) (w .below)))
 
-  pub any-adds : (before after : ℕ) → after ≡ before + sumBelow k (λ j. cond (t j) (f j) 0) → anyBelow k t ≡ not (eqb after before)
+  pub any-adds : (before after : ℕ) → after ≡ before + sumBelow k (λ j. cond (t j) (f j) 0) →
+      anyBelow k t ≡ not (eqb after before)
   any-adds before after e = go (anyBelow k t) refl
     where
       go : (b : Bool) → anyBelow k t ≡ b → b ≡ not (eqb after before)
       go true h = rw (ne-eqb after before (λ same. omega (arith, any-some h)))
       go false h =
-          rw (eq-eqb after before (omega (arith, sum-le k 0 (λ j. cond (t j) (f j) 0) (λ j p. rw (any-none k t h j p) (omega arith)))))
+          rw (eq-eqb after before (omega
+          (arith, sum-le k 0 (λ j. cond (t j) (f j) 0) (λ j p. rw (any-none k t h j p) (omega arith)))))
 
 -- a sum with its next part is at most the whole
 pub sum-next : (k m : ℕ) (f : ℕ → ℕ) → k < m → sumBelow k f + f k ≤ sumBelow m f
 sum-next k m f h = rw (← sum-step k f) (sum-mono (k + 1) m f (omega arith))
 
 -- part by part at most, and at one less: the sum is less
-pub sum-lt : (k : ℕ) (f g : ℕ → ℕ) → ((j : ℕ) → j < k → f j ≤ g j) → (i : ℕ) → i < k → f i < g i → sumBelow k f < sumBelow k g
+pub sum-lt : (k : ℕ) (f g : ℕ → ℕ) → ((j : ℕ) → j < k → f j ≤ g j) → (i : ℕ) → i < k → f i < g i →
+    sumBelow k f < sumBelow k g
 unfolding sumBelow
 sum-lt zero f g h i p q = absurd (omega arith)
 sum-lt (suc k) f g h i p q =

@@ -29,7 +29,8 @@ pub pos-le : (a b : ℕ) → a ≤ b → pos a ≤ℤ pos b
 pos-le a b h = record { le = le→leb a b h }
 
 -- to prove P of a difference: where it is not negative, and where it is
-pub sub-cases {ℓ} : (P : ℤ → Type ℓ) (a b : ℕ) → (b ≤ a → P (pos (a - b))) → (a < b → P (negsuc (b - suc a))) → P (subℕ a b)
+pub sub-cases {ℓ} : (P : ℤ → Type ℓ) (a b : ℕ) → (b ≤ a → P (pos (a - b))) → (a < b → P (negsuc (b - suc a))) →
+    P (subℕ a b)
 sub-cases P a b f g = go (decLt a b)
   where
     go : Dec (a < b) → P (subℕ a b)
@@ -100,12 +101,14 @@ pub signed-sum-step : (k : ℕ) (f : ℕ → ℤ) → signedSumBelow (k + 1) f �
 unfolding signedSumBelow
 signed-sum-step k f = rw add-one
 
-pub signed-sum-parts : (k : ℕ) (f : ℕ → ℤ) → signedSumBelow k f ≡ subℕ (sumBelow k (λ j. positivePart (f j))) (sumBelow k (λ j. negativePart (f j)))
+pub signed-sum-parts : (k : ℕ) (f : ℕ → ℤ) →
+    signedSumBelow k f ≡ subℕ (sumBelow k (λ j. positivePart (f j))) (sumBelow k (λ j. negativePart (f j)))
 unfolding signedSumBelow sumBelow
 signed-sum-parts zero f = refl
 signed-sum-parts (suc k) f =
     ap₂ _+ℤ_ (signed-sum-parts k f) (parts (f k))
-    ∙ sub-add (sumBelow k (λ j. positivePart (f j))) (sumBelow k (λ j. negativePart (f j))) (positivePart (f k)) (negativePart (f k))
+    ∙ sub-add (sumBelow k (λ j. positivePart (f j))) (sumBelow k (λ j. negativePart (f j))) (positivePart (f k))
+    (negativePart (f k))
 
 -- k numbers of size at most b sum to a size of at most k * b
 pub signed-sum-size : (k b : ℕ) (f : ℕ → ℤ) → ((j : ℕ) → j < k → natAbs (f j) ≤ b) → natAbs (signedSumBelow k f) ≤ k * b
@@ -139,7 +142,8 @@ pub add-bits : (x y : ℤ) → SFits w64 x → SFits w64 y → toZ w64 (ofZ w64 
 add-bits x y f g = ap₂ _+ℤ_ (toZ-ofZ f) (toZ-ofZ g)
 
 -- a turn of a loop that keeps a signed sum: its variable s holds the sum's bits
-pub next-bits : (s j : ℕ) (f : ℕ → ℤ) (z : ℤ) → s ≡ ofZ w64 (signedSumBelow j f) → z ≡ f j → SFits w64 (signedSumBelow j f) → SFits w64 (f j) → toZ w64 s +ℤ toZ w64 (ofZ w64 z) ≡ signedSumBelow (j + 1) f
+pub next-bits : (s j : ℕ) (f : ℕ → ℤ) (z : ℤ) → s ≡ ofZ w64 (signedSumBelow j f) → z ≡ f j →
+    SFits w64 (signedSumBelow j f) → SFits w64 (f j) → toZ w64 s +ℤ toZ w64 (ofZ w64 z) ≡ signedSumBelow (j + 1) f
 next-bits s j f z e h p q = rw (e, h) (add-bits (signedSumBelow j f) (f j) p q ∙ sym (signed-sum-step j f))
 
 -- the tests of the sign
@@ -149,7 +153,8 @@ negative-is (pos n) = le-ltb n 0 (omega arith)
 negative-is (negsuc n) = refl
 
 -- 0 - x, of a negative x
-pub neg-size : (x : ℤ) → ltZ x (pos 0) ≡ true → natAbs x < 2 ^ 63 → (SFits w64 (pos 0 -ℤ x)) × T (nonNeg (pos 0 -ℤ x)) × (natAbs (pos 0 -ℤ x) ≡ natAbs x)
+pub neg-size : (x : ℤ) → ltZ x (pos 0) ≡ true → natAbs x < 2 ^ 63 →
+    (SFits w64 (pos 0 -ℤ x)) × T (nonNeg (pos 0 -ℤ x)) × (natAbs (pos 0 -ℤ x) ≡ natAbs x)
 neg-size (pos n) h k = absurd (omega (arith, ltb-true n 0 h))
 neg-size (negsuc n) h k = (record { sfits = omega arith }, tt, omega arith)
 
@@ -162,7 +167,8 @@ pub within-both : (b : ℕ) (x : ℤ) → leZ (subℕ 0 b) x ≡ true → leZ x 
 unfolding withinSize
 within-both b (pos n) h = refl
 within-both zero (negsuc n) h = absurd (false≢true h)
-within-both (suc b) (negsuc n) h = sym (le-leb (suc n) (suc b) (omega (arith, leb-true n b (rw (neg-sub (suc b)) at h))))
+within-both (suc b) (negsuc n) h =
+    sym (le-leb (suc n) (suc b) (omega (arith, leb-true n b (rw (neg-sub (suc b)) at h))))
 
 pub within-low : (b : ℕ) (x : ℤ) → leZ (subℕ 0 b) x ≡ false → withinSize b x ≡ false
 unfolding withinSize
@@ -172,7 +178,8 @@ within-low zero (negsuc n) h = lt-leb (suc n) 0 (omega arith)
 within-low (suc b) (negsuc n) h = lt-leb (suc n) (suc b) (omega (arith, leb-false n b (rw (neg-sub (suc b)) at h)))
 
 -- a sum of differences is the difference of the sums
-pub signed-sum-sub : (k : ℕ) (f g : ℕ → ℕ) → signedSumBelow k (λ j. subℕ (f j) (g j)) ≡ subℕ (sumBelow k f) (sumBelow k g)
+pub signed-sum-sub : (k : ℕ) (f g : ℕ → ℕ) →
+    signedSumBelow k (λ j. subℕ (f j) (g j)) ≡ subℕ (sumBelow k f) (sumBelow k g)
 unfolding signedSumBelow sumBelow
 signed-sum-sub zero f g = refl
 signed-sum-sub (suc k) f g =
@@ -200,7 +207,8 @@ pub size-parts : (z : ℤ) → natAbs z ≡ positivePart z + negativePart z
 size-parts (pos n) = omega arith
 size-parts (negsuc n) = omega arith
 
-pub part-size : (negative : Bool) (z : ℤ) → Bool·beq (isNegative z) negative ≡ true → natAbs z ≡ cond negative (negativePart z) (positivePart z)
+pub part-size : (negative : Bool) (z : ℤ) → Bool·beq (isNegative z) negative ≡ true →
+    natAbs z ≡ cond negative (negativePart z) (positivePart z)
 unfolding isNegative
 part-size true (pos n) h = absurd (false≢true h)
 part-size false (pos n) h = refl
@@ -211,7 +219,8 @@ pub part-most : (negative : Bool) (z : ℤ) → cond negative (negativePart z) (
 part-most true z = omega (arith, size-parts z)
 part-most false z = omega (arith, size-parts z)
 
-pub part-none : (negative : Bool) (z : ℤ) → Bool·beq (isNegative z) negative ≡ false → cond negative (negativePart z) (positivePart z) ≡ 0
+pub part-none : (negative : Bool) (z : ℤ) → Bool·beq (isNegative z) negative ≡ false →
+    cond negative (negativePart z) (positivePart z) ≡ 0
 unfolding isNegative
 part-none true (pos n) h = refl
 part-none false (pos n) h = absurd (true≢false h)
@@ -246,7 +255,8 @@ module _ (x y a b : ℤ) (f : SFits w64 x) (g : SFits w64 y) (e : x ≡ a) (h : 
   product-bits = mul-bits x y f g ∙ ap₂ _*ℤ_ e h
 
 -- sums of two signed functions
-pub signed-sum-add : (n : ℕ) (f g : ℕ → ℤ) → signedSumBelow n (λ i. f i +ℤ g i) ≡ signedSumBelow n f +ℤ signedSumBelow n g
+pub signed-sum-add : (n : ℕ) (f g : ℕ → ℤ) →
+    signedSumBelow n (λ i. f i +ℤ g i) ≡ signedSumBelow n f +ℤ signedSumBelow n g
 unfolding signedSumBelow
 signed-sum-add zero f g = refl
 signed-sum-add (suc n) f g =
@@ -261,7 +271,8 @@ signed-sum-same (suc k) f g h =
     ap₂ (λ (y z : ℤ). y +ℤ z) (signed-sum-same k f g (λ i p. h i (omega arith))) (h k (omega arith))
 
 -- places that hold 0 add nothing
-sum-up : (n k : ℕ) (f : ℕ → ℤ) → ((i : ℕ) → n ≤ i → i < k + n → f i ≡ pos 0) → signedSumBelow (k + n) f ≡ signedSumBelow n f
+sum-up : (n k : ℕ) (f : ℕ → ℤ) → ((i : ℕ) → n ≤ i → i < k + n → f i ≡ pos 0) →
+    signedSumBelow (k + n) f ≡ signedSumBelow n f
 unfolding signedSumBelow
 sum-up n zero f h = rw zero-add
 sum-up n (suc k) f h =
@@ -269,7 +280,8 @@ sum-up n (suc k) f h =
     (ap₂ (λ (y z : ℤ). y +ℤ z) (sum-up n k f (λ i p q. h i p (omega arith))) (h (k + n) (omega arith) (omega arith))
     ∙ +ℤ-idr (signedSumBelow n f))
 
-pub sum-wide : (n m : ℕ) (f : ℕ → ℤ) → n ≤ m → ((i : ℕ) → n ≤ i → i < m → f i ≡ pos 0) → signedSumBelow m f ≡ signedSumBelow n f
+pub sum-wide : (n m : ℕ) (f : ℕ → ℤ) → n ≤ m → ((i : ℕ) → n ≤ i → i < m → f i ≡ pos 0) →
+    signedSumBelow m f ≡ signedSumBelow n f
 sum-wide n m f p h =
     let e : m - n + n ≡ m = omega arith in
     rw e at (sum-up n (m - n) f (λ i q r. h i q (omega arith)))

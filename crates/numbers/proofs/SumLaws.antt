@@ -89,7 +89,8 @@ sum-scale zero c f = omega arith
 sum-scale (suc k) c f = rw (mul-add, sum-scale k c f)
 
 -- the steps of a function that never falls add up to how far it climbs
-pub sum-steps : (k : ℕ) (g : ℕ → ℕ) → ((j : ℕ) → j < k → g j ≤ g (j + 1)) → sumBelow k (λ j. g (j + 1) - g j) + g 0 ≡ g k
+pub sum-steps : (k : ℕ) (g : ℕ → ℕ) → ((j : ℕ) → j < k → g j ≤ g (j + 1)) →
+    sumBelow k (λ j. g (j + 1) - g j) + g 0 ≡ g k
 unfolding sumBelow
 sum-steps zero g h = omega arith
 sum-steps (suc k) g h =

@@ -24,7 +24,9 @@ module _ (low high x : ℕ) where
   unfolding between
   between-yes p q = rw (le-leb low x p, le-leb x high q)
 
-pub price-told : (word : ℕ) → priceAnswered (checkedPrice word) ≡ acceptedWhere (between leastPrice mostPrice word) (word ∷ []) 11
+pub price-told : (word : ℕ) →
+    priceAnswered (checkedPrice word) ≡ acceptedWhere (between leastPrice mostPrice word) (word ∷ []) 11
 unfolding checkedPrice
 price-told word =
-    picked priceAnswered (between leastPrice mostPrice word) (Within (record { 0 = word })) OutsideBounds (word ∷ []) 11 refl refl
+    picked priceAnswered (between leastPrice mostPrice word) (Within (record { 0 = word })) OutsideBounds (word ∷ []) 11
+    refl refl

@@ -1,5 +1,5 @@
--- Checks in their order: each has 01's number of its cause, and the first whose cause is met gives the verdict, its number
--- and its values. The order is the list's. Assumes nothing.
+-- Checks in their order: each has 01's number of its cause, and the first whose cause is met gives the verdict, its
+-- number and its values. The order is the list's. Assumes nothing.
 use mathlib.Core.Path.{_≡_}
 use mathlib.Core.Bool.{Bool, cond}
 use mathlib.Core.List.{List, [], _∷_}

@@ -31,7 +31,8 @@ impl PesoPrice {
 
     // The price of a word, where it keeps the bounds.
     pub fn checked(word: u64) -> CheckedPrice
-        ensures { λ r. ⌜ Promised priceAnswered r (checkedPrice word) (acceptedWhere (between leastPrice mostPrice word) (word ∷ []) 11) ⌝ }
+        ensures { λ r. ⌜ Promised priceAnswered r (checkedPrice word)
+            (acceptedWhere (between leastPrice mostPrice word) (word ∷ []) 11) ⌝ }
     {
         if is_between(Self::LEAST, Self::MOST, word) {
             CheckedPrice::Within(PesoPrice(word))

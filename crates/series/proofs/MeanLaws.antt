@@ -31,7 +31,8 @@ module _ (row : List ℕ) (first t lag window : ℕ) where
   unfolding meanOrZero
   zero-missing some = go (windowMissing row first t lag window) refl
     where
-      go : (b : Bool) → windowMissing row first t lag window ≡ b → eqb (cond b 0 (windowMean row first t lag window)) 0 ≡ b
+      go : (b : Bool) → windowMissing row first t lag window ≡ b →
+          eqb (cond b 0 (windowMean row first t lag window)) 0 ≡ b
       go true h = refl
       go false h =
           let least : 1 ≤ windowMean row first t lag window = mean-least row first t lag window some h in
@@ -67,7 +68,8 @@ means-within table ok first t = record { most = λ p. go p (decLt p meanCount) }
     go : (p : ℕ) → Dec (p < meanCount) → getD (listBelow meanCount means) p 0 ≤ mostValue
     go p (yes q) =
         rw (list-at means meanCount 0 p q)
-        (mean-within (getD table (p / 36) []) (ok .row (p / 36)) first t (p / 3 % 12 + 1) (windowOf (p % 3)) (window-of-size (p % 3) .0))
+        (mean-within (getD table (p / 36) []) (ok .row (p / 36)) first t (p / 3 % 12 + 1) (windowOf (p % 3))
+        (window-of-size (p % 3) .0))
     go p (no q) =
         rw (List·getD-eq-default (listBelow meanCount means) 0 {n = p} (omega (arith, list-length means meanCount)))
         (omega arith)
@@ -84,7 +86,8 @@ place-window w h = go (eqb w 1) refl (eqb w 6) refl (eqb w 9) refl h
     go false p false q true r e = rw (eqb-true w 9 r)
     go false p false q false r e = absurd (false≢true e)
 
-module _ (s lag window : ℕ) (known : s < seriesCount) (some : 1 ≤ lag) (few : lag ≤ 12) (ok : windowAllowed window ≡ true) where
+module _ (s lag window : ℕ) (known : s < seriesCount) (some : 1 ≤ lag) (few : lag ≤ 12)
+    (ok : windowAllowed window ≡ true) where
   pub place-below : meanPlace s lag window < meanCount
   unfolding meanPlace
   place-below = omega (arith, window-size window ok .1)
@@ -99,6 +102,7 @@ module _ (s lag window : ℕ) (known : s < seriesCount) (some : 1 ≤ lag) (few 
       let a : p / 36 ≡ s = omega arith in
       let b : p / 3 % 12 + 1 ≡ lag = omega arith in
       let d : p % 3 ≡ window / 4 = omega arith in
-      list-at (λ q. meanOrZero (getD table (q / 36) []) first t (q / 3 % 12 + 1) (windowOf (q % 3))) meanCount 0 p place-below
+      list-at (λ q. meanOrZero (getD table (q / 36) []) first t (q / 3 % 12 + 1) (windowOf (q % 3))) meanCount 0 p
+      place-below
       ∙ ap (λ x. meanOrZero (getD table x []) first t (p / 3 % 12 + 1) (windowOf (p % 3))) a
       ∙ ap₂ (meanOrZero (getD table s []) first t) b (ap windowOf d ∙ place-window window ok)

@@ -17,7 +17,8 @@ use Rattle.numbers.proofs.TestLaws.{all-at, any-none, any-holds}
 use Rattle.numbers.proofs.ListLaws.{list-at, list-length}
 use Rattle.numbers.proofs.RoundingLaws.{half-up-ge, half-up-le}
 use Rattle.series.specs.Series.{mostValue, monthCount, seriesCount, seriesRow, seriesTable, valuesInRange}
-use Rattle.series.specs.Series.{windowAllowed, valueIn, termMonth, valueOf, termValue, windowMissing, meanOf, windowMean}
+use Rattle.series.specs.Series.{windowAllowed, valueIn, termMonth, valueOf, termValue, windowMissing, meanOf}
+use Rattle.series.specs.Series.{windowMean}
 use Rattle.series.specs.Required.{ValuesWithin, TableInRange}
 
 -- a window of 1, 6 or 9 months has 1 to 9
@@ -37,20 +38,24 @@ pick-most true x m h = h
 pick-most false x m h = omega arith
 
 -- what stands in the table that the words fill, at every place
-at-row : (words : List ℕ) (s k : ℕ) → Dec (k < 48) → valuesInRange words ≡ true → s < 5 → getD (seriesRow words s) k 0 ≤ mostValue
+at-row : (words : List ℕ) (s k : ℕ) → Dec (k < 48) → valuesInRange words ≡ true → s < 5 →
+    getD (seriesRow words s) k 0 ≤ mostValue
 unfolding seriesRow valuesInRange
 at-row words s k (yes p) h q =
     rw (list-at (λ i. getD words (s * monthCount + i) 0) monthCount 0 k p)
     (leb-true _ _ (all-at 240 (λ j. leb (getD words j 0) mostValue) h (s * 48 + k) (omega arith)))
 at-row words s k (no p) h q =
-    rw (List·getD-eq-default (seriesRow words s) 0 {n = k} (omega (arith, list-length (λ i. getD words (s * monthCount + i) 0) 48)))
+    rw (List·getD-eq-default (seriesRow words s) 0 {n = k}
+    (omega (arith, list-length (λ i. getD words (s * monthCount + i) 0) 48)))
     (omega arith)
 
-at-table : (words : List ℕ) (s k : ℕ) → Dec (s < 5) → valuesInRange words ≡ true → getD (getD (seriesTable words) s []) k 0 ≤ mostValue
+at-table : (words : List ℕ) (s k : ℕ) → Dec (s < 5) → valuesInRange words ≡ true →
+    getD (getD (seriesTable words) s []) k 0 ≤ mostValue
 unfolding seriesTable
 at-table words s k (yes p) h = rw (list-at (seriesRow words) seriesCount [] s p) (at-row words s k (decLt k 48) h p)
 at-table words s k (no p) h =
-    rw (List·getD-eq-default (seriesTable words) [] {n = s} (omega (arith, list-length (seriesRow words) 5))) (omega arith)
+    rw (List·getD-eq-default (seriesTable words) [] {n = s} (omega (arith, list-length (seriesRow words) 5)))
+    (omega arith)
 
 pub table-in-range : (words : List ℕ) → valuesInRange words ≡ true → TableInRange (seriesTable words)
 table-in-range words h = record { row = λ s. record { most = λ k. at-table words s k (decLt s 5) h } }
@@ -65,15 +70,20 @@ module _ (row : List ℕ) (first t lag k : ℕ) where
   unfolding termValue termMonth valueIn
   value-before p q = rw (le-leb (lag + k) t p, lt-leb first (t - (lag + k)) q)
 
-  pub value-inside : lag + k ≤ t → first ≤ t - (lag + k) → t - (lag + k) - first < monthCount → termValue row first t lag k ≡ getD row (t - (lag + k) - first) 0
+  pub value-inside : lag + k ≤ t → first ≤ t - (lag + k) → t - (lag + k) - first < monthCount →
+      termValue row first t lag k ≡ getD row (t - (lag + k) - first) 0
   unfolding termValue termMonth valueIn
-  value-inside p q r = rw (le-leb (lag + k) t p, le-leb first (t - (lag + k)) q, lt-ltb (t - (lag + k) - first) monthCount r)
+  value-inside p q r =
+      rw (le-leb (lag + k) t p, le-leb first (t - (lag + k)) q, lt-ltb (t - (lag + k) - first) monthCount r)
 
-  pub value-past : lag + k ≤ t → first ≤ t - (lag + k) → monthCount ≤ t - (lag + k) - first → termValue row first t lag k ≡ 0
+  pub value-past : lag + k ≤ t → first ≤ t - (lag + k) → monthCount ≤ t - (lag + k) - first →
+      termValue row first t lag k ≡ 0
   unfolding termValue termMonth valueIn
-  value-past p q r = rw (le-leb (lag + k) t p, le-leb first (t - (lag + k)) q, le-ltb (t - (lag + k) - first) monthCount r)
+  value-past p q r =
+      rw (le-leb (lag + k) t p, le-leb first (t - (lag + k)) q, le-ltb (t - (lag + k) - first) monthCount r)
 
--- a window that begins before month 0 or before the table lacks its oldest month; one that ends past the table its newest
+-- a window that begins before month 0 or before the table lacks its oldest month; one that ends past the table its
+-- newest
 module _ (row : List ℕ) (first t lag window : ℕ) (some : 1 ≤ window) where
   lacks : (k : ℕ) → k < window → termValue row first t lag k ≡ 0 → windowMissing row first t lag window ≡ true
   unfolding windowMissing
@@ -84,7 +94,8 @@ module _ (row : List ℕ) (first t lag window : ℕ) (some : 1 ≤ window) where
     where
       go : Dec (t < lag + (window - 1)) → windowMissing row first t lag window ≡ true
       go (yes p) = lacks (window - 1) (omega arith) (value-below row first t lag (window - 1) p)
-      go (no p) = lacks (window - 1) (omega arith) (value-before row first t lag (window - 1) (omega arith) (omega arith))
+      go (no p) =
+          lacks (window - 1) (omega arith) (value-before row first t lag (window - 1) (omega arith) (omega arith))
 
   -- a window that lies whole in the table
   pub window-inside : (k : ℕ) → k < window → first + lag + window - 1 ≤ t → t - lag - first < monthCount →
@@ -93,7 +104,8 @@ module _ (row : List ℕ) (first t lag window : ℕ) (some : 1 ≤ window) where
       let e : t - lag - first - k ≡ t - (lag + k) - first = omega arith in
       ap (λ x. getD row x 0) e ∙ sym (value-inside row first t lag k (omega arith) (omega arith) (omega arith))
 
-  pub window-past : lag ≤ t → first ≤ t - lag → monthCount ≤ t - lag - first → windowMissing row first t lag window ≡ true
+  pub window-past : lag ≤ t → first ≤ t - lag → monthCount ≤ t - lag - first →
+      windowMissing row first t lag window ≡ true
   window-past p q r = lacks 0 (omega arith) (value-past row first t lag 0 (omega arith) (omega arith) (omega arith))
 
 module _ (row : List ℕ) (ok : ValuesWithin row) (first t lag : ℕ) where
@@ -119,7 +131,11 @@ pub mean-least : (row : List ℕ) (first t lag window : ℕ) → 1 ≤ window �
 unfolding windowMissing windowMean meanOf
 mean-least row first t lag window p h =
     half-up-ge _ window p 1
-    (omega (arith, sum-ge window 1 (termValue row first t lag) (λ j q. present j (any-none window (λ k. eqb (termValue row first t lag k) 0) h j q))))
+    (omega (
+      arith,
+      sum-ge window 1 (termValue row first t lag)
+          (λ j q. present j (any-none window (λ k. eqb (termValue row first t lag k) 0) h j q)),
+    ))
   where
     present : (j : ℕ) → eqb (termValue row first t lag j) 0 ≡ false → 1 ≤ termValue row first t lag j
     present j e =

@@ -46,8 +46,8 @@ pub fn mean_place(series: u64, lag: u64, window: u64) -> usize
     series as usize * SERIES_MEANS + (lag - 1) as usize * WINDOWS + (window / 4) as usize
 }
 
-// The mean of a window of a series' row, or 0 where a month of it is missing: the window lies whole in the table, and no
-// value of it is zero.
+// The mean of a window of a series' row, or 0 where a month of it is missing: the window lies whole in the table, and
+// no value of it is zero.
 fn mean(row: &[u64; MONTHS], first: u64, month: u64, lag: u64, window: u64) -> u64
     requires { ⌜ ValuesWithin (now row) ⌝ ∗ ⌜ WindowInRange first lag window ⌝ }
     ensures { λ r. ⌜ r ≡ meanOrZero (now (row .entry)) first month lag window ⌝ }

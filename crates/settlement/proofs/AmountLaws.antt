@@ -19,13 +19,17 @@ use Rattle.numbers.proofs.TestLaws.{all-at}
 use Rattle.numbers.proofs.UnitLaws.{between-low, between-high}
 use Rattle.numbers.proofs.RoundingLaws.{half-up-le, away-size, away-le}
 use Rattle.numbers.proofs.SignedLaws.{signed-sum-size, size-sub-le, size-add-le, size-mul-le}
-use Rattle.settlement.specs.Amount.{mostReading, readingOf, presentAt, chargeAt, highLossOf, lowLossOf, mostReadingOf, readingAllowed, sectorAllowed, readingsAllowed, lossesAllowed, billingInRange, highNet, lowNet, energyWithLosses, collectedAmount}
+use Rattle.settlement.specs.Amount.{mostReading, readingOf, presentAt, chargeAt, highLossOf, lowLossOf}
+use Rattle.settlement.specs.Amount.{mostReadingOf, readingAllowed, sectorAllowed, readingsAllowed, lossesAllowed}
+use Rattle.settlement.specs.Amount.{billingInRange, highNet, lowNet, energyWithLosses, collectedAmount}
 use Rattle.settlement.specs.Required.{BillingFacts}
 use Rattle.settlement.specs.Example.{inSectorZero, billed, billedReadings, evenLosses}
 
 -- the readings and loss factors of class example 9 pass cause 12, by computation
-pub example-billed : billingInRange 3 (inSectorZero false true true true) (billedReadings 1000 1000 1000) evenLosses ≡ true
-unfolding allBelow between mostReadingOf readingAllowed sectorAllowed readingsAllowed lossesAllowed billingInRange inSectorZero billed billedReadings evenLosses
+pub example-billed : billingInRange 3 (inSectorZero false true true true) (billedReadings 1000 1000 1000)
+    evenLosses ≡ true
+unfolding allBelow between mostReadingOf readingAllowed sectorAllowed readingsAllowed lossesAllowed billingInRange
+    inSectorZero billed billedReadings evenLosses
 example-billed = refl
 
 -- the loss factor at high voltage is the first of its pair
@@ -37,7 +41,8 @@ unfolding readingAllowed mostReadingOf
 reading-most true reading h = leb-true reading mostReading h
 reading-most false reading h = omega (arith, leb-true reading 0 h)
 
-pub billing-facts : (n : ℕ) (present : List Bool) (readings losses : List ℕ) → billingInRange n present readings losses ≡ true → (i : ℕ) → i < n → BillingFacts readings losses i
+pub billing-facts : (n : ℕ) (present : List Bool) (readings losses : List ℕ) →
+    billingInRange n present readings losses ≡ true → (i : ℕ) → i < n → BillingFacts readings losses i
 unfolding billingInRange readingsAllowed sectorAllowed lossesAllowed
 billing-facts n present readings losses h i p =
     let both = all-at n (λ j. readingsAllowed present readings j && lossesAllowed losses j) h i p in
@@ -57,13 +62,16 @@ billing-facts n present readings losses h i p =
     }
 
 -- the size of an amount is that of the sum over the sectors, rounded once
-amount-once : (charges : List ℤ) (readings losses : List ℕ) (i : ℕ) → natAbs (collectedAmount charges readings losses i) ≡ halfUp (natAbs (signedSumBelow sectorCount (λ s. chargeAt charges i s *ℤ energyWithLosses readings losses i s))) 1000
+amount-once : (charges : List ℤ) (readings losses : List ℕ) (i : ℕ) →
+    natAbs (collectedAmount charges readings losses i) ≡ halfUp
+    (natAbs (signedSumBelow sectorCount (λ s. chargeAt charges i s *ℤ energyWithLosses readings losses i s))) 1000
 unfolding collectedAmount
 amount-once charges readings losses i = away-size _ 1000
 
 module _ (charges : List ℤ) (readings losses : List ℕ) (i : ℕ) (ok : BillingFacts readings losses i) where
   -- a difference of two readings of a sector
-  net-size : (s k l : ℕ) → s < sectorCount → k < 4 → l < 4 → natAbs (subℕ (readingOf readings i s k) (readingOf readings i s l)) ≤ mostReading
+  net-size : (s k l : ℕ) → s < sectorCount → k < 4 → l < 4 →
+      natAbs (subℕ (readingOf readings i s k) (readingOf readings i s l)) ≤ mostReading
   net-size s k l p q r = size-sub-le _ _ mostReading (ok .reading s k p q) (ok .reading s l p r)
 
   pub high-size : (s : ℕ) → s < sectorCount → natAbs (highNet readings i s) ≤ 2000000000
@@ -74,17 +82,21 @@ module _ (charges : List ℤ) (readings losses : List ℕ) (i : ℕ) (ok : Billi
   unfolding lowNet
   low-size s p = net-size s 2 3 p (omega arith) (omega arith)
 
-  pub high-product : (s : ℕ) → s < sectorCount → natAbs (highNet readings i s *ℤ pos (highLossOf losses i * 10000)) ≤ 400000000000000000
+  pub high-product : (s : ℕ) → s < sectorCount →
+      natAbs (highNet readings i s *ℤ pos (highLossOf losses i * 10000)) ≤ 400000000000000000
   high-product s p =
       size-mul-le (highNet readings i s) (pos (highLossOf losses i * 10000)) (high-size s p)
       (mul-le-mul-right 10000 (ok .highMost))
 
-  pub low-product : (s : ℕ) → s < sectorCount → natAbs (lowNet readings i s *ℤ pos (highLossOf losses i * lowLossOf losses i)) ≤ 800000000000000000
+  pub low-product : (s : ℕ) → s < sectorCount →
+      natAbs (lowNet readings i s *ℤ pos (highLossOf losses i * lowLossOf losses i)) ≤ 800000000000000000
   low-product s p =
       size-mul-le (lowNet readings i s) (pos (highLossOf losses i * lowLossOf losses i)) (low-size s p)
       (mul-le-mul (ok .highMost) (ok .lowMost))
 
-  pub products-size : (s : ℕ) → s < sectorCount → natAbs (highNet readings i s *ℤ pos (highLossOf losses i * 10000) +ℤ lowNet readings i s *ℤ pos (highLossOf losses i * lowLossOf losses i)) ≤ 1200000000000000000
+  pub products-size : (s : ℕ) → s < sectorCount →
+      natAbs (highNet readings i s *ℤ pos (highLossOf losses i * 10000) +ℤ lowNet readings i s *ℤ pos
+      (highLossOf losses i * lowLossOf losses i)) ≤ 1200000000000000000
   products-size s p =
       size-add-le
       (highNet readings i s *ℤ pos (highLossOf losses i * 10000))
@@ -97,11 +109,14 @@ module _ (charges : List ℤ) (readings losses : List ℕ) (i : ℕ) (ok : Billi
   energy-size s p = away-le _ 100000000 12000000000 (omega arith) (products-size s p)
 
   module _ (bounded : (s : ℕ) → s < sectorCount → natAbs (chargeAt charges i s) ≤ 10500000) where
-    pub sector-amount : (s : ℕ) → s < sectorCount → natAbs (chargeAt charges i s *ℤ energyWithLosses readings losses i s) ≤ 126000000000000000
+    pub sector-amount : (s : ℕ) → s < sectorCount →
+        natAbs (chargeAt charges i s *ℤ energyWithLosses readings losses i s) ≤ 126000000000000000
     sector-amount s p =
         size-mul-le (chargeAt charges i s) (energyWithLosses readings losses i s) (bounded s p) (energy-size s p)
 
-    pub sectors-amount : (k : ℕ) → k ≤ sectorCount → natAbs (signedSumBelow k (λ s. chargeAt charges i s *ℤ energyWithLosses readings losses i s)) ≤ 1008000000000000000
+    pub sectors-amount : (k : ℕ) → k ≤ sectorCount →
+        natAbs (signedSumBelow k (λ s. chargeAt charges i s *ℤ energyWithLosses readings losses i s))
+        ≤ 1008000000000000000
     sectors-amount k p =
         let sector : ℕ → ℤ = λ s. chargeAt charges i s *ℤ energyWithLosses readings losses i s in
         omega (arith, signed-sum-size k 126000000000000000 sector (λ s q. sector-amount s (omega arith)))

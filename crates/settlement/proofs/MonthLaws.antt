@@ -19,7 +19,8 @@ use Rattle.numbers.proofs.ListLaws.{filled-none, filled-at, filled-empty, fille
 use Rattle.settlement.specs.Amount.{collectedAmount}
 use Rattle.settlement.specs.Required.{Billed}
 use Rattle.settlement.specs.Share.{sideTotal, sharedBefore, share}
-use Rattle.settlement.specs.Settlement.{positionOf, mostPosition, positionsInRange, owing, owed, sideSize, transferred, paid, received, transfer, newBalance}
+use Rattle.settlement.specs.Settlement.{positionOf, mostPosition, positionsInRange, owing, owed, sideSize}
+use Rattle.settlement.specs.Settlement.{transferred, paid, received, transfer, newBalance}
 use Rattle.settlement.specs.Month.{moneyAt, moneyBelow, sizesBelow, shareList, movedMonth, settledMonth}
 use Rattle.settlement.specs.Required.{MoneyWithin, Side}
 use Rattle.settlement.specs.declared.month.SettledMonth.{SettledMonth}
@@ -35,14 +36,17 @@ module _ (n : ℕ) (sizes : List ℕ) (side : Side n sizes) where
       omega (arith, sum-le k mostPosition (λ i. getD sizes i 0) (λ i q. side .within i (omega arith)), side .few)
 
 -- a side of total 0 has no shares
-pub shares-none : (n : ℕ) (sizes : List ℕ) (transferred : ℕ) → sideTotal n (λ i. getD sizes i 0) ≡ 0 → replicate mostDistributors 0 ≡ shareList n sizes transferred
+pub shares-none : (n : ℕ) (sizes : List ℕ) (transferred : ℕ) → sideTotal n (λ i. getD sizes i 0) ≡ 0 →
+    replicate mostDistributors 0 ≡ shareList n sizes transferred
 unfolding shareList share sharedBefore
 shares-none n sizes transferred e =
     filled-empty mostDistributors 0 n (share n (λ i. getD sizes i 0) transferred)
     (λ j p. rw (eq-eqb (sideTotal n (λ i. getD sizes i 0)) 0 e))
 
 -- shares are a side themselves, since none is larger than its size
-pub shares-within : (n : ℕ) (sizes : List ℕ) (transferred : ℕ) → Side n sizes → transferred ≤ sideTotal n (λ i. getD sizes i 0) → (shares : List ℕ) → shares ≡ shareList n sizes transferred → Side n shares
+pub shares-within : (n : ℕ) (sizes : List ℕ) (transferred : ℕ) → Side n sizes →
+    transferred ≤ sideTotal n (λ i. getD sizes i 0) → (shares : List ℕ) → shares ≡ shareList n sizes transferred →
+    Side n shares
 unfolding shareList
 shares-within n sizes transferred side h shares e =
     record {
@@ -58,7 +62,8 @@ shares-within n sizes transferred side h shares e =
     }
 
 -- positions that pass the test of cause 13
-pub positions-within : (n : ℕ) (positions : List Pesos) → n ≤ mostDistributors → positionsInRange n (moneyAt positions) ≡ true → MoneyWithin n positions
+pub positions-within : (n : ℕ) (positions : List Pesos) → n ≤ mostDistributors →
+    positionsInRange n (moneyAt positions) ≡ true → MoneyWithin n positions
 unfolding positionsInRange withinSize
 positions-within n positions few h =
     record {
@@ -74,7 +79,8 @@ module _ (f : ℕ → ℤ) where
   unfolding moneyBelow
   money-none = filled-none mostDistributors noMoney (λ i. record { 0 = f i })
 
-  pub money-next : (k : ℕ) (l : List Pesos) (v : ℤ) → k < mostDistributors → l ≡ moneyBelow k f → v ≡ f k → set l k (record { 0 = v }) ≡ moneyBelow (k + 1) f
+  pub money-next : (k : ℕ) (l : List Pesos) (v : ℤ) → k < mostDistributors → l ≡ moneyBelow k f → v ≡ f k →
+      set l k (record { 0 = v }) ≡ moneyBelow (k + 1) f
   unfolding moneyBelow
   money-next k l v p h e =
       filled-next mostDistributors noMoney k (λ i. record { 0 = f i }) l (record { 0 = v }) p h
@@ -91,19 +97,24 @@ module _ (f : ℕ → ℤ) where
       (λ i p. ap {A = ℤ} {B = Pesos} (λ z. record { 0 = z }) (h i p))
 
 -- a position from a balance and an amount, and a balance from a position and a transfer
-pub position-size : (n : ℕ) (balances : List Pesos) (charges : List ℤ) (readings losses : List ℕ) → MoneyWithin n balances → Billed n charges readings losses → (i : ℕ) → i < n → natAbs (positionOf (moneyAt balances) (collectedAmount charges readings losses) i) ≤ 2008000000000000
+pub position-size : (n : ℕ) (balances : List Pesos) (charges : List ℤ) (readings losses : List ℕ) →
+    MoneyWithin n balances → Billed n charges readings losses → (i : ℕ) → i < n →
+    natAbs (positionOf (moneyAt balances) (collectedAmount charges readings losses) i) ≤ 2008000000000000
 unfolding positionOf
 position-size n balances charges readings losses w b i p =
     size-add-le (moneyAt balances i) (collectedAmount charges readings losses i) (w .within i p)
     (amount-size charges readings losses i (b .billed .facts i p) (λ s. b .bounded i s p))
 
-pub moved-size : (n : ℕ) (positions : List Pesos) (paid received : List ℕ) → MoneyWithin n positions → Side n paid → Side n received → (i : ℕ) → i < n → natAbs (moneyAt positions i +ℤ subℕ (getD received i 0) (getD paid i 0)) ≤ 2000000000000000
+pub moved-size : (n : ℕ) (positions : List Pesos) (paid received : List ℕ) → MoneyWithin n positions → Side n paid →
+    Side n received → (i : ℕ) → i < n →
+    natAbs (moneyAt positions i +ℤ subℕ (getD received i 0) (getD paid i 0)) ≤ 2000000000000000
 moved-size n positions paid received w p r i h =
     size-add-le (moneyAt positions i) (subℕ (getD received i 0) (getD paid i 0)) (w .within i h)
     (size-sub-le (getD received i 0) (getD paid i 0) mostPosition (r .within i h) (p .within i h))
 
 -- no balance is larger in size than its position
-pub balances-within : (n : ℕ) (positions : List Pesos) → MoneyWithin n positions → MoneyWithin n (settledMonth n positions .balances)
+pub balances-within : (n : ℕ) (positions : List Pesos) → MoneyWithin n positions →
+    MoneyWithin n (settledMonth n positions .balances)
 unfolding settledMonth
 balances-within n positions w =
     record {
@@ -123,12 +134,14 @@ module _ (n : ℕ) (few : n ≤ mostDistributors) (size : ℕ → ℕ) where
   unfolding sizesBelow
   sizes-at i p = filled-at mostDistributors 0 size n i p (omega arith)
 
-  pub sizes-total : (sizes : List ℕ) (total : ℕ) → sizes ≡ sizesBelow n size → total ≡ sideTotal n (λ i. getD sizes i 0) → total ≡ sideTotal n size
+  pub sizes-total : (sizes : List ℕ) (total : ℕ) → sizes ≡ sizesBelow n size →
+      total ≡ sideTotal n (λ i. getD sizes i 0) → total ≡ sideTotal n size
   unfolding sideTotal
   sizes-total sizes total e h =
       h ∙ ap (λ l. sumBelow n (λ i. getD l i 0)) e ∙ sum-same n (λ i. getD (sizesBelow n size) i 0) size sizes-at
 
-  shares-at : (transferred i : ℕ) → i < n → getD (shareList n (sizesBelow n size) transferred) i 0 ≡ share n size transferred i
+  shares-at : (transferred i : ℕ) → i < n →
+      getD (shareList n (sizesBelow n size) transferred) i 0 ≡ share n size transferred i
   unfolding shareList
   shares-at transferred i p =
       filled-at mostDistributors 0 (share n (λ j. getD (sizesBelow n size) j 0) transferred) n i p (omega arith)
@@ -136,10 +149,12 @@ module _ (n : ℕ) (few : n ≤ mostDistributors) (size : ℕ → ℕ) where
 
 -- the list of what each pays (false) or receives (true)
 abbrev sharesOf : ℕ → List Pesos → Bool → List ℕ
-sharesOf n positions negative = shareList n (sizesBelow n (sideSize negative (moneyAt positions))) (transferred n (moneyAt positions))
+sharesOf n positions negative =
+    shareList n (sizesBelow n (sideSize negative (moneyAt positions))) (transferred n (moneyAt positions))
 
 module _ (n : ℕ) (positions : List Pesos) (w : MoneyWithin n positions) where
-  pub sizes-within : (negative : Bool) (sizes : List ℕ) → sizes ≡ sizesBelow n (sideSize negative (moneyAt positions)) → Side n sizes
+  pub sizes-within : (negative : Bool) (sizes : List ℕ) → sizes ≡ sizesBelow n (sideSize negative (moneyAt positions)) →
+      Side n sizes
   unfolding sideSize owing owed
   sizes-within negative sizes e =
       record {
@@ -155,16 +170,20 @@ module _ (n : ℕ) (positions : List Pesos) (w : MoneyWithin n positions) where
       }
 
   -- so the month moved by these two lists is the month settled
-  transfer-is : (i : ℕ) → i < n → subℕ (getD (sharesOf n positions true) i 0) (getD (sharesOf n positions false) i 0) ≡ transfer n (moneyAt positions) i
+  transfer-is : (i : ℕ) → i < n →
+      subℕ (getD (sharesOf n positions true) i 0) (getD (sharesOf n positions false) i 0) ≡ transfer n
+      (moneyAt positions) i
   unfolding transfer received paid sideSize
   transfer-is i p =
       ap₂ subℕ
       (shares-at n (w .few) (sideSize true (moneyAt positions)) (transferred n (moneyAt positions)) i p)
       (shares-at n (w .few) (sideSize false (moneyAt positions)) (transferred n (moneyAt positions)) i p)
 
-  pub moved-settled : movedMonth n positions (sharesOf n positions false) (sharesOf n positions true) ≡ settledMonth n positions
+  pub moved-settled : movedMonth n positions (sharesOf n positions false) (sharesOf n positions true) ≡ settledMonth n
+      positions
   unfolding movedMonth settledMonth newBalance
   moved-settled =
       ap₂ {C = SettledMonth} (λ b t. record { balances = b; transfers = t })
-      (money-same _ n (newBalance n (moneyAt positions)) (λ i p. ap (λ (z : ℤ). moneyAt positions i +ℤ z) (transfer-is i p)))
+      (money-same _ n (newBalance n (moneyAt positions))
+      (λ i p. ap (λ (z : ℤ). moneyAt positions i +ℤ z) (transfer-is i p)))
       (money-same _ n (transfer n (moneyAt positions)) transfer-is)

@@ -9,15 +9,18 @@ use lib.IntN.{ℤ, pos, subℕ, natAbs, _+ℤ_, +ℤ-idr}
 use lib.Signed.{ltZ}
 use Rattle.numbers.specs.Bounded.{sumBelow}
 use Rattle.numbers.specs.Signed.{signedSumBelow, positivePart, negativePart, isNegative}
-use Rattle.numbers.proofs.SignedLaws.{sub-eq, signed-sum-sub, add-sub, sub-parts, size-parts, not-above, not-below, signed-sum-add}
+use Rattle.numbers.proofs.SignedLaws.{sub-eq, signed-sum-sub, add-sub, sub-parts, size-parts, not-above, not-below}
+use Rattle.numbers.proofs.SignedLaws.{signed-sum-add}
 use Rattle.settlement.specs.Share.{sideTotal}
-use Rattle.settlement.specs.Settlement.{positionOf, owing, owed, transferred, paid, received, transfer, newBalance, oneSign}
+use Rattle.settlement.specs.Settlement.{positionOf, owing, owed, transferred, paid, received, transfer}
+use Rattle.settlement.specs.Settlement.{newBalance, oneSign}
 use Rattle.settlement.proofs.ShareLaws.{shares-total, share-most, share-whole}
 use Rattle.numbers.proofs.TestLaws.{any-never}
 
 module _ (n : ℕ) (position : ℕ → ℤ) where
   -- what is transferred is at most each side's total
-  enough : (transferred n position ≤ sideTotal n (owing position)) × (transferred n position ≤ sideTotal n (owed position))
+  enough : (transferred n position ≤ sideTotal n (owing position)) ×
+      (transferred n position ≤ sideTotal n (owed position))
   unfolding transferred
   enough = omega arith
 
@@ -31,7 +34,8 @@ module _ (n : ℕ) (position : ℕ → ℤ) where
   received-most = share-most n (owed position) (transferred n position) (enough .1)
 
   -- a new balance is what is still owing less what is still owed
-  pub balance-is : (i : ℕ) → i < n → newBalance n position i ≡ subℕ (owing position i - paid n position i) (owed position i - received n position i)
+  pub balance-is : (i : ℕ) → i < n →
+      newBalance n position i ≡ subℕ (owing position i - paid n position i) (owed position i - received n position i)
   unfolding newBalance transfer owing owed
   balance-is i p =
       add-sub (position i) (received n position i) (paid n position i)
@@ -39,7 +43,9 @@ module _ (n : ℕ) (position : ℕ → ℤ) where
       (owing position i - paid n position i) (owed position i - received n position i)
       (omega (arith, paid-most i p, received-most i p))
 
-  parts-most : (i : ℕ) → i < n → (positivePart (newBalance n position i) ≤ owing position i - paid n position i) × (negativePart (newBalance n position i) ≤ owed position i - received n position i)
+  parts-most : (i : ℕ) → i < n →
+      (positivePart (newBalance n position i) ≤ owing position i - paid n position i) ×
+      (negativePart (newBalance n position i) ≤ owed position i - received n position i)
   parts-most i p =
       rw (balance-is i p)
       (omega (arith, sub-parts (owing position i - paid n position i) (owed position i - received n position i)))
@@ -82,7 +88,8 @@ module _ (n : ℕ) (position : ℕ → ℤ) where
       ∙ ap (λ (z : ℤ). signedSumBelow n position +ℤ z) transfers-zero
       ∙ +ℤ-idr (signedSumBelow n position)
 
-  -- afterwards never a balance above zero beside one below: the smaller side is transferred whole, and none is left on it
+  -- afterwards never a balance above zero beside one below: the smaller side is transferred whole, and none is left on
+  -- it
   pub balances-sign : oneSign n (newBalance n position) ≡ true
   unfolding oneSign paid received transferred
   balances-sign = go (decLe (sideTotal n (owing position)) (sideTotal n (owed position)))
@@ -102,6 +109,7 @@ module _ (n : ℕ) (position : ℕ → ℤ) where
           )
 
 -- so the new balances add up to the old ones plus the amounts
-pub balances-collected : (n : ℕ) (balance amount : ℕ → ℤ) → signedSumBelow n (newBalance n (positionOf balance amount)) ≡ signedSumBelow n balance +ℤ signedSumBelow n amount
+pub balances-collected : (n : ℕ) (balance amount : ℕ → ℤ) →
+    signedSumBelow n (newBalance n (positionOf balance amount)) ≡ signedSumBelow n balance +ℤ signedSumBelow n amount
 unfolding positionOf
 balances-collected n balance amount = balances-total n (positionOf balance amount) ∙ signed-sum-add n balance amount

@@ -4,7 +4,8 @@ use mathlib.Core.Path.{_≡_, refl, sym, _∙_}
 use mathlib.Core.Bool.{Bool, true, false, cond}
 use Prim.Native.Nat.{ℕ, zero, suc, _+_, _*_, _/_, _≤_, _<_}
 use native.Mathlib.Omega.{arith}
-use native.Mathlib.Nat.{div-zero, div-mul-le-self, lt-div-mul-add, le-div-iff-mul-le, div-lt-iff-lt-mul, mul-div-cancel, mul-div-cancel-left, mul-le-mul-right, mul-zero, zero-div, le-of-suc-le-suc}
+use native.Mathlib.Nat.{div-zero, div-mul-le-self, lt-div-mul-add, le-div-iff-mul-le, div-lt-iff-lt-mul, mul-div-cancel}
+use native.Mathlib.Nat.{mul-div-cancel-left, mul-le-mul-right, mul-zero, zero-div, le-of-suc-le-suc}
 use lib.Dec.{eqb}
 use borrow.Author.Tests.{eqb-true}
 use Rattle.numbers.specs.Bounded.{sumBelow}
@@ -38,12 +39,14 @@ before-is : (n : ℕ) (size : ℕ → ℕ) (t k : ℕ) → sharedBefore n size t
 unfolding sharedBefore
 before-is n size t k = go (eqb (sideTotal n size) 0) refl
   where
-    go : (b : Bool) → eqb (sideTotal n size) 0 ≡ b → cond b 0 (t * sumBelow k size / sideTotal n size) ≡ t * sumBelow k size / sideTotal n size
+    go : (b : Bool) → eqb (sideTotal n size) 0 ≡ b →
+        cond b 0 (t * sumBelow k size / sideTotal n size) ≡ t * sumBelow k size / sideTotal n size
     go true e = rw (eqb-true (sideTotal n size) 0 e) (sym (div-zero (t * sumBelow k size)))
     go false e = refl
 
 -- two sides that agree below n have the same shares
-before-same : (n : ℕ) (f g : ℕ → ℕ) (t k : ℕ) → ((j : ℕ) → j < n → f j ≡ g j) → k ≤ n → sharedBefore n f t k ≡ sharedBefore n g t k
+before-same : (n : ℕ) (f g : ℕ → ℕ) (t k : ℕ) → ((j : ℕ) → j < n → f j ≡ g j) → k ≤ n →
+    sharedBefore n f t k ≡ sharedBefore n g t k
 unfolding sharedBefore sideTotal
 before-same n f g t k h p = rw (sum-same n f g h, sum-same k f g (λ j q. h j (omega arith)))
 

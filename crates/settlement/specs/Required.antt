@@ -1,5 +1,5 @@
--- What the functions of this crate require, as plain facts: the lists' lengths, the ranges of readings, loss factors and
--- charges past cause 12, and money and sizes within their bounds. Assumes nothing.
+-- What the functions of this crate require, as plain facts: the lists' lengths, the ranges of readings, loss factors
+-- and charges past cause 12, and money and sizes within their bounds. Assumes nothing.
 use mathlib.Core.List.{List}
 use mathlib.Core.Path.{_≡_}
 use Prim.Native.Nat.{ℕ, _*_, _≤_, _<_}

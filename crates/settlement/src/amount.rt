@@ -3,7 +3,8 @@ ghost use mathlib.Core.Path.{_≡_};
 ghost use Prim.Native.Nat.{_+_, _*_, _<_, _≤_};
 ghost use lib.ListN.{length, getD};
 ghost use Rattle.numbers.specs.Sizes.{mostDistributors, sectorCount};
-ghost use Rattle.settlement.specs.Amount.{readingOf, mostReadingOf, sectorAllowed, readingsAllowed, lossesAllowed};
+ghost use Rattle.settlement.specs.Amount.{readingOf, mostReadingOf, sectorAllowed, readingsAllowed};
+ghost use Rattle.settlement.specs.Amount.{lossesAllowed};
 ghost use Rattle.settlement.specs.Amount.{billingInRange, energyWithLosses, collectedAmount};
 ghost use Rattle.settlement.specs.Required.{BillingLists, BilledReadings, Billed};
 use numbers::rounding::half_away;
@@ -22,7 +23,8 @@ const MOST_READING: u64 = 2000000000;
 
 // The reading of kind k (billed AT, injected AT, billed BT, injected BT) of distributor i in sector s.
 fn reading(n: usize, readings: &[u64], i: usize, s: usize, k: usize) -> u64
-    requires { ⌜ length (now readings) ≡ n * 32 ⌝ ∗ ⌜ n ≤ mostDistributors ⌝ ∗ ⌜ i < n ⌝ ∗ ⌜ (s < sectorCount) × (k < 4) ⌝ }
+    requires { ⌜ length (now readings) ≡ n * 32 ⌝ ∗ ⌜ n ≤ mostDistributors ⌝ ∗ ⌜ i < n ⌝
+        ∗ ⌜ (s < sectorCount) × (k < 4) ⌝ }
     ensures { λ r. ⌜ r ≡ readingOf (now (readings .entry)) i s k ⌝ }
 {
     readings[i * DISTRIBUTOR_READINGS + s * KINDS + k]
@@ -36,13 +38,7 @@ fn most_reading(present: bool) -> u64
 }
 
 // The four readings of distributor i in sector s, as one flag.
-fn sector_allowed(
-    n: usize,
-    present: &[bool; PLACES],
-    readings: &[u64],
-    i: usize,
-    s: usize,
-) -> bool
+fn sector_allowed(n: usize, present: &[bool; PLACES], readings: &[u64], i: usize, s: usize) -> bool
     requires { ⌜ length (now readings) ≡ n * 32 ⌝ ∗ ⌜ n ≤ mostDistributors ⌝ ∗ ⌜ i < n ⌝ ∗ ⌜ s < sectorCount ⌝ }
     ensures { λ r. ⌜ r ≡ sectorAllowed (now (present .entry)) (now (readings .entry)) i s ⌝ }
 {
@@ -107,13 +103,7 @@ pub fn billing_in_range(
 }
 
 // The net energy of distributor i in sector s, carried up over the losses, in kWh: rounded by sector.
-fn energy_with_losses(
-    n: usize,
-    readings: &[u64],
-    losses: &[u64],
-    i: usize,
-    s: usize,
-) -> i64
+fn energy_with_losses(n: usize, readings: &[u64], losses: &[u64], i: usize, s: usize) -> i64
     requires { ⌜ BilledReadings n (now readings) (now losses) ⌝ ∗ ⌜ i < n ⌝ ∗ ⌜ s < sectorCount ⌝ }
     ensures { λ r. ⌜ r ≡ energyWithLosses (now (readings .entry)) (now (losses .entry)) i s ⌝ }
 {
@@ -135,7 +125,8 @@ pub(crate) fn collected_amount(
     i: usize,
 ) -> Pesos
     requires { ⌜ Billed n (now charges) (now readings) (now losses) ⌝ ∗ ⌜ i < n ⌝ }
-    ensures { λ r. ⌜ r ≡ record { 0 = collectedAmount (now (charges .entry)) (now (readings .entry)) (now (losses .entry)) i } ⌝ }
+    ensures { λ r. ⌜ r ≡ record
+        { 0 = collectedAmount (now (charges .entry)) (now (readings .entry)) (now (losses .entry)) i } ⌝ }
 {
     let mut sum: i64 = 0;
     let mut s: usize = 0;

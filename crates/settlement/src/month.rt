@@ -34,7 +34,8 @@ pub fn positions(
     losses: &[u64],
 ) -> [Pesos; MOST_DISTRIBUTORS]
     requires { ⌜ MoneyWithin n balances ⌝ ∗ ⌜ Billed n (now charges) (now readings) (now losses) ⌝ }
-    ensures { λ r. ⌜ r ≡ positionList n balances (now (charges .entry)) (now (readings .entry)) (now (losses .entry)) ⌝ }
+    ensures { λ r. ⌜ r ≡ positionList n balances
+        (now (charges .entry)) (now (readings .entry)) (now (losses .entry)) ⌝ }
 {
     let none = Pesos(0);
     let mut positions = [none; MOST_DISTRIBUTORS];
@@ -65,7 +66,11 @@ pub fn positions_in_range(n: usize, positions: [Pesos; MOST_DISTRIBUTORS]) -> bo
 }
 
 // The sizes of one side: of those who are owed, with a position below zero, or of those who owe.
-fn side_sizes(n: usize, positions: [Pesos; MOST_DISTRIBUTORS], negative: bool) -> [u64; MOST_DISTRIBUTORS]
+fn side_sizes(
+    n: usize,
+    positions: [Pesos; MOST_DISTRIBUTORS],
+    negative: bool,
+) -> [u64; MOST_DISTRIBUTORS]
     requires { ⌜ MoneyWithin n positions ⌝ }
     ensures { λ r. ⌜ r ≡ sizesBelow n (sideSize negative (moneyAt positions)) ⌝ }
 {
@@ -82,7 +87,12 @@ fn side_sizes(n: usize, positions: [Pesos; MOST_DISTRIBUTORS], negative: bool) -
 }
 
 // Transfers and new balances from the shares of the two sides.
-fn moved(n: usize, positions: [Pesos; MOST_DISTRIBUTORS], paid: &[u64; MOST_DISTRIBUTORS], received: &[u64; MOST_DISTRIBUTORS]) -> SettledMonth
+fn moved(
+    n: usize,
+    positions: [Pesos; MOST_DISTRIBUTORS],
+    paid: &[u64; MOST_DISTRIBUTORS],
+    received: &[u64; MOST_DISTRIBUTORS],
+) -> SettledMonth
     requires { ⌜ MoneyWithin n positions ⌝ ∗ ⌜ Side n (now paid) ⌝ ∗ ⌜ Side n (now received) ⌝ }
     ensures { λ r. ⌜ r ≡ movedMonth n positions (now (paid .entry)) (now (received .entry)) ⌝ }
 {

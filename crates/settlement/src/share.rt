@@ -24,7 +24,11 @@ pub(crate) fn side_total(n: usize, sizes: &[u64; MOST_DISTRIBUTORS]) -> u64
 
 // The shares of a side in the transferred total, in one pass: with each distributor's own size, less the same before
 // it.
-pub(crate) fn shares(n: usize, sizes: &[u64; MOST_DISTRIBUTORS], transferred: u64) -> [u64; MOST_DISTRIBUTORS]
+pub(crate) fn shares(
+    n: usize,
+    sizes: &[u64; MOST_DISTRIBUTORS],
+    transferred: u64,
+) -> [u64; MOST_DISTRIBUTORS]
     requires { ⌜ Side n (now sizes) ⌝ ∗ ⌜ transferred ≤ sideTotal n (λ i. getD (now sizes) i 0) ⌝ }
     ensures { λ r. ⌜ r ≡ shareList n (now (sizes .entry)) transferred ⌝ }
 {

@@ -59,7 +59,8 @@ unfoldable pub balanceWords : List Pesos → ℕ → List ℤ
 balanceWords balances k = listBelow k (moneyAt balances)
 
 -- what `save` writes into lent lists of 320, 320 and 40 words, and how many distributors' words these are
-pub record Saved (ledger : Ledger) (count : ℕ) (present₀ present : List ℕ) (charges₀ charges balances₀ balances : List ℤ) : Type 0 where
+pub record Saved (ledger : Ledger) (count : ℕ) (present₀ present : List ℕ)
+    (charges₀ charges balances₀ balances : List ℤ) : Type 0 where
   pub counted : count ≡ keptCount ledger
   pub presences : present ≡ presentWords (ledger .force) (count * sectorCount) ++ drop (count * sectorCount) present₀
   pub charged : charges ≡ chargeWords (ledger .force) (count * sectorCount) ++ drop (count * sectorCount) charges₀

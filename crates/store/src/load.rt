@@ -35,7 +35,8 @@ fn word_truth(word: u64) -> bool
 // The presences; places that are not given are empty.
 fn load_present(words: &[u64]) -> [bool; PLACES]
     requires { ⌜ length (now words) ≤ sectorPlaces ⌝ }
-    ensures { λ r. ⌜ r ≡ filledBelow sectorPlaces false (length (now (words .entry))) (λ k. wordTruth (getD (now (words .entry)) k 0)) ⌝ }
+    ensures { λ r. ⌜ r ≡ filledBelow sectorPlaces false (length (now (words .entry)))
+        (λ k. wordTruth (getD (now (words .entry)) k 0)) ⌝ }
 {
     let mut present = [false; PLACES];
     let mut k: usize = 0;
@@ -49,7 +50,8 @@ fn load_present(words: &[u64]) -> [bool; PLACES]
 // The charges.
 fn load_charges(words: &[i64]) -> [i64; PLACES]
     requires { ⌜ length (now words) ≤ sectorPlaces ⌝ }
-    ensures { λ r. ⌜ r ≡ filledBelow sectorPlaces (pos 0) (length (now (words .entry))) (λ k. getD (now (words .entry)) k (pos 0)) ⌝ }
+    ensures { λ r. ⌜ r ≡ filledBelow sectorPlaces (pos 0) (length (now (words .entry)))
+        (λ k. getD (now (words .entry)) k (pos 0)) ⌝ }
 {
     let mut charges = [0i64; PLACES];
     let mut k: usize = 0;
@@ -76,13 +78,9 @@ fn load_balances(words: &[i64]) -> [Pesos; MOST_DISTRIBUTORS]
 }
 
 // The ledger of the words.
-pub fn load(
-    numbers: LedgerNumbers,
-    present: &[u64],
-    charges: &[i64],
-    balances: &[i64],
-) -> Ledger
-    requires { ⌜ length (now present) ≤ sectorPlaces ⌝ ∗ ⌜ length (now charges) ≤ sectorPlaces ⌝ ∗ ⌜ length (now balances) ≤ mostDistributors ⌝ }
+pub fn load(numbers: LedgerNumbers, present: &[u64], charges: &[i64], balances: &[i64]) -> Ledger
+    requires { ⌜ length (now present) ≤ sectorPlaces ⌝ ∗ ⌜ length (now charges) ≤ sectorPlaces ⌝
+        ∗ ⌜ length (now balances) ≤ mostDistributors ⌝ }
     ensures { λ r. ⌜ r ≡ loadedLedger numbers (now (present .entry)) (now (charges .entry)) (now (balances .entry)) ⌝ }
 {
     let present = load_present(present);
@@ -107,7 +105,8 @@ pub fn reload(
     charges: &mut [i64],
     balances: &mut [i64],
 ) -> Ledger
-    requires { ⌜ length (now present) ≡ sectorPlaces ⌝ ∗ ⌜ length (now charges) ≡ sectorPlaces ⌝ ∗ ⌜ length (now balances) ≡ mostDistributors ⌝ }
+    requires { ⌜ length (now present) ≡ sectorPlaces ⌝ ∗ ⌜ length (now charges) ≡ sectorPlaces ⌝
+        ∗ ⌜ length (now balances) ≡ mostDistributors ⌝ }
     ensures { λ r. ⌜ r ≡ ledger ⌝ }
 {
     let count = save(ledger, present, charges, balances);

@@ -4,7 +4,8 @@ ghost use Prim.Native.Nat.{_≤_};
 ghost use lib.ListN.{length};
 ghost use Rattle.numbers.specs.Bounded.{allBelow};
 ghost use Rattle.numbers.specs.Sizes.{mostDistributors, sectorPlaces};
-ghost use Rattle.store.specs.Store.{truthWord, withinOrEmpty, placeKept, withinOrZero, balanceKept, keptCount, presentWords, chargeWords, balanceWords, Saved};
+ghost use Rattle.store.specs.Store.{truthWord, withinOrEmpty, placeKept, withinOrZero, balanceKept, keptCount};
+ghost use Rattle.store.specs.Store.{presentWords, chargeWords, balanceWords, Saved};
 use fixing::sector::SectorCharges;
 use ledger::ledger::Ledger;
 use numbers::signed::within_size;
@@ -128,8 +129,10 @@ fn save_balances(balances: [Pesos; MOST_DISTRIBUTORS], into: &mut [i64])
 
 // The ledger's words, into the first places of the lent lists; for how many distributors they are.
 pub fn save(ledger: Ledger, present: &mut [u64], charges: &mut [i64], balances: &mut [i64]) -> usize
-    requires { ⌜ length (now present) ≡ sectorPlaces ⌝ ∗ ⌜ length (now charges) ≡ sectorPlaces ⌝ ∗ ⌜ length (now balances) ≡ mostDistributors ⌝ }
-    ensures { λ r. ⌜ Saved ledger r (now (present .entry)) (now (present .exit)) (now (charges .entry)) (now (charges .exit)) (now (balances .entry)) (now (balances .exit)) ⌝ }
+    requires { ⌜ length (now present) ≡ sectorPlaces ⌝ ∗ ⌜ length (now charges) ≡ sectorPlaces ⌝
+        ∗ ⌜ length (now balances) ≡ mostDistributors ⌝ }
+    ensures { λ r. ⌜ Saved ledger r (now (present .entry)) (now (present .exit)) (now (charges .entry))
+        (now (charges .exit)) (now (balances .entry)) (now (balances .exit)) ⌝ }
 {
     let count = kept_count(ledger);
     let places = count * SECTORS;

@@ -1,5 +1,5 @@
--- The list of all means says of a term what the table says: its mean, and by a 0 that a month is missing. So a search and
--- prices worked from the list are those of the table. Assumes nothing.
+-- The list of all means says of a term what the table says: its mean, and by a 0 that a month is missing. So a search
+-- and prices worked from the list are those of the table. Assumes nothing.
 use mathlib.Core.Path.{_≡_, _∙_, ap, ap₂}
 use mathlib.Core.Bool.{false}
 use mathlib.Core.List.{List, [], _∷_}
@@ -21,7 +21,8 @@ use Rattle.series.proofs.MeanLaws.{mean-published, zero-missing, place-below, m
 use Rattle.supply.specs.Line.{mostLines, lineCount, lineOf, termOf}
 use Rattle.supply.specs.Months.{lacksMonth, firstMissing, monthCheck, missingAt}
 use Rattle.supply.specs.Listed.{listedMean, listedLacks}
-use Rattle.supply.specs.Price.{termMean, priceAnswer, priceOr, referencePrice, referenceList, beyondAt, beyondIn, firstBeyond}
+use Rattle.supply.specs.Price.{termMean, priceAnswer, priceOr, referencePrice, referenceList, beyondAt, beyondIn}
+use Rattle.supply.specs.Price.{firstBeyond}
 use Rattle.supply.specs.Price.{boundsCheck, outOfBoundsAt, boundedReferences, referencesBy}
 use Rattle.supply.specs.Required.{TermFacts, CheckedLines}
 use Rattle.supply.specs.declared.line.Term.{Term}
@@ -35,14 +36,16 @@ unfolding listedMean meanAt
 listed-most means ok term = ok .most (meanPlace (term .series) (term .lag) (term .window))
 
 -- where no mean of the list is 0, no term lacks a month
-pub none-listed : (means lines : List ℕ) → CheckedLines lines → anyBelow meanCount (λ k. eqb (getD means k 0) 0) ≡ false →
+pub none-listed : (means lines : List ℕ) → CheckedLines lines →
+    anyBelow meanCount (λ k. eqb (getD means k 0) 0) ≡ false →
     firstMissing (listedLacks means) lines ≡ none
 unfolding listedLacks listedMean meanAt
 none-listed means lines checked h =
     never-missing (listedLacks means) lines
     (λ j p k q.
     let f = checked .facts j p .term k q in
-    any-none meanCount (λ i. eqb (getD means i 0) 0) h (meanPlace _ _ _) (place-below _ _ _ (f .series) (f .lag) (f .lagMost) (f .window)))
+    any-none meanCount (λ i. eqb (getD means i 0) 0) h (meanPlace _ _ _)
+    (place-below _ _ _ (f .series) (f .lag) (f .lagMost) (f .window)))
 
 -- the list of a table
 module _ (table : List (List ℕ)) (numbers : FixingNumbers) where
@@ -50,13 +53,18 @@ module _ (table : List (List ℕ)) (numbers : FixingNumbers) where
   means = meanList table (numbers .«first_month») (numbers .month)
 
   module _ (term : Term) (f : TermFacts term) where
-    listed : listedMean means term ≡ meanOrZero (getD table (term .series) []) (numbers .«first_month») (numbers .month) (term .lag) (term .window)
+    listed : listedMean means term ≡ meanOrZero (getD table (term .series) []) (numbers .«first_month») (numbers .month)
+        (term .lag) (term .window)
     unfolding listedMean
-    listed = mean-listed (term .series) (term .lag) (term .window) (f .series) (f .lag) (f .lagMost) (f .window) table (numbers .«first_month») (numbers .month)
+    listed =
+        mean-listed (term .series) (term .lag) (term .window) (f .series) (f .lag) (f .lagMost) (f .window) table
+        (numbers .«first_month») (numbers .month)
 
     listed-lacks : listedLacks means term ≡ lacksMonth table numbers term
     unfolding listedLacks lacksMonth
-    listed-lacks = ap (λ m. eqb m 0) listed ∙ zero-missing (getD table (term .series) []) _ _ _ _ (window-size (term .window) (f .window) .0)
+    listed-lacks =
+        ap (λ m. eqb m 0) listed ∙ zero-missing (getD table (term .series) []) _ _ _ _
+        (window-size (term .window) (f .window) .0)
 
     listed-mean : lacksMonth table numbers term ≡ false → listedMean means term ≡ termMean table numbers term
     unfolding lacksMonth termMean
@@ -75,25 +83,32 @@ module _ (table : List (List ℕ)) (numbers : FixingNumbers) where
     -- where no month is missing
     module _ (present : firstMissing (lacksMonth table numbers) lines ≡ none) where
       answer-listed : (j : ℕ) → j < lineCount lines →
-          priceAnswer (listedMean means) numbers (lineOf lines j) ≡ priceAnswer (termMean table numbers) numbers (lineOf lines j)
+          priceAnswer (listedMean means) numbers (lineOf lines j) ≡ priceAnswer (termMean table numbers) numbers
+          (lineOf lines j)
       answer-listed j p =
           price-same (listedMean means) (termMean table numbers) (lineOf lines j)
-          (λ k q. listed-mean (termOf (lineOf lines j) k) (checked .facts j p .term k q) (none-missing (lacksMonth table numbers) lines present j p k q))
+          (λ k q. listed-mean (termOf (lineOf lines j) k) (checked .facts j p .term k q)
+          (none-missing (lacksMonth table numbers) lines present j p k q))
           numbers
 
       beyond-listed : firstBeyond (listedMean means) numbers lines ≡ firstBeyond (termMean table numbers) numbers lines
       unfolding firstBeyond beyondIn
       beyond-listed =
-          first-same (beyondIn (listedMean means) numbers lines) (beyondIn (termMean table numbers) numbers lines) (lineCount lines)
+          first-same (beyondIn (listedMean means) numbers lines) (beyondIn (termMean table numbers) numbers lines)
+          (lineCount lines)
           (λ j p. ap (beyondAt j) (answer-listed j p))
 
-      prices-listed : referenceList (listedMean means) numbers lines ≡ referenceList (termMean table numbers) numbers lines
+      prices-listed : referenceList (listedMean means) numbers lines ≡ referenceList (termMean table numbers) numbers
+          lines
       unfolding referenceList referencePrice
       prices-listed =
-          filled-same mostLines noPrice (lineCount lines) (referencePrice (listedMean means) numbers lines) (referencePrice (termMean table numbers) numbers lines)
+          filled-same mostLines noPrice (lineCount lines) (referencePrice (listedMean means) numbers lines)
+          (referencePrice (termMean table numbers) numbers lines)
           (λ j p. ap priceOr (answer-listed j p))
 
-      pub references-listed : boundedReferences (listedMean means) numbers lines ≡ boundedReferences (termMean table numbers) numbers lines
+      pub references-listed : boundedReferences (listedMean means) numbers lines ≡ boundedReferences
+          (termMean table numbers) numbers lines
       unfolding boundedReferences boundsCheck
       references-listed =
-          ap₂ (λ o l. referencesBy (verdictOf (record { number = 11; met = outOfBoundsAt o } ∷ [])) l) beyond-listed prices-listed
+          ap₂ (λ o l. referencesBy (verdictOf (record { number = 11; met = outOfBoundsAt o } ∷ [])) l) beyond-listed
+          prices-listed

@@ -1,5 +1,5 @@
--- Laws of the search for a missing month: what a step of the walk adds, that the same tests have the same first, and that
--- its check has its number and its place. Assumes nothing.
+-- Laws of the search for a missing month: what a step of the walk adds, that the same tests have the same first, and
+-- that its check has its number and its place. Assumes nothing.
 use mathlib.Core.Path.{_≡_, refl, ap}
 use mathlib.Core.Bool.{Bool, true, false, cond}
 use mathlib.Core.List.{List}
@@ -24,7 +24,8 @@ module _ (lacks : Term → Bool) (line : Line) (j k : ℕ) where
 
 module _ (lacks : Term → Bool) (lines : List ℕ) where
   -- a walk that no term stops
-  pub never-missing : ((j : ℕ) → j < lineCount lines → (k : ℕ) → k < lineOf lines j .«term_count» → lacks (termOf (lineOf lines j) k) ≡ false) →
+  pub never-missing : ((j : ℕ) → j < lineCount lines → (k : ℕ) → k < lineOf lines j .«term_count» → lacks
+      (termOf (lineOf lines j) k) ≡ false) →
       firstMissing lacks lines ≡ none
   unfolding firstMissing missingInLine
   never-missing h =
@@ -34,7 +35,8 @@ module _ (lacks : Term → Bool) (lines : List ℕ) where
 
   -- and what a walk that none stopped says of every term
   pub none-missing : firstMissing lacks lines ≡ none →
-      (j : ℕ) → j < lineCount lines → (k : ℕ) → k < lineOf lines j .«term_count» → lacks (termOf (lineOf lines j) k) ≡ false
+      (j : ℕ) → j < lineCount lines → (k : ℕ) → k < lineOf lines j .«term_count» → lacks
+      (termOf (lineOf lines j) k) ≡ false
   unfolding firstMissing missingInLine
   none-missing h j p k q = go (lacks (termOf (lineOf lines j) k)) refl
     where
@@ -49,12 +51,15 @@ module _ (lacks : Term → Bool) (lines : List ℕ) where
 
 -- the same tests have the same first
 pub missing-same : (one other : Term → Bool) (lines : List ℕ) →
-    ((j : ℕ) → j < lineCount lines → (k : ℕ) → k < lineOf lines j .«term_count» → one (termOf (lineOf lines j) k) ≡ other (termOf (lineOf lines j) k)) →
+    ((j : ℕ) → j < lineCount lines → (k : ℕ) → k < lineOf lines j .«term_count» → one
+    (termOf (lineOf lines j) k) ≡ other (termOf (lineOf lines j) k)) →
     firstMissing one lines ≡ firstMissing other lines
 unfolding firstMissing missingInLine missingTerm
 missing-same one other lines h =
-    first-same (λ j. missingInLine one (lineOf lines j) j) (λ j. missingInLine other (lineOf lines j) j) (lineCount lines)
-    (λ j p. first-same (missingTerm one (lineOf lines j) j) (missingTerm other (lineOf lines j) j) (lineOf lines j .«term_count»)
+    first-same (λ j. missingInLine one (lineOf lines j) j) (λ j. missingInLine other (lineOf lines j) j)
+    (lineCount lines)
+    (λ j p. first-same (missingTerm one (lineOf lines j) j) (missingTerm other (lineOf lines j) j)
+    (lineOf lines j .«term_count»)
     (λ k q. ap {A = Bool} {B = Option Place} (λ b. cond b (some (record { line = j; term = k })) none) (h j p k q)))
 
 module _ (lacks : Term → Bool) (lines : List ℕ) where

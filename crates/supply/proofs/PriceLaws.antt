@@ -56,7 +56,8 @@ module _ (mean : Term → ℕ) (line : Line) where
       bounds : (x : ℕ) → x ≡ i → between 1 1000000 x ≡ true → (1 ≤ i) × (i ≤ 1000000)
       bounds x e b = (omega (arith, between-low 1 1000000 x b), omega (arith, between-high 1 1000000 x b))
 
-      go : (b : Bool) → indexedAllowed mean line ≡ b → cond b (Indexed (lineIndexed mean line)) Beyond ≡ Indexed i → (1 ≤ i) × (i ≤ 1000000)
+      go : (b : Bool) → indexedAllowed mean line ≡ b → cond b (Indexed (lineIndexed mean line)) Beyond ≡ Indexed i →
+          (1 ≤ i) × (i ≤ 1000000)
       go true e q =
           bounds (lineIndexed mean line) (let r : lineIndexed mean line ≡ i = cc in r)
           (and-right (leb (indexFactor mean line) 100000000) (between 1 1000000 (lineIndexed mean line)) e)
@@ -64,11 +65,13 @@ module _ (mean : Term → ℕ) (line : Line) where
 
   -- its number and values
   pub indexed-promised : (x : IndexedPrice) → x ≡ indexedAnswer mean line →
-      Promised indexedAnswered x (indexedAnswer mean line) (acceptedWhere (indexedAllowed mean line) (lineIndexed mean line ∷ []) 11)
+      Promised indexedAnswered x (indexedAnswer mean line)
+      (acceptedWhere (indexedAllowed mean line) (lineIndexed mean line ∷ []) 11)
   unfolding indexedAnswer
   indexed-promised x e =
       promised indexedAnswered x _ _ e
-      (picked indexedAnswered (indexedAllowed mean line) (Indexed (lineIndexed mean line)) Beyond (lineIndexed mean line ∷ []) 11 refl refl)
+      (picked indexedAnswered (indexedAllowed mean line) (Indexed (lineIndexed mean line)) Beyond
+      (lineIndexed mean line ∷ []) 11 refl refl)
 
 -- the price taken keeps the bounds of an indexed price
 pub taken-most : (indexed : ℕ) → indexed ≤ 1000000 → priceTaken indexed ≤ 1000000
@@ -81,7 +84,8 @@ unfolding checkedPrice
 checked-bounds x p h = go (between leastPrice mostPrice x) refl h
   where
     bounds : x ≡ p .0 → between leastPrice mostPrice x ≡ true → (leastPrice ≤ p .0) × (p .0 ≤ mostPrice)
-    bounds e b = (omega (arith, between-low leastPrice mostPrice x b), omega (arith, between-high leastPrice mostPrice x b))
+    bounds e b =
+        (omega (arith, between-low leastPrice mostPrice x b), omega (arith, between-high leastPrice mostPrice x b))
 
     word : Within (record { 0 = x }) ≡ Within p → x ≡ p .0
     word q = let r : _≡_ {A = PesoPrice} (record { 0 = x }) p = cc in ap (λ y. y .0) r
@@ -92,7 +96,8 @@ checked-bounds x p h = go (between leastPrice mostPrice x) refl h
     go false e q = absurd (let z : _≡_ {A = ℕ} 0 1 = cc in omega arith)
 
 -- a reference that is given lies in the bounds of a peso price
-reference-bounds : (numbers : FixingNumbers) (line : Line) (taken : ℕ) (p : PesoPrice) → referenceAnswer numbers line taken ≡ Within p →
+reference-bounds : (numbers : FixingNumbers) (line : Line) (taken : ℕ) (p : PesoPrice) →
+    referenceAnswer numbers line taken ≡ Within p →
     (leastPrice ≤ p .0) × (p .0 ≤ mostPrice)
 unfolding referenceAnswer
 reference-bounds numbers line taken p h = go (between 1 1000000 (linePurchase line taken)) h
@@ -102,7 +107,8 @@ reference-bounds numbers line taken p h = go (between 1 1000000 (linePurchase li
     go true q = checked-bounds (lineReference numbers line taken) p q
     go false q = absurd (let z : _≡_ {A = ℕ} 0 1 = cc in omega arith)
 
-pub price-bounds : (mean : Term → ℕ) (numbers : FixingNumbers) (line : Line) (p : PesoPrice) → priceAnswer mean numbers line ≡ Within p →
+pub price-bounds : (mean : Term → ℕ) (numbers : FixingNumbers) (line : Line) (p : PesoPrice) →
+    priceAnswer mean numbers line ≡ Within p →
     (leastPrice ≤ p .0) × (p .0 ≤ mostPrice)
 unfolding priceAnswer
 price-bounds mean numbers line p h = go (indexedAnswer mean line) h
@@ -117,7 +123,8 @@ module _ (mean : Term → ℕ) (numbers : FixingNumbers) (lines : List ℕ) wher
       (leastPrice ≤ referencePrice mean numbers lines j .0) × (referencePrice mean numbers lines j .0 ≤ mostPrice)
   unfolding firstBeyond beyondIn referencePrice
   search-within h j q =
-      go (priceAnswer mean numbers (lineOf lines j)) refl (first-none (beyondIn mean numbers lines) (lineCount lines) h j q)
+      go (priceAnswer mean numbers (lineOf lines j)) refl
+      (first-none (beyondIn mean numbers lines) (lineCount lines) h j q)
     where
       go : (a : CheckedPrice) → priceAnswer mean numbers (lineOf lines j) ≡ a → beyondAt j a ≡ none →
           (leastPrice ≤ priceOr a .0) × (priceOr a .0 ≤ mostPrice)
@@ -144,7 +151,8 @@ module _ (mean : Term → ℕ) (numbers : FixingNumbers) (lines : List ℕ) wher
 
   -- what a line's answer says to the search, and as a reference
   module _ (j : ℕ) where
-    pub line-within : (p : PesoPrice) → priceAnswer mean numbers (lineOf lines j) ≡ Within p → beyondIn mean numbers lines j ≡ none
+    pub line-within : (p : PesoPrice) → priceAnswer mean numbers (lineOf lines j) ≡ Within p →
+        beyondIn mean numbers lines j ≡ none
     unfolding beyondIn
     line-within p h = rw h
 
@@ -152,17 +160,20 @@ module _ (mean : Term → ℕ) (numbers : FixingNumbers) (lines : List ℕ) wher
     unfolding beyondIn
     line-beyond h = rw h
 
-    pub line-price : (p : PesoPrice) → priceAnswer mean numbers (lineOf lines j) ≡ Within p → p ≡ referencePrice mean numbers lines j
+    pub line-price : (p : PesoPrice) → priceAnswer mean numbers (lineOf lines j) ≡ Within p →
+        p ≡ referencePrice mean numbers lines j
     unfolding referencePrice
     line-price p h = rw h
 
 -- the same means of a line's terms give the same price
-module _ (one other : Term → ℕ) (line : Line) (same : (k : ℕ) → k < line .«term_count» → one (termOf line k) ≡ other (termOf line k)) where
+module _ (one other : Term → ℕ) (line : Line)
+    (same : (k : ℕ) → k < line .«term_count» → one (termOf line k) ≡ other (termOf line k)) where
   factor-same : indexFactor one line ≡ indexFactor other line
   unfolding indexFactor weightedRatio termRatio
   factor-same =
       ap (λ s. cond (eqb (line .«term_count») 0) 1000000 (halfUp s 10000))
-      (sum-same mostTerms (λ k. weightedRatio one (termOf line k) (ltb k (line .«term_count»))) (λ k. weightedRatio other (termOf line k) (ltb k (line .«term_count»)))
+      (sum-same mostTerms (λ k. weightedRatio one (termOf line k) (ltb k (line .«term_count»)))
+      (λ k. weightedRatio other (termOf line k) (ltb k (line .«term_count»)))
       (λ k p. go k (ltb k (line .«term_count»)) refl))
     where
       go : (k : ℕ) (used : Bool) → ltb k (line .«term_count») ≡ used →
@@ -173,5 +184,7 @@ module _ (one other : Term → ℕ) (line : Line) (same : (k : ℕ) → k < line
   pub price-same : (numbers : FixingNumbers) → priceAnswer one numbers line ≡ priceAnswer other numbers line
   unfolding priceAnswer indexedAnswer indexedAllowed lineIndexed
   price-same numbers =
-      ap (λ f. fromIndexed numbers line (cond (leb f 100000000 && between 1 1000000 (indexedOf (line .«base_price») f)) (Indexed (indexedOf (line .«base_price») f)) Beyond))
+      ap (λ f. fromIndexed numbers line
+      (cond (leb f 100000000 && between 1 1000000 (indexedOf (line .«base_price») f))
+      (Indexed (indexedOf (line .«base_price») f)) Beyond))
       factor-same

@@ -42,13 +42,15 @@ module _ (line : Line) (h : termsAllowed line ≡ true) where
   unfolding termsAllowed termAllowed
   allowed-term k few p =
       term-facts (termOf line k)
-      (rw (lt-ltb k (line .«term_count») p) at (all-at mostTerms (λ i. termAllowed (termOf line i) (ltb i (line .«term_count»))) h k few))
+      (rw (lt-ltb k (line .«term_count») p) at
+      (all-at mostTerms (λ i. termAllowed (termOf line i) (ltb i (line .«term_count»))) h k few))
 
   -- no weight is above 10,000, used or not
   pub allowed-weight : (k : ℕ) → k < mostTerms → termOf line k .weight ≤ 10000
   unfolding termsAllowed termAllowed termUnused
   allowed-weight k few =
-      go (ltb k (line .«term_count»)) (all-at mostTerms (λ i. termAllowed (termOf line i) (ltb i (line .«term_count»))) h k few)
+      go (ltb k (line .«term_count»))
+      (all-at mostTerms (λ i. termAllowed (termOf line i) (ltb i (line .«term_count»))) h k few)
     where
       term : Term
       term = termOf line k
@@ -58,7 +60,9 @@ module _ (line : Line) (h : termsAllowed line ≡ true) where
       go false e =
           omega (
             arith,
-            eqb-true (term .weight) 0 (and-five (eqb (term .series) 0) (eqb (term .weight) 0) (eqb (term .lag) 0) (eqb (term .window) 0) (eqb (term .«base_value») 0) e .1),
+            eqb-true (term .weight) 0
+                (and-five (eqb (term .series) 0) (eqb (term .weight) 0) (eqb (term .lag) 0) (eqb (term .window) 0)
+                (eqb (term .«base_value») 0) e .1),
           )
 
 -- the words before the terms
@@ -71,8 +75,10 @@ head-facts : (n : ℕ) (line : Line) → headInRange n line ≡ true →
     × (leb (line .«term_count») mostTerms ≡ true)
 unfolding headInRange
 head-facts n line h =
-    and-six (ltb (line .distributor) n) (between 1 1000000 (line .«base_price»)) (between 5000 20000 (line .«offer_factor»))
-    (between 5000 20000 (line .«purchase_factor»)) (between 1 10000000 (line .energy)) (leb (line .«term_count») mostTerms) h
+    and-six (ltb (line .distributor) n) (between 1 1000000 (line .«base_price»))
+    (between 5000 20000 (line .«offer_factor»))
+    (between 5000 20000 (line .«purchase_factor»)) (between 1 10000000 (line .energy))
+    (leb (line .«term_count») mostTerms) h
 
 line-facts : (n : ℕ) (line : Line) → lineInRange n line ≡ true → LineFacts line
 unfolding lineInRange
@@ -94,12 +100,14 @@ line-facts n line h =
       term = λ k q. allowed-term line (and-left (termsAllowed line) (weightsAllowed line) rest) k (omega arith) q;
     }
 
-pub checked-lines : (n : ℕ) (lines : List ℕ) → lineCount lines ≤ mostLines → linesInRange n lines ≡ true → CheckedLines lines
+pub checked-lines : (n : ℕ) (lines : List ℕ) → lineCount lines ≤ mostLines → linesInRange n lines ≡ true →
+    CheckedLines lines
 unfolding linesInRange
 checked-lines n lines few h =
     record {
       few = few;
-      facts = λ j p. line-facts n (lineOf lines j) (all-at (lineCount lines) (λ i. lineInRange n (lineOf lines i)) h j p);
+      facts =
+          λ j p. line-facts n (lineOf lines j) (all-at (lineCount lines) (λ i. lineInRange n (lineOf lines i)) h j p);
     }
 
 -- every line's distributor is one of the n
@@ -110,14 +118,16 @@ lines-distributor n lines h j p =
     let line = lineOf lines j in
     ltb-true _ _
     (head-facts n line
-    (and-left (headInRange n line) (termsAllowed line && weightsAllowed line) (all-at (lineCount lines) (λ i. lineInRange n (lineOf lines i)) h j p))
+    (and-left (headInRange n line) (termsAllowed line && weightsAllowed line)
+    (all-at (lineCount lines) (λ i. lineInRange n (lineOf lines i)) h j p))
     .0)
 
 numbers-facts : (numbers : FixingNumbers) → numbersInRange numbers ≡ true → NumbersFacts numbers
 unfolding numbersInRange
 numbers-facts numbers h =
     let p =
-    and-three (between 1 200000 (numbers .dollar)) (between 5000 20000 (numbers .«reference_factor»)) (leb (numbers .«first_month») lastMonth) h in
+    and-three (between 1 200000 (numbers .dollar)) (between 5000 20000 (numbers .«reference_factor»))
+    (leb (numbers .«first_month») lastMonth) h in
     record {
       dollarLeast = between-low 1 200000 _ (p .0);
       dollarMost = between-high 1 200000 _ (p .0);

@@ -1,5 +1,5 @@
--- What the list of all means says of a term: how the code finds a term's mean. proofs/ListedLaws shows that in the list of
--- a table it is the mean of 01, and 0 where a month is missing and nowhere else. Assumes nothing.
+-- What the list of all means says of a term: how the code finds a term's mean. proofs/ListedLaws shows that in the list
+-- of a table it is the mean of 01, and 0 where a month is missing and nowhere else. Assumes nothing.
 use mathlib.Core.Bool.{Bool}
 use mathlib.Core.List.{List}
 use Prim.Native.Nat.{ℕ}

@@ -24,7 +24,8 @@ pub record Place : Type 0 where
   pub line : ℕ
   pub term : ℕ
 
--- term k of line j, the first such term of line j, the first of all lines; `lacks` says of a term whether a month is missing
+-- term k of line j, the first such term of line j, the first of all lines; `lacks` says of a term whether a month is
+-- missing
 unfoldable pub missingTerm : (Term → Bool) → Line → ℕ → ℕ → Option Place
 missingTerm lacks line j k = cond (lacks (termOf line k)) (some (record { line = j; term = k })) none
 

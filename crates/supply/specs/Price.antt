@@ -1,5 +1,5 @@
--- "Steps for a line" of document 01, each half up, and the bounds of cause 11. The steps up to the indexed price take the
--- mean of each term as given; all later ones take the price that the line takes. Assumes nothing.
+-- "Steps for a line" of document 01, each half up, and the bounds of cause 11. The steps up to the indexed price take
+-- the mean of each term as given; all later ones take the price that the line takes. Assumes nothing.
 use mathlib.Core.Path.{_≡_}
 use mathlib.Core.Bool.{Bool, cond, _&&_}
 use mathlib.Core.List.{List, [], _∷_}
@@ -95,7 +95,8 @@ linePurchase line taken = purchaseOf taken (line .«purchase_factor») (line .«
 
 unfoldable pub lineReference : FixingNumbers → Line → ℕ → ℕ
 lineReference numbers line taken =
-    referenceOf (pesoOf (linePurchase line taken) (numbers .dollar)) (numbers .«reference_factor») (line .«purchase_factor»)
+    referenceOf (pesoOf (linePurchase line taken) (numbers .dollar)) (numbers .«reference_factor»)
+    (line .«purchase_factor»)
 
 -- "purchase must lie in 1 to 1,000,000, reference in 1,000 to 2,000,000"
 unfoldable pub referenceAnswer : FixingNumbers → Line → ℕ → CheckedPrice
@@ -165,6 +166,7 @@ linesReferences table numbers lines =
     referencesBy (verdictOf (tableChecks table numbers lines)) (referenceList (termMean table numbers) numbers lines)
 
 -- what pricing promises: it is the definition's, and its verdict has the number and values of the checks
-pub record ReferencesPromise (table : List (List ℕ)) (numbers : FixingNumbers) (lines : List ℕ) (given : References) : Type 0 where
+pub record ReferencesPromise (table : List (List ℕ)) (numbers : FixingNumbers) (lines : List ℕ) (given : References) :
+    Type 0 where
   pub worked : given ≡ linesReferences table numbers lines
   pub judged : Judged (given .verdict) (tableChecks table numbers lines)

@@ -1,5 +1,5 @@
-// The means that terms take from the list of all, and the search for a missing month (cause 10): line by line, in each its
-// terms, left at the first.
+// The means that terms take from the list of all, and the search for a missing month (cause 10): line by line, in each
+// its terms, left at the first.
 ghost use mathlib.Core.Path.{_≡_};
 ghost use mathlib.Core.List.{[], _∷_};
 ghost use lib.Dec.{eqb};
@@ -41,8 +41,8 @@ fn any_missing(means: &[u64; MEANS]) -> bool
     false
 }
 
-// The walk over lines and terms, left at the first missing month with its place. Where no mean at all is missing it need
-// not be made.
+// The walk over lines and terms, left at the first missing month with its place. Where no mean at all is missing it
+// need not be made.
 pub(crate) fn search_months(means: &[u64; MEANS], lines: &[u64]) -> Verdict
     requires { ⌜ CheckedLines (now lines) ⌝ }
     ensures { λ r. ⌜ r ≡ verdictOf (monthCheck (listedLacks (now (means .entry))) (now (lines .entry)) ∷ []) ⌝ }

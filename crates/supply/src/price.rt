@@ -8,7 +8,8 @@ ghost use Rattle.numbers.specs.Checks.{Promised, acceptedWhere, verdictOf};
 ghost use Rattle.numbers.specs.Units.{noPrice};
 ghost use Rattle.series.specs.Required.{ValuesWithin, TableInRange};
 ghost use Rattle.supply.specs.Line.{mostLines};
-ghost use Rattle.supply.specs.Price.{pesoOf, priceTaken, termRatio, weightedRatio, indexFactor, indexedAnswer, referenceAnswer};
+ghost use Rattle.supply.specs.Price.{pesoOf, priceTaken, termRatio, weightedRatio, indexFactor, indexedAnswer};
+ghost use Rattle.supply.specs.Price.{referenceAnswer};
 ghost use Rattle.supply.specs.Price.{priceAnswer, lineIndexed, indexedAllowed, indexedAnswered};
 ghost use Rattle.supply.specs.Price.{refusedReferences, boundedReferences, ReferencesPromise};
 ghost use Rattle.supply.specs.Listed.{listedMean};
@@ -187,8 +188,8 @@ fn reference_prices(means: &[u64; MEANS], numbers: FixingNumbers, lines: &[u64])
     }
 }
 
-// The references of all lines from the index table: the first missing month (cause 10), then the first line out of bounds
-// (cause 11), then the prices.
+// The references of all lines from the index table: the first missing month (cause 10), then the first line out of
+// bounds (cause 11), then the prices.
 pub fn price_lines(
     table: [[u64; MONTHS]; SERIES],
     numbers: FixingNumbers,

@@ -1,7 +1,8 @@
 // The ranges of document 01 for D, F, the first month and every word of every line (cause 6).
 ghost use mathlib.Core.Path.{_≡_};
 ghost use mathlib.Core.Bool.{true};
-ghost use Rattle.supply.specs.Range.{headInRange, termInRange, termUnused, termAllowed, termsAllowed, weightTotal};
+ghost use Rattle.supply.specs.Range.{headInRange, termInRange, termUnused, termAllowed, termsAllowed};
+ghost use Rattle.supply.specs.Range.{weightTotal};
 ghost use Rattle.supply.specs.Range.{lineInRange, linesInRange, numbersInRange, inputInRange};
 use crate::line::Line;
 use crate::line::MOST_TERMS;

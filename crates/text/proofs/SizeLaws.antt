@@ -8,10 +8,12 @@ use lib.Dec.{ltb}
 use lib.IntN.{ℤ, natAbs}
 use lib.ListN.{length, length-append}
 use Rattle.numbers.specs.Signed.{isNegative}
-use Rattle.text.specs.Text.{digit, minus, decimalWithin, decimal, signedDecimal, word, signedWord, named, textBelow}
+use Rattle.text.specs.Text.{digit, minus, decimalWithin, decimal, signedDecimal, word, signedWord, named}
+use Rattle.text.specs.Text.{textBelow}
 
 -- either of two texts
-pub choice-size : (test : Bool) (a b : List ℕ) (most : ℕ) → length a ≤ most → length b ≤ most → length (cond test a b) ≤ most
+pub choice-size : (test : Bool) (a b : List ℕ) (most : ℕ) → length a ≤ most → length b ≤ most →
+    length (cond test a b) ≤ most
 choice-size true a b most p q = p
 choice-size false a b most p q = q
 
@@ -29,7 +31,8 @@ decimal-size x = digits-size 20 x
 signed-decimal-size : (x : ℤ) → length (signedDecimal x) ≤ 21
 unfolding signedDecimal
 signed-decimal-size x =
-    choice-size (isNegative x) (minus ∷ decimal (natAbs x)) (decimal (natAbs x)) 21 (omega (arith, decimal-size (natAbs x)))
+    choice-size (isNegative x) (minus ∷ decimal (natAbs x)) (decimal (natAbs x)) 21
+    (omega (arith, decimal-size (natAbs x)))
     (omega (arith, decimal-size (natAbs x)))
 
 pub word-size : (x : ℕ) → length (word x) ≤ 21

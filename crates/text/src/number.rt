@@ -19,7 +19,8 @@ pub fn write_decimal(buffer: &mut [u8], count: usize, x: u64) -> usize
 
 // Writes x in decimal, with a minus sign where it is below zero. The least i64 has no size in an i64.
 fn write_signed_decimal(buffer: &mut [u8], count: usize, x: i64) -> usize
-    ensures { λ r. ⌜ bufferOf (now (buffer .exit)) r ≡ written (signedDecimal x) (bufferOf (now (buffer .entry)) count) ⌝ }
+    ensures { λ r. ⌜ bufferOf (now (buffer .exit)) r ≡ written (signedDecimal x) (bufferOf (now (buffer .entry)) count)
+        ⌝ }
 {
     if !within_size(x, 9223372036854775807) {
         return write_text(buffer, count, b"-9223372036854775808");
@@ -49,7 +50,8 @@ pub fn write_signed_word(buffer: &mut [u8], count: usize, x: i64) -> usize
 
 // Writes a name, a blank and a number.
 pub fn write_named(buffer: &mut [u8], count: usize, name: &[u8], x: u64) -> usize
-    ensures { λ r. ⌜ bufferOf (now (buffer .exit)) r ≡ written (named (now (name .entry)) x) (bufferOf (now (buffer .entry)) count) ⌝ }
+    ensures { λ r. ⌜ bufferOf (now (buffer .exit)) r ≡ written (named (now (name .entry)) x)
+        (bufferOf (now (buffer .entry)) count) ⌝ }
 {
     let end = write_text(buffer, count, name);
     write_word(buffer, end, x)

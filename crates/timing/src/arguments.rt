@@ -1,8 +1,8 @@
 // What the program is asked for by its arguments.
 use check::same;
 use journal::command::MOST_WORD;
+use journal::cursor::Cursor;
 use journal::cursor::next_number;
-use journal::cursor::read_to;
 
 // Which load, which calls, and how often.
 pub(crate) struct Task {
@@ -23,19 +23,21 @@ fn task_of(load: &[u8], call: &[u8], count: &[u8]) -> Arguments {
     let both = same(call, b"both");
     let fixings = both | same(call, b"fix");
     let settlements = both | same(call, b"settle");
-    let number = next_number(count, read_to(0), MOST_WORD);
+    let start = Cursor {
+        at: 0,
+        broken: false,
+    };
+    let number = next_number(count, start, MOST_WORD);
     let next = number.next;
     if !(mixed | same(load, b"even")) | !(fixings | settlements) | next.broken {
         return Arguments::Unusable;
     }
-    Arguments::Asked(
-        Task {
-            mixed,
-            fixings,
-            settlements,
-            count: number.value,
-        },
-    )
+    Arguments::Asked(Task {
+        mixed,
+        fixings,
+        settlements,
+        count: number.value,
+    })
 }
 
 // The arguments after the program's name. One that its buffer cannot hold is read as empty, and so is unusable.

@@ -27,7 +27,12 @@ fn accepted(number: u64) -> u64
 }
 
 // Makes one fixing that is not counted, for the ledger of the settlements, then the calls.
-pub(crate) fn make_calls(load: Load, task: Task, prices: &mut [i64], transfers: &mut [i64]) -> Results {
+pub(crate) fn make_calls(
+    load: Load,
+    task: Task,
+    prices: &mut [i64],
+    transfers: &mut [i64],
+) -> Results {
     let opened = open(MOST_DISTRIBUTORS).ledger;
     let numbers = load.numbers;
     let series = load.series;
@@ -44,12 +49,14 @@ pub(crate) fn make_calls(load: Load, task: Task, prices: &mut [i64], transfers: 
     while run < task.count {
         if task.fixings {
             fixing = fix(opened, numbers, &series, &lines, &sectors, prices);
-            fixings += accepted(fixing_number(fixing.answer));
+            let answer = fixing.answer;
+            fixings += accepted(fixing_number(answer));
         }
         if task.settlements {
             let settlement = settle(fixed, numbers.month, &readings, &losses, transfers);
+            let verdict = settlement.verdict;
             settled = settlement.ledger;
-            settlements += accepted(verdict_number(settlement.verdict));
+            settlements += accepted(verdict_number(verdict));
         }
         run += 1;
     }

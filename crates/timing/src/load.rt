@@ -111,11 +111,19 @@ fn line_word(mixed: bool, line: u64, word: u64) -> u64
     requires { ⌜ line < 256 ⌝ ∗ ⌜ word < 26 ⌝ }
 {
     if word < 6 {
-        return if mixed { mixed_head(line, word) } else { even_head(line, word) };
+        return if mixed {
+            mixed_head(line, word)
+        } else {
+            even_head(line, word)
+        };
     }
     let term = (word - 6) / 5;
     let part = (word - 6) % 5;
-    if mixed { mixed_term(line, term, part) } else { even_term(term, part) }
+    if mixed {
+        mixed_term(line, term, part)
+    } else {
+        even_term(term, part)
+    }
 }
 
 fn mixed_series(place: u64) -> u64
@@ -128,14 +136,22 @@ fn mixed_series(place: u64) -> u64
 fn mixed_sector(place: u64) -> u64
     requires { ⌜ place < 6656 ⌝ }
 {
-    if place % 4 == 3 { 0 } else { 5000 + 613 * place % 10001 }
+    if place % 4 == 3 {
+        0
+    } else {
+        5000 + 613 * place % 10001
+    }
 }
 
 // An absent sector has no readings.
 fn mixed_reading(place: u64) -> u64
     requires { ⌜ place < 6656 ⌝ }
 {
-    if mixed_sector(place / 4) == 0 { 0 } else { 104729 * place % 1000001 }
+    if mixed_sector(place / 4) == 0 {
+        0
+    } else {
+        104729 * place % 1000001
+    }
 }
 
 fn even_word(list: List, place: u64) -> u64
@@ -169,7 +185,11 @@ fn fill(mixed: bool, list: List, words: &mut [u64])
     let mut at: usize = 0;
     while at < words.len() {
         let place = at as u64;
-        words[at] = if mixed { mixed_word(list, place) } else { even_word(list, place) };
+        words[at] = if mixed {
+            mixed_word(list, place)
+        } else {
+            even_word(list, place)
+        };
         at += 1;
     }
 }

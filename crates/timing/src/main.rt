@@ -17,7 +17,10 @@ use report::print_results;
 fn main() {
     let arguments = read_arguments();
     let Arguments::Asked(task) = arguments else {
-        io::write_all(STDERR_FILENO, b"usage: timing even|mixed fix|settle|both COUNT\n");
+        io::write_all(
+            STDERR_FILENO,
+            b"usage: timing even|mixed fix|settle|both COUNT\n",
+        );
         return;
     };
     let load = build_load(task.mixed);

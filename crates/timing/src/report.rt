@@ -58,7 +58,12 @@ fn print_price(number: u64, average: i64, price: i64, charge: i64) {
 fn print_prices(prices: [i64; PRICES]) {
     let mut i: usize = 0;
     while i < MOST_DISTRIBUTORS {
-        print_price(i as u64, prices[3 * i], prices[3 * i + 1], prices[3 * i + 2]);
+        print_price(
+            i as u64,
+            prices[3 * i],
+            prices[3 * i + 1],
+            prices[3 * i + 2],
+        );
         i += 1;
     }
 }
@@ -81,14 +86,20 @@ fn print_transfers(transfers: [i64; MOST_DISTRIBUTORS], balances: [Pesos; MOST_D
     }
 }
 
-pub(crate) fn print_results(results: Results, prices: [i64; PRICES], transfers: [i64; MOST_DISTRIBUTORS]) {
+pub(crate) fn print_results(
+    results: Results,
+    prices: [i64; PRICES],
+    transfers: [i64; MOST_DISTRIBUTORS],
+) {
     print_counts(results.fixings, results.settlements);
     if results.fixings != 0 {
-        print_answer(results.answer);
+        let answer = results.answer;
+        print_answer(answer);
         print_prices(prices);
     }
     if results.settlements != 0 {
         let ledger = results.settled;
-        print_transfers(transfers, ledger.balances);
+        let balances = ledger.balances;
+        print_transfers(transfers, balances);
     }
 }

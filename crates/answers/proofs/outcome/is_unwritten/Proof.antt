@@ -37,7 +37,8 @@ loop-again c =
     let l = c .before .before .before in
     let list = l .before .args .list .now in (
       omega arith,
-      all-more (l .loop .k) (λ j. isUnwritten (getD list j (pos 0))) (l .loop .inv .1) (sym (unwritten-bits _ (sfits-of (c .before .if12 .given))) ∙ eq-eqb _ _ (c .if1 .left)),
+      all-more (l .loop .k) (λ j. isUnwritten (getD list j (pos 0))) (l .loop .inv .1)
+          (sym (unwritten-bits _ (sfits-of (c .before .if12 .given))) ∙ eq-eqb _ _ (c .if1 .left)),
     )
 
 returns-2 : tie.Need-returns-2 Inv-loop μ-loop

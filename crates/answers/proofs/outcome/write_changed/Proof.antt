@@ -17,7 +17,8 @@ returns-2 c =
     let b = c .before .before in
     let w = b .before .before .before .before in
     let e = w .before .before .before in
-    rw (← e .before .is-unwritten .ensures, e .if1 .left) (after-byte _ _ _ _ _ (w .write-text .ensures) (b .write-byte .ensures))
+    rw (← e .before .is-unwritten .ensures, e .if1 .left)
+    (after-byte _ _ _ _ _ (w .write-text .ensures) (b .write-byte .ensures))
 
 pub write-changed-spec : {M : Type 1} → statement M
 write-changed-spec =

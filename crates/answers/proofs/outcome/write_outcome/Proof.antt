@@ -11,14 +11,16 @@ unfolding outcome
 returns c =
     let w = c .before .before in
     let t = w .before .before .before in
-    rw (eq-eqb _ 0 (t .if1 .taken)) (written-after _ _ _ _ _ (t .before .before .before .write-text .ensures) (w .write-text2 .ensures))
+    rw (eq-eqb _ 0 (t .if1 .taken))
+    (written-after _ _ _ _ _ (t .before .before .before .write-text .ensures) (w .write-text2 .ensures))
 
 returns-2 : tie.Need-returns-2
 unfolding outcome
 returns-2 c =
     let w = c .before .before in
     let t = w .before .before .before in
-    rw (ne-eqb _ 0 (t .if1 .left)) (written-after _ _ _ _ _ (t .before .before .before .write-text .ensures) (w .write-named .ensures))
+    rw (ne-eqb _ 0 (t .if1 .left))
+    (written-after _ _ _ _ _ (t .before .before .before .write-text .ensures) (w .write-named .ensures))
 
 pub write-outcome-spec : {M : Type 1} → statement M
 write-outcome-spec =

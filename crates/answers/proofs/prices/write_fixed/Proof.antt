@@ -13,7 +13,8 @@ returns c =
     let y = x .before .before .before .before .before in
     let z = y .before .before .before .before .before in
     written-after _ _ _ _ _
-    (written-after _ _ _ _ _ (written-after _ _ _ _ _ (z .write-named .ensures) (y .write-named2 .ensures)) (x .write-named3 .ensures))
+    (written-after _ _ _ _ _ (written-after _ _ _ _ _ (z .write-named .ensures) (y .write-named2 .ensures))
+    (x .write-named3 .ensures))
     (w .write-named4 .ensures)
 
 pub write-fixed-spec : {M : Type 1} → statement M

@@ -16,7 +16,9 @@ returns c =
     let y = x .before .before .before .before in
     let n = y .before .before .before in
     rw (← n .fixing-number .ensures, eq-eqb _ 0 (t .if1 .taken))
-    (written-after _ _ _ _ _ (after-byte _ _ _ _ _ (written-after _ _ _ _ _ (y .write-outcome .ensures) (x .write-detail .ensures)) (w .write-byte .ensures)) (v .write-price-rows .ensures))
+    (written-after _ _ _ _ _ (after-byte _ _ _ _ _
+    (written-after _ _ _ _ _ (y .write-outcome .ensures) (x .write-detail .ensures)) (w .write-byte .ensures))
+    (v .write-price-rows .ensures))
 
 returns-2 : tie.Need-returns-2
 unfolding fixingText
@@ -28,13 +30,16 @@ returns-2 c =
     let y = x .before .before .before .before in
     let n = y .before .before .before in
     rw (← n .fixing-number .ensures, ne-eqb _ 0 (t .if1 .left))
-    (written-after _ _ _ _ _ (after-byte _ _ _ _ _ (written-after _ _ _ _ _ (y .write-outcome .ensures) (x .write-detail .ensures)) (w .write-byte .ensures)) (v .write-changed .ensures))
+    (written-after _ _ _ _ _ (after-byte _ _ _ _ _
+    (written-after _ _ _ _ _ (y .write-outcome .ensures) (x .write-detail .ensures)) (w .write-byte .ensures))
+    (v .write-changed .ensures))
 
 pub write-fixing-spec : {M : Type 1} → statement M
 write-fixing-spec =
     tie.close
     (tie.spec
-    (λ c κs. search needs) (λ c. search needs) (λ c κs. search needs) (λ c κs. search needs) (λ c κs. search needs) (λ c κs. search needs)
+    (λ c κs. search needs) (λ c. search needs) (λ c κs. search needs) (λ c κs. search needs) (λ c κs. search needs)
+    (λ c κs. search needs)
     (λ c. search needs)
     returns
     (λ c κs. search needs) (λ c. search needs)

@@ -13,7 +13,8 @@ unfolding placeText
 returns c =
     let w = c .before .before in
     let x = w .before .before .before .before .before in
-    rw (x .before .before .before .before .refusal .given .1) (written-after _ _ _ _ _ (x .write-named .ensures) (w .write-named2 .ensures))
+    rw (x .before .before .before .before .refusal .given .1)
+    (written-after _ _ _ _ _ (x .write-named .ensures) (w .write-named2 .ensures))
 
 returns-2 : tie.Need-returns-2
 unfolding placeText
@@ -29,7 +30,8 @@ pub write-place-spec : {M : Type 1} → statement M
 write-place-spec =
     tie.close
     (tie.spec
-    (λ c. search needs) (λ c. search needs) (λ c κs. search needs) (λ c. search needs) (λ c κs. search needs) (λ c. search needs) (λ c. search needs)
+    (λ c. search needs) (λ c. search needs) (λ c κs. search needs) (λ c. search needs) (λ c κs. search needs)
+    (λ c. search needs) (λ c. search needs)
     (λ c κs. search needs) (λ c. search needs)
     returns
     (λ c. search needs)

@@ -18,7 +18,8 @@ returns c =
     after-byte _ _ _ _ _
     (written-after _ _ _ _ _
     (written-after _ _ _ _ _
-    (written-after _ _ _ _ _ (z .write-decimal .ensures) (rw (toZ-ofZ (sfits-of (y .before .write-signed-word-arg2 .given))) at (y .write-signed-word .ensures)))
+    (written-after _ _ _ _ _ (z .write-decimal .ensures)
+    (rw (toZ-ofZ (sfits-of (y .before .write-signed-word-arg2 .given))) at (y .write-signed-word .ensures)))
     (rw (toZ-ofZ (sfits-of (x .before .write-signed-word-arg4 .given))) at (x .write-signed-word2 .ensures)))
     (rw (toZ-ofZ (sfits-of (w .before .write-signed-word-arg6 .given))) at (w .write-signed-word3 .ensures)))
     (v .write-byte .ensures)
@@ -27,7 +28,9 @@ pub write-price-row-spec : {M : Type 1} → statement M
 write-price-row-spec =
     tie.close
     (tie.spec
-    (λ c κs. search needs) (λ c. search needs) (λ c. search needs) (λ c. search needs) (λ c κs. search needs) (λ c. search needs) (λ c. search needs)
-    (λ c. search needs) (λ c. search needs) (λ c κs. search needs) (λ c. search needs) (λ c. search needs) (λ c. search needs) (λ c. search needs)
+    (λ c κs. search needs) (λ c. search needs) (λ c. search needs) (λ c. search needs) (λ c κs. search needs)
+    (λ c. search needs) (λ c. search needs)
+    (λ c. search needs) (λ c. search needs) (λ c κs. search needs) (λ c. search needs) (λ c. search needs)
+    (λ c. search needs) (λ c. search needs)
     (λ c κs. search needs) (λ c κs. search needs) (λ c. search needs)
     returns)

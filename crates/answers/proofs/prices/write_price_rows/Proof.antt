@@ -13,13 +13,19 @@ use Rattle.answers.proofs.prices.write_price_rows.Tie as tie
 
 abbrev Inv-loop : tie.InvT-loop
 Inv-loop buffer₀ count prices end₀ i₀ buffer end i =
-    (i ≤ length prices / 3) × (length buffer ≡ length buffer₀) × (bufferOf buffer end ≡ written (textBelow i (priceRow prices)) (bufferOf buffer₀ count))
+    (i ≤ length prices / 3) × (length buffer ≡ length buffer₀) ×
+    (bufferOf buffer end ≡ written (textBelow i (priceRow prices)) (bufferOf buffer₀ count))
 
 abbrev μ-loop : tie.MeasureT-loop
 μ-loop buffer₀ count prices end₀ i₀ buffer end i = length prices / 3 - i
 
 loop-holds : tie.Need-loop-holds Inv-loop μ-loop
-loop-holds c = (omega arith, refl, texts-none (priceRow (c .before .args .prices .now)) (bufferOf (c .before .args .buffer .now) (c .before .args .count)))
+loop-holds c = (
+  omega arith,
+  refl,
+  texts-none (priceRow (c .before .args .prices .now))
+      (bufferOf (c .before .args .buffer .now) (c .before .args .count)),
+)
 
 loop-again : tie.Need-loop-again Inv-loop μ-loop
 loop-again c =
@@ -28,7 +34,8 @@ loop-again c =
     let s = l .before .before in (
       omega arith,
       search needs,
-      texts-more (priceRow (s .args .prices .now)) (bufferOf (s .args .buffer .now) (s .args .count)) (l .loop .i) _ _ (l .loop .inv .2) (b .write-price-row .ensures),
+      texts-more (priceRow (s .args .prices .now)) (bufferOf (s .args .buffer .now) (s .args .count)) (l .loop .i) _ _
+          (l .loop .inv .2) (b .write-price-row .ensures),
     )
 
 same-length : tie.Need-same-length Inv-loop μ-loop

@@ -17,7 +17,8 @@ returns c =
     after-byte _ _ _ _ _
     (written-after _ _ _ _ _
     (written-after _ _ _ _ _
-    (written-after _ _ _ _ _ (written-after _ _ _ _ _ (z .write-named .ensures) (y .write-word .ensures)) (x .write-word2 .ensures))
+    (written-after _ _ _ _ _ (written-after _ _ _ _ _ (z .write-named .ensures) (y .write-word .ensures))
+    (x .write-word2 .ensures))
     (rw (w .before .truth-word .ensures) at (w .write-word3 .ensures)))
     (v .write-word4 .ensures))
     (u .write-byte .ensures)
@@ -26,6 +27,7 @@ pub write-numbers-spec : {M : Type 1} → statement M
 write-numbers-spec =
     tie.close
     (tie.spec
-    (λ c. search needs) (λ c κs. search needs) (λ c κs. search needs) (λ c κs. search needs) (λ c κs. search needs) (λ c κs. search needs)
+    (λ c. search needs) (λ c κs. search needs) (λ c κs. search needs) (λ c κs. search needs) (λ c κs. search needs)
+    (λ c κs. search needs)
     (λ c κs. search needs) (λ c κs. search needs) (λ c. search needs)
     returns)

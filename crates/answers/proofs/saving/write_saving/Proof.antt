@@ -37,19 +37,33 @@ array-share-prefix-present : tie.Need-array-share-prefix-present
 array-share-prefix-present c = present (c .before .before .before .before .before .before .before .before .before) .long
 
 slice-aggregate-write-list-2 : tie.Need-slice-aggregate-write-list-2
-slice-aggregate-write-list-2 c = sym (length-take-le _ _ (present (c .before .before .before .before .before .before .before .before .before .before) .long))
+slice-aggregate-write-list-2 c =
+    sym (length-take-le _ _ (present
+    (c .before .before .before .before .before .before .before .before .before .before) .long))
 
 array-share-prefix-charges : tie.Need-array-share-prefix-charges
-array-share-prefix-charges c = charges (c .before .before .before .before .before .before .before .before .before .before .before .before .before .before .before) .long
+array-share-prefix-charges c =
+    charges
+    (c .before .before .before .before .before .before .before .before .before .before .before .before .before .before
+    .before) .long
 
 slice-aggregate-write-signed-list-2 : tie.Need-slice-aggregate-write-signed-list-2
-slice-aggregate-write-signed-list-2 c = sym (length-take-le _ _ (charges (c .before .before .before .before .before .before .before .before .before .before .before .before .before .before .before .before) .long))
+slice-aggregate-write-signed-list-2 c =
+    sym (length-take-le _ _ (charges
+    (c .before .before .before .before .before .before .before .before .before .before .before .before .before .before
+    .before .before) .long))
 
 array-share-prefix-balances : tie.Need-array-share-prefix-balances
-array-share-prefix-balances c = balances (c .before .before .before .before .before .before .before .before .before .before .before .before .before .before .before .before .before .before .before .before .before) .long
+array-share-prefix-balances c =
+    balances
+    (c .before .before .before .before .before .before .before .before .before .before .before .before .before .before
+    .before .before .before .before .before .before .before) .long
 
 slice-aggregate-write-signed-list-4 : tie.Need-slice-aggregate-write-signed-list-4
-slice-aggregate-write-signed-list-4 c = sym (length-take-le _ _ (balances (c .before .before .before .before .before .before .before .before .before .before .before .before .before .before .before .before .before .before .before .before .before .before) .long))
+slice-aggregate-write-signed-list-4 c =
+    sym (length-take-le _ _ (balances
+    (c .before .before .before .before .before .before .before .before .before .before .before .before .before .before
+    .before .before .before .before .before .before .before .before) .long))
 
 returns : tie.Need-returns
 unfolding savingText

@@ -15,7 +15,8 @@ use Rattle.answers.proofs.saving.write_signed_list.Tie as tie
 
 abbrev Inv-loop : tie.InvT-loop
 Inv-loop buffer₀ count name list end₀ k₀ buffer end k =
-    (k ≤ length list) × (length buffer ≡ length buffer₀) × (bufferOf buffer end ≡ written (textBelow k (λ j. signedWord (getD list j (pos 0)))) (bufferOf buffer₀ end₀))
+    (k ≤ length list) × (length buffer ≡ length buffer₀) ×
+    (bufferOf buffer end ≡ written (textBelow k (λ j. signedWord (getD list j (pos 0)))) (bufferOf buffer₀ end₀))
 
 abbrev μ-loop : tie.MeasureT-loop
 μ-loop buffer₀ count name list end₀ k₀ buffer end k = length list - k
@@ -23,8 +24,12 @@ abbrev μ-loop : tie.MeasureT-loop
 loop-holds : tie.Need-loop-holds Inv-loop μ-loop
 loop-holds c =
     let w = c .before .before in
-    let s = w .before .before .before .before in
-    (omega arith, refl, texts-none (λ j. signedWord (getD (s .args .list .now) j (pos 0))) (bufferOf (w .write-named .last .0) (w .write-named .result)))
+    let s = w .before .before .before .before in (
+      omega arith,
+      refl,
+      texts-none (λ j. signedWord (getD (s .args .list .now) j (pos 0)))
+          (bufferOf (w .write-named .last .0) (w .write-named .result)),
+    )
 
 shared-slice-copy-out-write-signed-word :
     tie.Need-shared-slice-copy-out-write-signed-word Inv-loop μ-loop
@@ -38,7 +43,9 @@ loop-again c =
     let s = n .before .before .before .before in (
       omega arith,
       search needs,
-      texts-more (λ j. signedWord (getD (s .args .list .now) j (pos 0))) (bufferOf (n .write-named .last .0) (n .write-named .result)) (l .loop .k) _ _ (l .loop .inv .2) (rw (toZ-ofZ (sfits-of (b .before .write-signed-word-arg2 .given))) at (b .write-signed-word .ensures)),
+      texts-more (λ j. signedWord (getD (s .args .list .now) j (pos 0)))
+          (bufferOf (n .write-named .last .0) (n .write-named .result)) (l .loop .k) _ _ (l .loop .inv .2)
+          (rw (toZ-ofZ (sfits-of (b .before .write-signed-word-arg2 .given))) at (b .write-signed-word .ensures)),
     )
 
 returns : tie.Need-returns Inv-loop μ-loop
@@ -49,7 +56,8 @@ returns c =
     let n = l .before .before .before in
     let s = n .before .before .before .before in
     let e : l .loop .k ≡ length (s .args .list .now) = omega arith in
-    after-byte _ _ _ _ _ (written-after _ _ _ _ _ (n .write-named .ensures) (rw e at (l .loop .inv .2))) (w .write-byte .ensures)
+    after-byte _ _ _ _ _ (written-after _ _ _ _ _ (n .write-named .ensures) (rw e at (l .loop .inv .2)))
+    (w .write-byte .ensures)
 
 pub write-signed-list-spec : {M : Type 1} → statement M
 write-signed-list-spec =

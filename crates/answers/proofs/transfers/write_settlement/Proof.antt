@@ -13,7 +13,8 @@ returns c =
     let v = c .before .before in
     let t = v .before .before in
     let y = t .before .before .before .before in
-    rw (← y .before .verdict-number .ensures, ap isPassed (t .enum-told .given .1)) (written-after _ _ _ _ _ (y .write-outcome-line .ensures) (v .write-transfer-rows .ensures))
+    rw (← y .before .verdict-number .ensures, ap isPassed (t .enum-told .given .1))
+    (written-after _ _ _ _ _ (y .write-outcome-line .ensures) (v .write-transfer-rows .ensures))
 
 returns-2 : tie.Need-returns-2
 unfolding settlementText
@@ -21,13 +22,15 @@ returns-2 c =
     let v = c .before .before in
     let t = v .before .before in
     let y = t .before .before .before .before in
-    rw (← y .before .verdict-number .ensures, ap isPassed (t .enum-told2 .given .1)) (written-after _ _ _ _ _ (y .write-outcome-line .ensures) (v .write-changed .ensures))
+    rw (← y .before .verdict-number .ensures, ap isPassed (t .enum-told2 .given .1))
+    (written-after _ _ _ _ _ (y .write-outcome-line .ensures) (v .write-changed .ensures))
 
 pub write-settlement-spec : {M : Type 1} → statement M
 write-settlement-spec =
     tie.close
     (tie.spec
-    (λ c. search needs) (λ c κs. search needs) (λ c κs. search needs) (λ c. search needs) (λ c κs. search needs) (λ c. search needs) (λ c κs. search needs)
+    (λ c. search needs) (λ c κs. search needs) (λ c κs. search needs) (λ c. search needs) (λ c κs. search needs)
+    (λ c. search needs) (λ c κs. search needs)
     (λ c. search needs)
     returns
     (λ c. search needs)

@@ -16,7 +16,8 @@ returns c =
     let y = x .before .before .before .before .before in
     after-byte _ _ _ _ _
     (written-after _ _ _ _ _
-    (written-after _ _ _ _ _ (y .write-decimal .ensures) (rw (toZ-ofZ (sfits-of (x .before .write-signed-word-arg2 .given))) at (x .write-signed-word .ensures)))
+    (written-after _ _ _ _ _ (y .write-decimal .ensures)
+    (rw (toZ-ofZ (sfits-of (x .before .write-signed-word-arg2 .given))) at (x .write-signed-word .ensures)))
     (rw (toZ-ofZ (sfits-of (w .before .struct-told .given .0 .1))) at (w .write-signed-word2 .ensures)))
     (v .write-byte .ensures)
 
@@ -24,6 +25,7 @@ pub write-transfer-row-spec : {M : Type 1} → statement M
 write-transfer-row-spec =
     tie.close
     (tie.spec
-    (λ c. search needs) (λ c. search needs) (λ c κs. search needs) (λ c. search needs) (λ c. search needs) (λ c κs. search needs) (λ c κs. search needs)
+    (λ c. search needs) (λ c. search needs) (λ c κs. search needs) (λ c. search needs) (λ c. search needs)
+    (λ c κs. search needs) (λ c κs. search needs)
     (λ c κs. search needs) (λ c. search needs)
     returns)

@@ -14,13 +14,21 @@ use Rattle.answers.proofs.transfers.write_transfer_rows.Tie as tie
 
 abbrev Inv-loop : tie.InvT-loop
 Inv-loop buffer₀ count transfers balances end₀ i₀ buffer end i =
-    (i ≤ length transfers) × (i ≤ 40) × (length buffer ≡ length buffer₀) × (bufferOf buffer end ≡ written (textBelow i (transferRow transfers balances)) (bufferOf buffer₀ count))
+    (i ≤ length transfers) × (i ≤ 40) × (length buffer ≡ length buffer₀) ×
+    (bufferOf buffer end ≡ written (textBelow i (transferRow transfers balances)) (bufferOf buffer₀ count))
 
 abbrev μ-loop : tie.MeasureT-loop
 μ-loop buffer₀ count transfers balances end₀ i₀ buffer end i = length transfers - i
 
 loop-holds : tie.Need-loop-holds Inv-loop μ-loop
-loop-holds c = (omega arith, omega arith, refl, texts-none (transferRow (c .before .args .transfers .now) (c .before .args .balances)) (bufferOf (c .before .args .buffer .now) (c .before .args .count)))
+loop-holds c = (
+  omega arith,
+  omega arith,
+  refl,
+  texts-none
+      (transferRow (c .before .args .transfers .now) (c .before .args .balances))
+      (bufferOf (c .before .args .buffer .now) (c .before .args .count)),
+)
 
 write-transfer-row-requires : tie.Need-write-transfer-row-requires Inv-loop μ-loop
 write-transfer-row-requires c κs = (omega arith, ltb-true _ _ (c .before .if1 .taken))
@@ -33,7 +41,9 @@ loop-again c =
       omega arith,
       omega (arith, ltb-true (l .loop .i) 40 (b .before .before .if1 .taken)),
       search needs,
-      texts-more (transferRow (s .args .transfers .now) (s .args .balances)) (bufferOf (s .args .buffer .now) (s .args .count)) (l .loop .i) _ _ (l .loop .inv .3) (b .write-transfer-row .ensures),
+      texts-more (transferRow (s .args .transfers .now) (s .args .balances))
+          (bufferOf (s .args .buffer .now) (s .args .count)) (l .loop .i) _ _ (l .loop .inv .3)
+          (b .write-transfer-row .ensures),
     )
 
 same-length : tie.Need-same-length Inv-loop μ-loop
@@ -44,7 +54,8 @@ unfolding transferRows
 returns c =
     let l = c .before .before in
     let s = l .before .before in
-    let e : l .loop .i ≡ min (length (s .args .transfers .now)) 40 = omega (arith, ltb-false (l .loop .i) 40 (c .if1 .left)) in
+    let e : l .loop .i ≡ min (length (s .args .transfers .now))
+    40 = omega (arith, ltb-false (l .loop .i) 40 (c .if1 .left)) in
     rw e at (l .loop .inv .3)
 
 same-length-2 : tie.Need-same-length-2 Inv-loop μ-loop

@@ -11,7 +11,8 @@ use Rattle.commands.proofs.call.lend.Statement.{statement}
 use Rattle.commands.proofs.call.lend.Tie as tie
 
 abbrev Inv-loop : tie.InvT-loop
-Inv-loop list₀ k₀ list k = (k ≤ length list) × (length list ≡ length list₀) × (take k list ≡ listBelow k (λ i. negsuc 0))
+Inv-loop list₀ k₀ list k =
+    (k ≤ length list) × (length list ≡ length list₀) × (take k list ≡ listBelow k (λ i. negsuc 0))
 
 abbrev μ-loop : tie.MeasureT-loop
 μ-loop list₀ k₀ list k = length list - k

@@ -16,7 +16,12 @@ returns c =
       booked = f .settle .ensures .booked ∙ rw (l .lend .ensures);
       answered =
           w .write-settlement .ensures
-          ∙ rw (f .settle .ensures .judged .answered, f .settle .ensures .listed, f .settle .ensures .booked, l .lend .ensures);
+          ∙ rw (
+            f .settle .ensures .judged .answered,
+            f .settle .ensures .listed,
+            f .settle .ensures .booked,
+            l .lend .ensures,
+          );
     }
 
 pub make-settlement-spec : {M : Type 1} → statement M

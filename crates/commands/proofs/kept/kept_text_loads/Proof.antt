@@ -23,17 +23,22 @@ use Rattle.commands.proofs.kept.kept_text_loads.Statement.{statement}
 use Rattle.commands.proofs.kept.kept_text_loads.Tie as tie
 
 -- an element of an array of signed words fits
-signed-fits : (xs : List ℤ) (us : List Val) → shadow (each ℤ (SInt w64 .own) xs us) → (i : ℕ) → i < length xs → SFits w64 (getD xs i (pos 0))
+signed-fits : (xs : List ℤ) (us : List Val) → shadow (each ℤ (SInt w64 .own) xs us) → (i : ℕ) → i < length xs →
+    SFits w64 (getD xs i (pos 0))
 signed-fits [] us s i p = absurd (omega arith)
 signed-fits (x ∷ xs) [] s i p = absurd s
 signed-fits (x ∷ xs) (u ∷ us) s zero p = record { sfits = s .0 .1 }
 signed-fits (x ∷ xs) (u ∷ us) s (suc i) p = signed-fits xs us (s .1) i (omega arith)
 
-signed-field-fits : (xs : List ℤ) (us : List Val) → shadow (each ℤ (SInt w64 .own) (map (λ (v : ℤ). v) xs) us) → (i : ℕ) → i < length xs → SFits w64 (getD xs i (pos 0))
-signed-field-fits xs us s i p = signed-fits xs us (subst (λ (ys : List ℤ). shadow (each ℤ (SInt w64 .own) ys us)) (map-id xs) s) i p
+signed-field-fits : (xs : List ℤ) (us : List Val) → shadow (each ℤ (SInt w64 .own) (map (λ (v : ℤ). v) xs) us) →
+    (i : ℕ) → i < length xs → SFits w64 (getD xs i (pos 0))
+signed-field-fits xs us s i p =
+    signed-fits xs us (subst (λ (ys : List ℤ). shadow (each ℤ (SInt w64 .own) ys us)) (map-id xs) s) i p
 
 -- the same of an array of amounts, of which each tells that it fits
-pesos-fits : (D : Type 0) (f : D → List Val → Fml) (g : Pesos → D) (xs : List Pesos) (us : List Val) → shadow (each D f (map g xs) us) → ((x : Pesos) (vs : List Val) → shadow (f (g x) vs) → SFits w64 (x .0)) → (i : ℕ) → i < length xs → SFits w64 (getD xs i noMoney .0)
+pesos-fits : (D : Type 0) (f : D → List Val → Fml) (g : Pesos → D) (xs : List Pesos) (us : List Val) →
+    shadow (each D f (map g xs) us) → ((x : Pesos) (vs : List Val) → shadow (f (g x) vs) → SFits w64 (x .0)) → (i : ℕ) →
+    i < length xs → SFits w64 (getD xs i noMoney .0)
 pesos-fits D f g [] us s tells i p = absurd (omega arith)
 pesos-fits D f g (x ∷ xs) [] s tells i p = absurd s
 pesos-fits D f g (x ∷ xs) (u ∷ us) s tells zero p = tells x (u ∷ []) (s .0)
@@ -52,7 +57,8 @@ module _ (c : tie.Start) where
   balance-fits : (i : ℕ) → i < 40 → SFits w64 (moneyAt (c .args .ledger .balances) i)
   balance-fits i p =
       pesos-fits (amount.the-field .row .Denot) (amount.the-field .row .own) _ (c .args .ledger .balances) _
-      (c .good .0 .1 .1 .1 .1 .1 .1 .1 .1 .0 .1 .1) (λ x vs s. record { sfits = s .1 .1 .0 .1 }) i (omega (arith, all-balances))
+      (c .good .0 .1 .1 .1 .1 .1 .1 .1 .1 .0 .1 .1) (λ x vs s. record { sfits = s .1 .1 .0 .1 }) i
+      (omega (arith, all-balances))
 
 returns : tie.Need-returns
 returns c =

@@ -12,8 +12,12 @@ use Rattle.commands.proofs.run.print_error.Statement.{statement}
 use Rattle.commands.proofs.run.print_error.Tie as tie
 
 -- the line stands in the buffer
-stands : (d : tie.After-write-error) → Stands [] (errorText (d .before .before .before .args .next .at)) (bufferOf (d .write-error .last .0) (d .write-error .result))
-stands d = let e = d .before .before in rw (d .write-error .ensures) (text-stands _ (e .buffer .result) 0 (omega (arith, error-size (e .before .args .next .at), e .buffer .ensures)))
+stands : (d : tie.After-write-error) →
+    Stands [] (errorText (d .before .before .before .args .next .at))
+    (bufferOf (d .write-error .last .0) (d .write-error .result))
+stands d =
+    let e = d .before .before in rw (d .write-error .ensures)
+    (text-stands _ (e .buffer .result) 0 (omega (arith, error-size (e .before .args .next .at), e .buffer .ensures)))
 
 array-share-prefix-buffer : tie.Need-array-share-prefix-buffer
 array-share-prefix-buffer c = stands (c .before) .within

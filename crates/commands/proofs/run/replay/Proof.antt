@@ -10,7 +10,8 @@ use Rattle.commands.proofs.run.replay.Tie as tie
 told : (j : tie.Joined1) → j .if1 .step ≡ replayed (j .before .before .args .text .now)
 told j =
     ⊎-elim
-    (λ w. w .4 ∙ long (j .before .before .args .text .now) (w .0 .taken) _ _ (w .1 .ensures .opened ∙ opened-none) (w .3 .ensures))
+    (λ w. w .4 ∙ long (j .before .before .args .text .now) (w .0 .taken) _ _ (w .1 .ensures .opened ∙ opened-none)
+    (w .3 .ensures))
     (λ w. w .2 ∙ w .1 .ensures)
     (j .if1 .came)
 

@@ -19,11 +19,19 @@ module _ (d : tie.After-next-command) where
   s = d .before .before .before
 
   within : d .next-command .result .next .at ≤ length (s .args .text .now)
-  within = read-within (s .args .text .now) (s .args .at) (s .args .ledger) (d .next-command .result) (d .next-command .ensures) (s .pre .0)
+  within =
+      read-within (s .args .text .now) (s .args .at) (s .args .ledger) (d .next-command .result)
+      (d .next-command .ensures) (s .pre .0)
 
-  told : (command : Command) → d .next-command .result .command ≡ command → (made : CommandOutcome) (left : List ℕ) → CommandMade made (stepOf command (s .args .text .now) (d .next-command .result .next) (s .args .ledger)) (answerOf command (s .args .text .now) (d .next-command .result .next) (s .args .ledger)) (s .args .buffer .now) left → CommandAnswered made (stepAfter (s .args .text .now) (s .args .at) (s .args .ledger)) (answerAfter (s .args .text .now) (s .args .at) (s .args .ledger)) left
+  told : (command : Command) → d .next-command .result .command ≡ command → (made : CommandOutcome) (left : List ℕ) →
+      CommandMade made (stepOf command (s .args .text .now) (d .next-command .result .next) (s .args .ledger))
+      (answerOf command (s .args .text .now) (d .next-command .result .next) (s .args .ledger))
+      (s .args .buffer .now) left →
+      CommandAnswered made (stepAfter (s .args .text .now) (s .args .at) (s .args .ledger))
+      (answerAfter (s .args .text .now) (s .args .at) (s .args .ledger)) left
   told command h made left m =
-      answer-read (s .args .text .now) (s .args .at) (s .args .ledger) (d .next-command .result) (d .next-command .ensures) command h made (s .args .buffer .now) left (s .pre .1) m
+      answer-read (s .args .text .now) (s .args .at) (s .args .ledger) (d .next-command .result)
+      (d .next-command .ensures) command h made (s .args .buffer .now) left (s .pre .1) m
 
 enum-told : tie.Need-enum-told
 enum-told c = search needs
@@ -41,29 +49,43 @@ run-load-requires : tie.Need-run-load-requires
 run-load-requires c κs = within (c .before .before .before .before)
 
 returns : tie.Need-returns
-returns c = told (c .before .before .before .before .before .before .before) Open (c .before .before .before .before .enum-told .given .1) _ _ (c .before .before .run-open .ensures)
+returns c =
+    told (c .before .before .before .before .before .before .before) Open
+    (c .before .before .before .before .enum-told .given .1) _ _ (c .before .before .run-open .ensures)
 
 returns-2 : tie.Need-returns-2
-returns-2 c = told (c .before .before .before .before .before .before .before) Fix (c .before .before .before .before .enum-told2 .given .1) _ _ (c .before .before .run-fix .ensures)
+returns-2 c =
+    told (c .before .before .before .before .before .before .before) Fix
+    (c .before .before .before .before .enum-told2 .given .1) _ _ (c .before .before .run-fix .ensures)
 
 returns-3 : tie.Need-returns-3
-returns-3 c = told (c .before .before .before .before .before .before .before) Settle (c .before .before .before .before .enum-told3 .given .1) _ _ (c .before .before .run-settle .ensures)
+returns-3 c =
+    told (c .before .before .before .before .before .before .before) Settle
+    (c .before .before .before .before .enum-told3 .given .1) _ _ (c .before .before .run-settle .ensures)
 
 returns-4 : tie.Need-returns-4
 returns-4 c =
     let d = c .before .before .before .before .before .before .before in
     let t = c .before .before .before .before in
     told d Save (t .enum-told4 .given .1) _ _
-    (command-made Save _ _ _ _ refl (save-whole _ _ (s d .args .ledger) _ (d .next-command .ensures) (t .enum-told4 .given .1)) _ refl _ _ _ (c .before .before .write-saving .ensures))
+    (command-made Save _ _ _ _ refl
+    (save-whole _ _ (s d .args .ledger) _ (d .next-command .ensures) (t .enum-told4 .given .1)) _ refl _ _ _
+    (c .before .before .write-saving .ensures))
 
 returns-5 : tie.Need-returns-5
-returns-5 c = told (c .before .before .before .before .before .before .before) Load (c .before .before .before .before .enum-told5 .given .1) _ _ (c .before .before .run-load .ensures)
+returns-5 c =
+    told (c .before .before .before .before .before .before .before) Load
+    (c .before .before .before .before .enum-told5 .given .1) _ _ (c .before .before .run-load .ensures)
 
 returns-6 : tie.Need-returns-6
-returns-6 c = told (c .before .before .before .before) Unknown (c .before .enum-told6 .given .1) _ _ (nothing-made Unknown _ _ _ _ refl refl refl _ (c .unanswered .ensures) _)
+returns-6 c =
+    told (c .before .before .before .before) Unknown (c .before .enum-told6 .given .1) _ _
+    (nothing-made Unknown _ _ _ _ refl refl refl _ (c .unanswered .ensures) _)
 
 returns-7 : tie.Need-returns-7
-returns-7 c = told (c .before .before .before .before) End (c .before .enum-told7 .given .1) _ _ (nothing-made End _ _ _ _ refl refl refl _ (c .unanswered2 .ensures) _)
+returns-7 c =
+    told (c .before .before .before .before) End (c .before .enum-told7 .given .1) _ _
+    (nothing-made End _ _ _ _ refl refl refl _ (c .unanswered2 .ensures) _)
 
 pub run-command-spec : {M : Type 1} → statement M
 run-command-spec =

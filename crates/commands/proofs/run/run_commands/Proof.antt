@@ -7,14 +7,16 @@ use lib.ListN.{length}
 use lib.Seq.{length-take-le}
 use Rattle.ledger.specs.Ledger.{emptyLedger}
 use Rattle.commands.specs.Replay.{longestAnswer, stepAfter, replayFrom}
-use Rattle.commands.proofs.ReplayLaws.{stepBy, next-within, next-later, replay-none, replay-broken, replay-on, opened-none, short}
+use Rattle.commands.proofs.ReplayLaws.{stepBy, next-within, next-later, replay-none, replay-broken, replay-on}
+use Rattle.commands.proofs.ReplayLaws.{opened-none, short}
 use borrow.Author.Needs.{needs}
 use Rattle.commands.proofs.run.run_commands.Statement.{statement}
 use Rattle.commands.proofs.run.run_commands.Tie as tie
 
 abbrev Inv-loop : tie.InvT-loop
 Inv-loop text buffer₀ ledger₀ at₀ buffer ledger at =
-    (at ≤ length text) × (length buffer ≡ longestAnswer) × (replayFrom (length text - at) text at ledger ≡ replayFrom (length text) text 0 (emptyLedger 0))
+    (at ≤ length text) × (length buffer ≡ longestAnswer) ×
+    (replayFrom (length text - at) text at ledger ≡ replayFrom (length text) text 0 (emptyLedger 0))
 
 abbrev μ-loop : tie.MeasureT-loop
 μ-loop text buffer₀ ledger₀ at₀ buffer ledger at = length text - at
@@ -57,7 +59,8 @@ slice-aggregate-write-all c = sym (length-take-le _ _ (c .before .before .run-co
 returns : tie.Need-returns Inv-loop μ-loop
 returns c =
     let d = c .before .before .before .before .before .before in
-    short _ (l d .before .before .before .before .before .pre) (sym (replay-broken _ _ (inside d) _ _ (stepped d) (c .if1 .taken)) ∙ l d .loop .inv .2)
+    short _ (l d .before .before .before .before .before .pre)
+    (sym (replay-broken _ _ (inside d) _ _ (stepped d) (c .if1 .taken)) ∙ l d .loop .inv .2)
 
 loop-less : tie.Need-loop-less Inv-loop μ-loop
 loop-less c =

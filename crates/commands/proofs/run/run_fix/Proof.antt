@@ -33,16 +33,25 @@ module _ (d : tie.After-read-fix) where
   unfolding fixAfter
   linesRead = words-first _ _ _ _ _ _ _ _ (ap (λ r. r .lines) (d .read-fix .ensures .0)) (d .read-fix .ensures .1 .1 .0)
 
-  sectorsRead : Front (read .sectors) (sectorWords (s .args .text .now) (s .args .cursor)) (d .read-fix .last .1 .1 .1 .1 .0)
+  sectorsRead : Front (read .sectors) (sectorWords (s .args .text .now) (s .args .cursor))
+      (d .read-fix .last .1 .1 .1 .1 .0)
   unfolding fixAfter
-  sectorsRead = words-first _ _ _ _ _ _ _ _ (ap (λ r. r .sectors) (d .read-fix .ensures .0)) (d .read-fix .ensures .1 .1 .1)
+  sectorsRead =
+      words-first _ _ _ _ _ _ _ _ (ap (λ r. r .sectors) (d .read-fix .ensures .0)) (d .read-fix .ensures .1 .1 .1)
 
   pricesLong : read .prices ≤ length (d .before .before .before .before .signed-words .result)
-  pricesLong = omega (arith, prices-most _ _ read (d .read-fix .ensures .0), d .before .before .before .before .signed-words .ensures)
+  pricesLong =
+      omega (
+        arith,
+        prices-most _ _ read (d .read-fix .ensures .0),
+        d .before .before .before .before .signed-words .ensures,
+      )
 
 returns : tie.Need-returns
 returns c =
-    command-broken Fix _ _ _ _ (ap (λ r. r .next) (c .before .before .before .before .before .before .read-fix .ensures .0)) (c .before .if1 .taken) _ (c .unanswered .ensures) _
+    command-broken Fix _ _ _ _
+    (ap (λ r. r .next) (c .before .before .before .before .before .before .read-fix .ensures .0))
+    (c .before .if1 .taken) _ (c .unanswered .ensures) _
 
 array-share-prefix-series : tie.Need-array-share-prefix-series
 array-share-prefix-series c = seriesRead (c .before .before .before .before .before) .long
@@ -72,8 +81,10 @@ returns-2 : tie.Need-returns-2
 returns-2 c =
     let m = c .before .before .before .before in
     let d = m .before .before .before .before .before .before .before .before .before .before .before in
-    let made = fixing-made _ _ (read d) (d .read-fix .ensures .0) _ _ _ _ (seriesRead d .first) (linesRead d .first) (sectorsRead d .first) (length-take-le _ _ (pricesLong d)) in
-    call-made Fix _ _ _ _ (ap (λ r. r .next) (d .read-fix .ensures .0)) (m .before .before .before .before .before .before .if1 .left) _ _ _ _ _ (m .make-fixing .ensures)
+    let made = fixing-made _ _ (read d) (d .read-fix .ensures .0) _ _ _ _ (seriesRead d .first) (linesRead d .first)
+    (sectorsRead d .first) (length-take-le _ _ (pricesLong d)) in
+    call-made Fix _ _ _ _ (ap (λ r. r .next) (d .read-fix .ensures .0))
+    (m .before .before .before .before .before .before .if1 .left) _ _ _ _ _ (m .make-fixing .ensures)
     (ap (fixingLedger (s d .args .ledger)) made)
     (ap (fixingPrinted (s d .args .ledger)) made)
 
@@ -81,7 +92,8 @@ pub run-fix-spec : {M : Type 1} → statement M
 run-fix-spec =
     tie.close
     (tie.spec
-    (λ c κs. search needs) (λ c κs. search needs) (λ c κs. search needs) (λ c κs. search needs) (λ c. search needs) (λ c. search needs)
+    (λ c κs. search needs) (λ c κs. search needs) (λ c κs. search needs) (λ c κs. search needs) (λ c. search needs)
+    (λ c. search needs)
     (λ c. search needs) (λ c κs. search needs) (λ c κs. search needs)
     returns
     array-share-prefix-series

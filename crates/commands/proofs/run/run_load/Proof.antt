@@ -25,24 +25,36 @@ module _ (d : tie.After-read-load) where
 
   presences : Front (read .present) (presentWords (s .args .text .now) (s .args .cursor)) (d .read-load .last .1 .1 .0)
   unfolding loadAfter
-  presences = words-first _ _ _ _ _ _ _ _ (ap (λ r. r .present) (d .read-load .ensures .0)) (d .read-load .ensures .1 .0)
+  presences =
+      words-first _ _ _ _ _ _ _ _ (ap (λ r. r .present) (d .read-load .ensures .0)) (d .read-load .ensures .1 .0)
 
   charged : Front (read .charges) (chargeWords (s .args .text .now) (s .args .cursor)) (d .read-load .last .1 .1 .1 .0)
   unfolding loadAfter
-  charged = signed-words-first _ _ _ _ _ _ _ (ap (λ r. r .charges) (d .read-load .ensures .0)) (d .read-load .ensures .1 .1 .0)
+  charged =
+      signed-words-first _ _ _ _ _ _ _ (ap (λ r. r .charges) (d .read-load .ensures .0))
+      (d .read-load .ensures .1 .1 .0)
 
-  balanced : Front (read .balances) (balanceWords (s .args .text .now) (s .args .cursor)) (d .read-load .last .1 .1 .1 .1 .0)
+  balanced : Front (read .balances) (balanceWords (s .args .text .now) (s .args .cursor))
+      (d .read-load .last .1 .1 .1 .1 .0)
   unfolding loadAfter
-  balanced = signed-words-first _ _ _ _ _ _ _ (ap (λ r. r .balances) (d .read-load .ensures .0)) (d .read-load .ensures .1 .1 .1)
+  balanced =
+      signed-words-first _ _ _ _ _ _ _ (ap (λ r. r .balances) (d .read-load .ensures .0))
+      (d .read-load .ensures .1 .1 .1)
 
   few : (read .present ≤ sectorPlaces) × (read .charges ≤ sectorPlaces) × (read .balances ≤ mostDistributors)
   few =
-      rw (d .read-load .ensures .0)
-      (load-present-most (s .args .text .now) (s .args .cursor), load-charges-most (s .args .text .now) (s .args .cursor), load-balances-most (s .args .text .now) (s .args .cursor))
+      rw (d .read-load .ensures .0) (
+        load-present-most (s .args .text .now) (s .args .cursor),
+        load-charges-most (s .args .text .now)
+            (s .args .cursor),
+        load-balances-most (s .args .text .now) (s .args .cursor),
+      )
 
 returns : tie.Need-returns
 returns c =
-    command-broken Load _ _ _ _ (ap (λ r. r .next) (c .before .before .before .before .before .before .read-load .ensures .0)) (c .before .if1 .taken) _ (c .unanswered .ensures) _
+    command-broken Load _ _ _ _
+    (ap (λ r. r .next) (c .before .before .before .before .before .before .read-load .ensures .0))
+    (c .before .if1 .taken) _ (c .unanswered .ensures) _
 
 array-share-prefix-present : tie.Need-array-share-prefix-present
 array-share-prefix-present c = presences (c .before .before .before .before .before) .long
@@ -67,8 +79,10 @@ load-requires c κs =
     let d = c .before .before .before .before .before .before .before .before in (
       rw (length-take-le (d .read-load .result .present) (d .read-load .last .1 .1 .0) (presences d .long)) (few d .0),
       (
-        rw (length-take-le (d .read-load .result .charges) (d .read-load .last .1 .1 .1 .0) (charged d .long)) (few d .1),
-        rw (length-take-le (d .read-load .result .balances) (d .read-load .last .1 .1 .1 .1 .0) (balanced d .long)) (few d .2),
+        rw (length-take-le (d .read-load .result .charges) (d .read-load .last .1 .1 .1 .0) (charged d .long))
+            (few d .1),
+        rw (length-take-le (d .read-load .result .balances) (d .read-load .last .1 .1 .1 .1 .0) (balanced d .long))
+            (few d .2),
       ),
     )
 
@@ -77,9 +91,11 @@ returns-2 c =
     let w = c .before .before in
     let l = w .before .before in
     let d = l .before .before .before .before .before .before .before .before .before in
-    command-made Load _ _ _ _ (ap (λ r. r .next) (d .read-load .ensures .0)) (l .before .before .before .before .if1 .left) _
+    command-made Load _ _ _ _ (ap (λ r. r .next) (d .read-load .ensures .0))
+    (l .before .before .before .before .if1 .left) _
     (l .load .ensures
-    ∙ ledger-kept _ _ (d .read-load .result) (d .read-load .ensures .0) _ _ _ (presences d .first) (charged d .first) (balanced d .first))
+    ∙ ledger-kept _ _ (d .read-load .result) (d .read-load .ensures .0) _ _ _ (presences d .first) (charged d .first)
+    (balanced d .first))
     _ _ _ (w .write-loading .ensures)
 
 pub run-load-spec : {M : Type 1} → statement M

@@ -25,20 +25,31 @@ module _ (d : tie.After-read-settle) where
   abbrev read : SettleRead
   read = d .read-settle .result
 
-  readingsRead : Front (read .readings) (readingWords (s .args .text .now) (s .args .cursor)) (d .read-settle .last .1 .1 .0)
+  readingsRead : Front (read .readings) (readingWords (s .args .text .now) (s .args .cursor))
+      (d .read-settle .last .1 .1 .0)
   unfolding settleAfter
-  readingsRead = words-first _ _ _ _ _ _ _ _ (ap (λ r. r .readings) (d .read-settle .ensures .0)) (d .read-settle .ensures .1 .0)
+  readingsRead =
+      words-first _ _ _ _ _ _ _ _ (ap (λ r. r .readings) (d .read-settle .ensures .0)) (d .read-settle .ensures .1 .0)
 
-  lossesRead : Front (read .losses) (lossWords (s .args .text .now) (s .args .cursor)) (d .read-settle .last .1 .1 .1 .0)
+  lossesRead : Front (read .losses) (lossWords (s .args .text .now) (s .args .cursor))
+      (d .read-settle .last .1 .1 .1 .0)
   unfolding settleAfter
-  lossesRead = words-first _ _ _ _ _ _ _ _ (ap (λ r. r .losses) (d .read-settle .ensures .0)) (d .read-settle .ensures .1 .1)
+  lossesRead =
+      words-first _ _ _ _ _ _ _ _ (ap (λ r. r .losses) (d .read-settle .ensures .0)) (d .read-settle .ensures .1 .1)
 
   transfersLong : read .transfers ≤ length (d .before .before .before .signed-words .result)
-  transfersLong = omega (arith, transfers-most _ _ read (d .read-settle .ensures .0), d .before .before .before .signed-words .ensures)
+  transfersLong =
+      omega (
+        arith,
+        transfers-most _ _ read (d .read-settle .ensures .0),
+        d .before .before .before .signed-words .ensures,
+      )
 
 returns : tie.Need-returns
 returns c =
-    command-broken Settle _ _ _ _ (ap (λ r. r .next) (c .before .before .before .before .before .read-settle .ensures .0)) (c .before .if1 .taken) _ (c .unanswered .ensures) _
+    command-broken Settle _ _ _ _
+    (ap (λ r. r .next) (c .before .before .before .before .before .read-settle .ensures .0)) (c .before .if1 .taken) _
+    (c .unanswered .ensures) _
 
 array-share-prefix-readings : tie.Need-array-share-prefix-readings
 array-share-prefix-readings c = readingsRead (c .before .before .before .before) .long
@@ -62,8 +73,10 @@ returns-2 : tie.Need-returns-2
 returns-2 c =
     let m = c .before .before .before .before in
     let d = m .before .before .before .before .before .before .before .before .before in
-    let made = settlement-made _ _ (read d) (d .read-settle .ensures .0) _ _ _ (readingsRead d .first) (lossesRead d .first) (length-take-le _ _ (transfersLong d)) in
-    call-made Settle _ _ _ _ (ap (λ r. r .next) (d .read-settle .ensures .0)) (m .before .before .before .before .before .if1 .left) _ _ _ _ _ (m .make-settlement .ensures)
+    let made = settlement-made _ _ (read d) (d .read-settle .ensures .0) _ _ _ (readingsRead d .first)
+    (lossesRead d .first) (length-take-le _ _ (transfersLong d)) in
+    call-made Settle _ _ _ _ (ap (λ r. r .next) (d .read-settle .ensures .0))
+    (m .before .before .before .before .before .if1 .left) _ _ _ _ _ (m .make-settlement .ensures)
     (ap (settlementLedger (s d .args .ledger)) made)
     (ap (settlementPrinted (s d .args .ledger)) made)
 
@@ -71,7 +84,8 @@ pub run-settle-spec : {M : Type 1} → statement M
 run-settle-spec =
     tie.close
     (tie.spec
-    (λ c κs. search needs) (λ c κs. search needs) (λ c κs. search needs) (λ c. search needs) (λ c. search needs) (λ c κs. search needs)
+    (λ c κs. search needs) (λ c κs. search needs) (λ c κs. search needs) (λ c. search needs) (λ c. search needs)
+    (λ c κs. search needs)
     (λ c κs. search needs)
     returns
     array-share-prefix-readings

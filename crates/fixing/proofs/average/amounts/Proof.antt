@@ -8,7 +8,8 @@ use Rattle.numbers.specs.Units.{noPrice}
 use Rattle.numbers.specs.Sizes.{mostDistributors}
 use Rattle.supply.specs.Line.{lineCount, lineOf}
 use Rattle.fixing.specs.Average.{linesAmount}
-use Rattle.fixing.proofs.AverageLaws.{AmountsHeld, asTotal, amountOf, held-none, held-more, held-done, parts-most, product-most}
+use Rattle.fixing.proofs.AverageLaws.{AmountsHeld, asTotal, amountOf, held-none, held-more, held-done}
+use Rattle.fixing.proofs.AverageLaws.{parts-most, product-most}
 use Rattle.fixing.proofs.average.amounts.Statement.{statement}
 use Rattle.fixing.proofs.average.amounts.Tie as tie
 
@@ -36,7 +37,8 @@ module _ (c : tie.After-line-at Inv-loop μ-loop) where
   placed = rw own (s .pre .own .distributor (l .loop .j) below)
 
   -- its amount
-  product : getD (s .args .t1) (l .loop .j) noPrice .0 * c .line-at .result .energy ≡ amountOf (s .args .t1) (s .args .lines .now) (l .loop .j)
+  product : getD (s .args .t1) (l .loop .j) noPrice .0 * c .line-at .result .energy ≡ amountOf (s .args .t1)
+      (s .args .lines .now) (l .loop .j)
   product = ap (λ line. getD (s .args .t1) (l .loop .j) noPrice .0 * line .energy) (c .line-at .ensures)
 
   product-small : amountOf (s .args .t1) (s .args .lines .now) (l .loop .j) ≤ 20000000000000
@@ -44,8 +46,12 @@ module _ (c : tie.After-line-at Inv-loop μ-loop) where
 
 loop-holds : tie.Need-loop-holds Inv-loop μ-loop
 loop-holds c =
-    let s = c .before .before .before in
-    (omega arith, rw (c .no-amounts .ensures) (held-none asTotal (λ e. e .0) (λ x. refl) (λ e. refl) (s .args .lines .now) (amountOf (s .args .t1) (s .args .lines .now))))
+    let s = c .before .before .before in (
+      omega arith,
+      rw (c .no-amounts .ensures)
+          (held-none asTotal (λ e. e .0) (λ x. refl) (λ e. refl) (s .args .lines .now)
+          (amountOf (s .args .t1) (s .args .lines .now))),
+    )
 
 line-at-requires : tie.Need-line-at-requires Inv-loop μ-loop
 line-at-requires c κs = omega (arith, c .before .before .before .line-count .ensures)
@@ -73,7 +79,8 @@ loop-again c =
     let w = c .before in
     let lines = s w .args .lines .now in (
       omega (arith, below w),
-      held-more asTotal (λ e. e .0) (λ x. refl) (λ e. refl) lines (amountOf (s w .args .t1) lines) (l w .loop .j) (l w .loop .amounts) (w .line-at .result .distributor) _ (placed w) (own w)
+      held-more asTotal (λ e. e .0) (λ x. refl) (λ e. refl) lines (amountOf (s w .args .t1) lines) (l w .loop .j)
+          (l w .loop .amounts) (w .line-at .result .distributor) _ (placed w) (own w)
           (omega (arith, product w)) (l w .loop .inv .1),
     )
 
@@ -83,7 +90,8 @@ returns c =
     let l = c .before in
     let a = l .before .before .before .before .args in
     let e : l .loop .j ≡ lineCount (a .lines .now) = omega (arith, l .before .before .line-count .ensures) in
-    held-done asTotal (λ x. x .0) (λ x. refl) (λ x. refl) (a .lines .now) (amountOf (a .t1) (a .lines .now)) (l .loop .amounts) (rw e at (l .loop .inv .1))
+    held-done asTotal (λ x. x .0) (λ x. refl) (λ x. refl) (a .lines .now) (amountOf (a .t1) (a .lines .now))
+    (l .loop .amounts) (rw e at (l .loop .inv .1))
 
 pub amounts-spec : {M : Type 1} → statement M
 amounts-spec =
@@ -94,7 +102,8 @@ amounts-spec =
     (λ c κs. search needs) (λ c κs. search needs)
     loop-holds
     line-at-requires
-    (λ c. omega (arith, below c, s c .pre .own .checked .few)) (λ c. omega (arith, below c, s c .pre .own .checked .few))
+    (λ c. omega (arith, below c, s c .pre .own .checked .few))
+    (λ c. omega (arith, below c, s c .pre .own .checked .few))
     (λ c. omega (arith, placed c)) (λ c. placed c)
     mul-t18
     add-t19

@@ -26,10 +26,14 @@ module _ (c : tie.After-amounts) (i : ℕ) where
     few = omega (arith, s .pre .0)
 
     -- what the lines of distributor i come to
-    amount : getD (c .amounts .result) i noTotal .0 ≡ linesAmount (λ j. getD (s .args .references) j noPrice .0) (s .args .lines .now) i
+    amount : getD (c .amounts .result) i noTotal .0 ≡ linesAmount (λ j. getD (s .args .references) j noPrice .0)
+        (s .args .lines .now) i
     amount =
         ap (λ (xs : List UnsignedPesos). getD xs i noTotal .0) (c .amounts .ensures)
-        ∙ ap (λ (m : UnsignedPesos). m .0) (list-at (λ k. record { 0 = linesAmount (λ j. getD (s .args .references) j noPrice .0) (s .args .lines .now) k }) mostDistributors noTotal i few)
+        ∙ ap (λ (m : UnsignedPesos). m .0)
+        (list-at (λ k. record {
+          0 = linesAmount (λ j. getD (s .args .references) j noPrice .0) (s .args .lines .now) k;
+        }) mostDistributors noTotal i few)
 
     energy : getD (s .args .energies) i noEnergy .0 ≡ suppliedEnergy (s .args .lines .now) i
     energy = ap (λ (xs : List Energy). getD xs i noEnergy .0) (s .pre .1 .1 .0) ∙ energy-at (s .args .lines .now) i few
@@ -40,8 +44,15 @@ divide-amounts-requires c κs =
     let own = s .pre .1 .0 .own in
     record {
       few = s .pre .0;
-      small = λ i p. omega (arith, amount c i p, amount-most (s .args .references) (s .args .lines .now) (s .pre .1 .0) i);
-      some = λ i p. omega (arith, energy c i p, supplied-some (s .args .n) (s .args .lines .now) own (s .pre .1 .1 .1) i p);
+      small =
+          λ i p. omega (arith, amount c i p, amount-most (s .args .references) (s .args .lines .now) (s .pre .1 .0) i);
+      some =
+          λ i p. omega (
+            arith,
+            energy c i p,
+            supplied-some (s .args .n) (s .args .lines .now) own (s .pre .1 .1 .1) i
+                p,
+          );
       most = λ i p. omega (arith, energy c i p, energy-most (s .args .lines .now) own i);
     }
 

@@ -19,26 +19,35 @@ abbrev averageIn : List UnsignedPesos → List Energy → ℕ → PesoPrice
 averageIn amounts energies i = record { 0 = halfUp (getD amounts i noTotal .0) (getD energies i noEnergy .0) }
 
 abbrev Inv-loop : tie.InvT-loop
-Inv-loop n amounts energies averages₀ i₀ averages i = (i ≤ n) × (averages ≡ filledBelow 40 noPrice i (averageIn amounts energies))
+Inv-loop n amounts energies averages₀ i₀ averages i =
+    (i ≤ n) × (averages ≡ filledBelow 40 noPrice i (averageIn amounts energies))
 
 abbrev μ-loop : tie.MeasureT-loop
 μ-loop n amounts energies averages₀ i₀ averages i = n - i
 
 loop-holds : tie.Need-loop-holds Inv-loop μ-loop
-loop-holds c = let s = c .before in (omega arith, c .no-prices .ensures ∙ filled-none 40 noPrice (averageIn (s .args .t2) (s .args .t3)))
+loop-holds c =
+    let s = c .before in (
+      omega arith,
+      c .no-prices .ensures ∙ filled-none 40 noPrice
+          (averageIn (s .args .t2) (s .args .t3)),
+    )
 
 half-up-requires : tie.Need-half-up-requires Inv-loop μ-loop
 half-up-requires c κs =
     let l = c .before in
-    let s = l .before .before in
-    (s .pre .some (l .loop .i) (omega arith), (s .pre .small (l .loop .i) (omega arith), s .pre .most (l .loop .i) (omega arith)))
+    let s = l .before .before in (
+      s .pre .some (l .loop .i) (omega arith),
+      (s .pre .small (l .loop .i) (omega arith), s .pre .most (l .loop .i) (omega arith)),
+    )
 
 loop-again : tie.Need-loop-again Inv-loop μ-loop
 loop-again c =
     let l = c .before .before in
     let s = l .before .before in (
       omega arith,
-      filled-next 40 noPrice (l .loop .i) (averageIn (s .args .t2) (s .args .t3)) (l .loop .averages) _ (omega (arith, s .pre .few)) (l .loop .inv .1)
+      filled-next 40 noPrice (l .loop .i) (averageIn (s .args .t2) (s .args .t3)) (l .loop .averages) _
+          (omega (arith, s .pre .few)) (l .loop .inv .1)
           (ap {B = PesoPrice} (λ x. record { 0 = x }) (c .half-up .ensures)),
     )
 
@@ -59,7 +68,8 @@ divide-amounts-spec =
     (λ c. omega (arith, c .before .before .before .pre .few)) (λ c. omega (arith, c .before .before .before .pre .few))
     (λ c. omega (arith, c .before .before .before .pre .few)) (λ c. omega (arith, c .before .before .before .pre .few))
     half-up-requires
-    (λ c. omega (arith, c .before .before .before .before .pre .few)) (λ c. omega (arith, c .before .before .before .before .pre .few))
+    (λ c. omega (arith, c .before .before .before .before .pre .few))
+    (λ c. omega (arith, c .before .before .before .before .pre .few))
     (λ c. omega arith) (λ c. omega arith)
     loop-again
     returns)

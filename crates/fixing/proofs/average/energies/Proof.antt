@@ -6,7 +6,8 @@ use borrow.Author.Needs.{needs}
 use Rattle.numbers.specs.Sizes.{mostDistributors}
 use Rattle.supply.specs.Line.{lineCount, lineOf}
 use Rattle.fixing.specs.Average.{suppliedEnergy, energyList}
-use Rattle.fixing.proofs.AverageLaws.{EnergiesHeld, asEnergy, energyOf, held-none, held-more, held-done, parts-most}
+use Rattle.fixing.proofs.AverageLaws.{EnergiesHeld, asEnergy, energyOf, held-none, held-more, held-done}
+use Rattle.fixing.proofs.AverageLaws.{parts-most}
 use Rattle.fixing.proofs.average.energies.Statement.{statement}
 use Rattle.fixing.proofs.average.energies.Tie as tie
 
@@ -38,8 +39,12 @@ module _ (c : tie.After-line-at Inv-loop μ-loop) where
 
 loop-holds : tie.Need-loop-holds Inv-loop μ-loop
 loop-holds c =
-    let s = c .before .before .before in
-    (omega arith, rw (c .no-energies .ensures) (held-none asEnergy (λ e. e .0) (λ x. refl) (λ e. refl) (s .args .lines .now) (energyOf (s .args .lines .now))))
+    let s = c .before .before .before in (
+      omega arith,
+      rw (c .no-energies .ensures)
+          (held-none asEnergy (λ e. e .0) (λ x. refl) (λ e. refl) (s .args .lines .now)
+          (energyOf (s .args .lines .now))),
+    )
 
 line-at-requires : tie.Need-line-at-requires Inv-loop μ-loop
 line-at-requires c κs = omega (arith, c .before .before .before .line-count .ensures)
@@ -53,7 +58,8 @@ add-t13 c =
       added w,
       s w .pre .checked .facts (l w .loop .j) (below w) .energyMost,
       l w .loop .inv .1 .sums (w .line-at .result .distributor) (placed w),
-      parts-most lines (energyOf lines) (w .line-at .result .distributor) (l w .loop .j) 10000000 (λ k p. s w .pre .checked .facts k (omega (arith, below w)) .energyMost),
+      parts-most lines (energyOf lines) (w .line-at .result .distributor) (l w .loop .j) 10000000
+          (λ k p. s w .pre .checked .facts k (omega (arith, below w)) .energyMost),
       below w,
       s w .pre .checked .few,
     )
@@ -63,7 +69,8 @@ loop-again c =
     let w = c .before in
     let lines = s w .args .lines .now in (
       omega (arith, below w),
-      held-more asEnergy (λ e. e .0) (λ x. refl) (λ e. refl) lines (energyOf lines) (l w .loop .j) (l w .loop .energies) (w .line-at .result .distributor) _ (placed w) (own w)
+      held-more asEnergy (λ e. e .0) (λ x. refl) (λ e. refl) lines (energyOf lines) (l w .loop .j) (l w .loop .energies)
+          (w .line-at .result .distributor) _ (placed w) (own w)
           (omega (arith, added w)) (l w .loop .inv .1),
     )
 
@@ -73,7 +80,8 @@ returns c =
     let l = c .before in
     let lines = l .before .before .before .before .args .lines .now in
     let e : l .loop .j ≡ lineCount lines = omega (arith, l .before .before .line-count .ensures) in
-    held-done asEnergy (λ x. x .0) (λ x. refl) (λ x. refl) lines (energyOf lines) (l .loop .energies) (rw e at (l .loop .inv .1))
+    held-done asEnergy (λ x. x .0) (λ x. refl) (λ x. refl) lines (energyOf lines) (l .loop .energies)
+    (rw e at (l .loop .inv .1))
 
 pub energies-spec : {M : Type 1} → statement M
 energies-spec =

@@ -11,10 +11,13 @@ module _ (c : tie.After-averages) where
   start = c .before .before .before
 
   range : InRange (distributors (start .args .n) (c .averages .result) (start .args .energies))
-  range = listed-range (start .args .n) (start .args .references) (start .args .lines .now) (start .pre .0) _ _ (c .averages .ensures) (start .pre .1 .0)
+  range =
+      listed-range (start .args .n) (start .args .references) (start .args .lines .now) (start .pre .0) _ _
+      (c .averages .ensures) (start .pre .1 .0)
 
 averages-requires : tie.Need-averages-requires
-averages-requires c κs = let s = c .before .before in (s .pre .0 .few, (s .pre .0 .priced, (s .pre .1 .0, s .pre .0 .supplied)))
+averages-requires c κs =
+    let s = c .before .before in (s .pre .0 .few, (s .pre .0 .priced, (s .pre .1 .0, s .pre .0 .supplied)))
 
 fix-prices-requires : tie.Need-fix-prices-requires
 fix-prices-requires c κs = range c
@@ -25,14 +28,19 @@ charges-requires c κs =
     let s = start (f .before) in
     let r = range (f .before) in (
       r .few,
-      (r .most, finals-most (s .args .n) (f .before .averages .result) (s .args .energies) r _ (f .fix-prices .ensures .answered)),
+      (
+        r .most,
+        finals-most (s .args .n) (f .before .averages .result) (s .args .energies) r _
+            (f .fix-prices .ensures .answered),
+      ),
     )
 
 sector-charges-requires : tie.Need-sector-charges-requires
 sector-charges-requires c κs =
     let f = c .before .before in
     let s = start (f .before) in
-    fixing-charged (s .args .n) (f .before .averages .result) (s .args .energies) (range (f .before)) _ (f .fix-prices .ensures .answered) _ (c .charges .ensures)
+    fixing-charged (s .args .n) (f .before .averages .result) (s .args .energies) (range (f .before)) _
+    (f .fix-prices .ensures .answered) _ (c .charges .ensures)
     (s .args .sectors .now) (s .pre .1 .1 .0) (s .pre .1 .1 .1)
 
 returns : tie.Need-returns
@@ -41,7 +49,8 @@ returns c =
     let a = f .before in
     let s = start a in
     rw (← a .averages .ensures, ← s .pre .1 .0)
-    (fixing-is (s .args .n) (a .averages .result) (s .args .energies) (range a) _ (f .fix-prices .ensures .answered) _ (c .before .charges .ensures)
+    (fixing-is (s .args .n) (a .averages .result) (s .args .energies) (range a) _ (f .fix-prices .ensures .answered) _
+    (c .before .charges .ensures)
     (s .args .sectors .now) _ (c .sector-charges .ensures))
 
 pub accepted-spec : {M : Type 1} → statement M

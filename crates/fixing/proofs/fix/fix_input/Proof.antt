@@ -46,14 +46,16 @@ module _ (c : tie.Else3) where
   own = ranged-own _ (input begun) (begun .pre) (passed-six (six seven))
 
 -- the energies tell who has a line
-everyone : (c : tie.After-every-energy) → c .every-energy .result ≡ supplied (begun (c .before .before) .args .n) (input (begun (c .before .before)))
+everyone : (c : tie.After-every-energy) →
+    c .every-energy .result ≡ supplied (begun (c .before .before) .args .n) (input (begun (c .before .before)))
 everyone c =
     let s = begun (c .before .before) in
     c .every-energy .ensures
     ∙ ap (everyEnergy (s .args .n)) (c .before .energies .ensures)
     ∙ energies-tell (s .args .n) (s .args .lines .now) (s .pre .few) (own (c .before .before))
 
-passed-nine : (c : tie.Else4) → CheckedInput (begun (c .before .before .before) .args .n) (input (begun (c .before .before .before)))
+passed-nine : (c : tie.Else4) →
+    CheckedInput (begun (c .before .before .before) .args .n) (input (begun (c .before .before .before)))
 passed-nine c =
     let e = c .before .before .before in
     record {
@@ -70,7 +72,8 @@ returns c =
     let t = c .before in
     let s = start (t .before) in
     worked-refused (s .args .n) (input s) _ OutOfRange (c .refused .ensures)
-    (refused-unless 0 (inputChecks (s .args .n) (input s)) 6 _ OutOfRange _ tt refl (told-false (t .before .input-in-range .ensures) (t .if1 .taken)))
+    (refused-unless 0 (inputChecks (s .args .n) (input s)) 6 _ OutOfRange _ tt refl
+    (told-false (t .before .input-in-range .ensures) (t .if1 .taken)))
 
 returns-2 : tie.Need-returns-2
 unfolding inputChecks FirstPass
@@ -79,7 +82,8 @@ returns-2 c =
     let e = t .before .before in
     let s = start (e .before) in
     worked-refused (s .args .n) (input s) _ ValueTooLarge (c .refused2 .ensures)
-    (refused-unless 1 (inputChecks (s .args .n) (input s)) 7 _ ValueTooLarge _ (passes OutOfRange (passed-six e), tt) refl
+    (refused-unless 1 (inputChecks (s .args .n) (input s)) 7 _ ValueTooLarge _ (passes OutOfRange (passed-six e), tt)
+    refl
     (told-false (t .before .values-in-range .ensures) (t .if2 .taken)))
 
 returns-3 : tie.Need-returns-3
@@ -89,7 +93,8 @@ returns-3 c =
     let e = t .before .before in
     let s = start (six e .before) in
     worked-refused (s .args .n) (input s) _ WrongSector (c .refused3 .ensures)
-    (refused-unless 2 (inputChecks (s .args .n) (input s)) 8 _ WrongSector _ (passes OutOfRange (passed-six (six e)), (passes ValueTooLarge (passed-seven e), tt)) refl
+    (refused-unless 2 (inputChecks (s .args .n) (input s)) 8 _ WrongSector _
+    (passes OutOfRange (passed-six (six e)), (passes ValueTooLarge (passed-seven e), tt)) refl
     (told-false (t .before .sectors-allowed .ensures) (t .if3 .taken)))
 
 energies-requires : tie.Need-energies-requires
@@ -108,8 +113,10 @@ price-lines-requires : tie.Need-price-lines-requires
 price-lines-requires c κs =
     let e = c .before in
     let s = begun (e .before .before .before) in
-    let ok = passed-nine e in
-    (checked-table _ (input s) ok _ (c .fill .ensures), (checked-numbers _ (input s) ok, checked-own _ (input s) ok .checked))
+    let ok = passed-nine e in (
+      checked-table _ (input s) ok _ (c .fill .ensures),
+      (checked-numbers _ (input s) ok, checked-own _ (input s) ok .checked),
+    )
 
 -- what the pricing of the lines says
 returns-5 : tie.Need-returns-5
@@ -118,7 +125,8 @@ returns-5 c =
     let p = v .before .before in
     let e = p .before .before in
     let s = begun (e .before .before .before) in
-    priced-refused _ (input s) (passed-nine e) _ (p .before .fill .ensures) _ (p .price-lines .ensures) _ _ (c .refused5 .ensures) (v .verdict .given .1)
+    priced-refused _ (input s) (passed-nine e) _ (p .before .fill .ensures) _ (p .price-lines .ensures) _ _
+    (c .refused5 .ensures) (v .verdict .given .1)
 
 accepted-requires : tie.Need-accepted-requires
 accepted-requires c κs =
@@ -137,7 +145,8 @@ returns-6 c =
     let p = t .before .before in
     let e = p .before .before in
     let s = begun (e .before .before .before) in
-    priced-worked _ (input s) (passed-nine e) _ (p .before .fill .ensures) _ (p .price-lines .ensures) (t .enum-told .given .1) _ (c .accepted .ensures)
+    priced-worked _ (input s) (passed-nine e) _ (p .before .fill .ensures) _ (p .price-lines .ensures)
+    (t .enum-told .given .1) _ (c .accepted .ensures)
 
 pub fix-input-spec : {M : Type 1} → statement M
 fix-input-spec =

@@ -11,7 +11,11 @@ use Rattle.fixing.proofs.fix.refused.Tie as tie
 returns : tie.Need-returns
 unfolding refusedFixing noPrices
 returns c =
-    rw (c .before .before .no-prices .ensures ∙ filled-none 40 noPrice (λ i. noPrice), c .before .no-charge-list .ensures ∙ filled-none 40 (pos 0) (λ i. pos 0), c .no-charges .ensures)
+    rw (
+      c .before .before .no-prices .ensures ∙ filled-none 40 noPrice (λ i. noPrice),
+      c .before .no-charge-list .ensures ∙ filled-none 40 (pos 0) (λ i. pos 0),
+      c .no-charges .ensures,
+    )
 
 pub refused-spec : {M : Type 1} → statement M
 refused-spec =

@@ -19,7 +19,8 @@ abbrev chargeOf : List PesoPrice → List PesoPrice → ℕ → ℤ
 chargeOf averages finals j = subℕ (getD finals j noPrice .0) (getD averages j noPrice .0)
 
 abbrev Inv-loop : tie.InvT-loop
-Inv-loop n averages finals charges₀ i₀ charges i = (i ≤ n) × (charges ≡ filledBelow 40 (pos 0) i (chargeOf averages finals))
+Inv-loop n averages finals charges₀ i₀ charges i =
+    (i ≤ n) × (charges ≡ filledBelow 40 (pos 0) i (chargeOf averages finals))
 
 abbrev μ-loop : tie.MeasureT-loop
 μ-loop n averages finals charges₀ i₀ charges i = n - i

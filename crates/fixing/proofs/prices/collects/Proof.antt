@@ -13,7 +13,8 @@ use Rattle.fixing.proofs.prices.collects.Tie as tie
 use native.Mathlib.Omega.{arith}
 
 abbrev Inv-loop : tie.InvT-loop
-Inv-loop n prices energies total₀ i₀ total i = (i ≤ n) × (total ≡ sumBelow i (λ j. getD prices j noPrice .0 * getD energies j noEnergy .0))
+Inv-loop n prices energies total₀ i₀ total i =
+    (i ≤ n) × (total ≡ sumBelow i (λ j. getD prices j noPrice .0 * getD energies j noEnergy .0))
 
 abbrev μ-loop : tie.MeasureT-loop
 μ-loop n prices energies total₀ i₀ total i = n - i
@@ -30,8 +31,14 @@ module _ (c : tie.In-loop Inv-loop μ-loop) where
   abbrev s : tie.Start Inv-loop μ-loop
   s = l .before
 
-  paid : l .loop .total + getD (s .args .t2) (l .loop .i) noPrice .0 * getD (s .args .t3) (l .loop .i) noEnergy .0 ≤ 5120000000000000
-  paid = omega (arith, paid-most (distributors (s .args .n) (s .args .t2) (s .args .t3)) (s .pre) (l .loop .i) (omega arith))
+  paid : l .loop .total + getD (s .args .t2) (l .loop .i) noPrice .0 * getD (s .args .t3) (l .loop .i)
+      noEnergy .0 ≤ 5120000000000000
+  paid =
+      omega (
+        arith,
+        paid-most (distributors (s .args .n) (s .args .t2) (s .args .t3)) (s .pre) (l .loop .i)
+            (omega arith),
+      )
 
 mul-total-3 : tie.Need-mul-total-3 Inv-loop μ-loop
 mul-total-3 c = omega (arith, paid c)
@@ -43,7 +50,9 @@ loop-again : tie.Need-loop-again Inv-loop μ-loop
 loop-again c = (omega arith, rw sum-step (omega arith))
 
 -- all distributors are passed
-whole : (c : tie.After-loop Inv-loop μ-loop) → c .before .loop .total ≡ contractTotal (distributors (c .before .before .args .n) (c .before .before .args .t2) (c .before .before .args .t3))
+whole : (c : tie.After-loop Inv-loop μ-loop) →
+    c .before .loop .total ≡ contractTotal
+    (distributors (c .before .before .args .n) (c .before .before .args .t2) (c .before .before .args .t3))
 unfolding contractTotal
 whole c =
     let l = c .before in

@@ -21,7 +21,11 @@ loop-holds c = summed-none _ _
 add-total : tie.Need-add-total Inv-loop μ-loop
 add-total c =
     let l = c .before in
-    omega (arith, sum-next (l .loop .i) (l .before .args .n) (λ j. getD (l .before .args .t2) j noEnergy .0) (omega arith))
+    omega (
+      arith,
+      sum-next (l .loop .i) (l .before .args .n) (λ j. getD (l .before .args .t2) j noEnergy .0)
+          (omega arith),
+    )
 
 loop-again : tie.Need-loop-again Inv-loop μ-loop
 loop-again c = summed-more (c .before .loop .inv) (omega arith)

@@ -16,7 +16,8 @@ abbrev final : List PesoPrice → ℕ → ℕ → ℕ → PesoPrice
 final averages limit surcharge j = record { 0 = min limit (getD averages j noPrice .0 + surcharge) }
 
 abbrev Inv-loop : tie.InvT-loop
-Inv-loop n limit surcharge averages finals₀ i₀ finals i = (i ≤ n) × (finals ≡ filledBelow 40 noPrice i (final averages (limit .0) (surcharge .0)))
+Inv-loop n limit surcharge averages finals₀ i₀ finals i =
+    (i ≤ n) × (finals ≡ filledBelow 40 noPrice i (final averages (limit .0) (surcharge .0)))
 
 abbrev μ-loop : tie.MeasureT-loop
 μ-loop n limit surcharge averages finals₀ i₀ finals i = n - i
@@ -38,7 +39,8 @@ loop-again c =
     let l = c .before .before .before in
     let s = l .before .before in (
       omega arith,
-      filled-next 40 noPrice (l .loop .i) (final (s .args .t2) (s .args .limit .0) (s .args .surcharge .0)) _ _ (omega arith) (l .loop .inv .1) (c .final-price .ensures),
+      filled-next 40 noPrice (l .loop .i) (final (s .args .t2) (s .args .limit .0) (s .args .surcharge .0)) _ _
+          (omega arith) (l .loop .inv .1) (c .final-price .ensures),
     )
 
 returns : tie.Need-returns Inv-loop μ-loop

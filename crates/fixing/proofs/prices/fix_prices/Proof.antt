@@ -63,16 +63,22 @@ module _ (c : tie.After-final-prices) where
 
   ranged : InRange (distributors (begun .args .n) (c .final-prices .result) (begun .args .energies))
   ranged =
-      finals-range (begun .args .n) (begun .args .averages) (begun .args .energies) (begun .pre) _ (topped e) _ (c .before .before .last-round .ensures) _ (c .final-prices .ensures)
+      finals-range (begun .args .n) (begun .args .averages) (begun .args .energies) (begun .pre) _ (topped e) _
+      (c .before .before .last-round .ensures) _ (c .final-prices .ensures)
 
-  over : contractTotal (d begun) ≤ contractTotal (distributors (begun .args .n) (c .final-prices .result) (begun .args .energies))
+  over : contractTotal (d begun) ≤ contractTotal
+      (distributors (begun .args .n) (c .final-prices .result) (begun .args .energies))
   over =
-      finals-over (begun .args .n) (begun .args .averages) (begun .args .energies) (begun .pre) _ (topped e) _ (c .before .before .last-round .ensures) _ (c .final-prices .ensures)
+      finals-over (begun .args .n) (begun .args .averages) (begun .args .energies) (begun .pre) _ (topped e) _
+      (c .before .before .last-round .ensures) _ (c .final-prices .ensures)
 
 collects-requires-2 : tie.Need-collects-requires-2
 collects-requires-2 c κs = ranged c
 
-collected-is : (c : tie.After-collects2) → c .collects2 .result .0 ≡ contractTotal (distributors (begun (c .before) .args .n) (c .before .final-prices .result) (begun (c .before) .args .energies))
+collected-is : (c : tie.After-collects2) →
+    c .collects2 .result .0 ≡ contractTotal
+    (distributors (begun (c .before) .args .n) (c .before .final-prices .result)
+    (begun (c .before) .args .energies))
 collected-is c = ap (λ (x : UnsignedPesos). x .0) (c .collects2 .ensures)
 
 sub-residue : tie.Need-sub-residue

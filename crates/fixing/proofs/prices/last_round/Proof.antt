@@ -4,13 +4,15 @@ use mathlib.Core.Path.{_≡_}
 use Prim.Native.Nat.{_-_, _*_}
 use Rattle.numbers.specs.Rounding.{divideUp}
 use Rattle.fixing.specs.Prices.{distributors}
-use Rattle.fixing.proofs.LoopLaws.{Round, none-above, round-first, made-few, pays-more, pays-most, outside-least, outside-most, raise-most, round-more, round-last}
+use Rattle.fixing.proofs.LoopLaws.{Round, none-above, round-first, made-few, pays-more, pays-most, outside-least}
+use Rattle.fixing.proofs.LoopLaws.{outside-most, raise-most, round-more, round-last}
 use Rattle.fixing.proofs.prices.last_round.Statement.{statement}
 use Rattle.fixing.proofs.prices.last_round.Tie as tie
 use native.Mathlib.Omega.{arith}
 
 abbrev Inv-loop : tie.InvT-loop
-Inv-loop n averages energies limit sums₀ rounds₀ sums rounds = Round (distributors n averages energies) (limit .0) sums rounds
+Inv-loop n averages energies limit sums₀ rounds₀ sums rounds =
+    Round (distributors n averages energies) (limit .0) sums rounds
 
 abbrev μ-loop : tie.MeasureT-loop
 μ-loop n averages energies limit sums₀ rounds₀ sums rounds = n - rounds
@@ -46,7 +48,10 @@ divide-up-requires c κs =
 abbrev l : tie.After-divide-up Inv-loop μ-loop → tie.At-loop Inv-loop μ-loop
 l c = began (c .before)
 
-worked : (c : tie.After-divide-up Inv-loop μ-loop) → c .divide-up .result ≡ divideUp (l c .loop .sums .paid .0 - l c .before .before .before .before .args .limit .0 * l c .loop .sums .inside .0) (l c .loop .sums .outside .0)
+worked : (c : tie.After-divide-up Inv-loop μ-loop) →
+    c .divide-up .result ≡ divideUp
+    (l c .loop .sums .paid .0 - l c .before .before .before .before .args .limit .0 * l c .loop .sums .inside .0)
+    (l c .loop .sums .outside .0)
 worked c = c .divide-up .ensures
 
 add-rounds : tie.Need-add-rounds Inv-loop μ-loop

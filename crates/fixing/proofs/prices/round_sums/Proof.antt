@@ -22,7 +22,9 @@ abbrev above : List PesoPrice → ℕ → ℕ → ℕ → Bool
 above averages limit raise j = ltb limit (getD averages j noPrice .0 + raise)
 
 abbrev Inv-loop : tie.InvT-loop
-Inv-loop n limit raise averages energies paid₀ inside₀ outside₀ i₀ paid inside outside i = (i ≤ n) × Sums (above averages (limit .0) (raise .0)) (λ j. getD averages j noPrice .0) (λ j. getD energies j noEnergy .0) i paid inside outside
+Inv-loop n limit raise averages energies paid₀ inside₀ outside₀ i₀ paid inside outside i =
+    (i ≤ n) × Sums (above averages (limit .0) (raise .0)) (λ j. getD averages j noPrice .0)
+    (λ j. getD energies j noEnergy .0) i paid inside outside
 
 abbrev μ-loop : tie.MeasureT-loop
 μ-loop n limit raise averages energies paid₀ inside₀ outside₀ i₀ paid inside outside i = n - i
@@ -79,13 +81,19 @@ loop-again c =
     let raised = getD (s .args .t2) (l .loop .i) noPrice .0 + s .args .raise .0 in (
       omega arith,
       ⊎-elim
-          (λ w. sums-more _ _ _ _ _ _ _ (l .loop .inv .1) true (lt-ltb (s .args .limit .0) raised (omega (arith, w .0 .taken))) _ _ _ (w .1) (w .2) (omega (arith, w .3)))
-          (λ w. sums-more _ _ _ _ _ _ _ (l .loop .inv .1) false (le-ltb (s .args .limit .0) raised (omega (arith, w .0 .left))) _ _ _ (omega (arith, w .1)) (omega (arith, w .2)) (w .3))
+          (λ w. sums-more _ _ _ _ _ _ _ (l .loop .inv .1) true
+          (lt-ltb (s .args .limit .0) raised (omega (arith, w .0 .taken))) _ _ _ (w .1) (w .2) (omega (arith, w .3)))
+          (λ w. sums-more _ _ _ _ _ _ _ (l .loop .inv .1) false
+          (le-ltb (s .args .limit .0) raised (omega (arith, w .0 .left))) _ _ _ (omega (arith, w .1))
+          (omega (arith, w .2)) (w .3))
           (c .if1 .came),
     )
 
 -- all distributors are passed
-whole : (c : tie.After-loop Inv-loop μ-loop) → Sums (above (c .before .before .args .t2) (c .before .before .args .limit .0) (c .before .before .args .raise .0)) (λ j. getD (c .before .before .args .t2) j noPrice .0) (λ j. getD (c .before .before .args .t3) j noEnergy .0) (c .before .before .args .n) (c .before .loop .paid) (c .before .loop .inside) (c .before .loop .outside)
+whole : (c : tie.After-loop Inv-loop μ-loop) →
+    Sums (above (c .before .before .args .t2) (c .before .before .args .limit .0) (c .before .before .args .raise .0))
+    (λ j. getD (c .before .before .args .t2) j noPrice .0) (λ j. getD (c .before .before .args .t3) j noEnergy .0)
+    (c .before .before .args .n) (c .before .loop .paid) (c .before .loop .inside) (c .before .loop .outside)
 whole c =
     let l = c .before in
     let e : l .loop .i ≡ l .before .args .n = omega arith in

@@ -21,11 +21,13 @@ has-sector-requires c κs = let s = c .before .before .before in (s .pre .0, (s 
 
 returns : tie.Need-returns Inv-loop μ-loop
 returns c =
-    tested-fails (c .before .before .before .loop .inv) (omega arith) (told-false (c .before .has-sector .ensures) (c .if1 .taken))
+    tested-fails (c .before .before .before .loop .inv) (omega arith)
+    (told-false (c .before .has-sector .ensures) (c .if1 .taken))
 
 loop-again : tie.Need-loop-again Inv-loop μ-loop
 loop-again c =
-    tested-more (c .before .before .before .loop .inv) (omega arith) (told-true (c .before .has-sector .ensures) (c .if1 .left))
+    tested-more (c .before .before .before .loop .inv) (omega arith)
+    (told-true (c .before .has-sector .ensures) (c .if1 .left))
 
 returns-2 : tie.Need-returns-2 Inv-loop μ-loop
 returns-2 c = tested-all (c .before .loop .inv) (omega arith)

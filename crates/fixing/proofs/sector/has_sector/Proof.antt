@@ -25,14 +25,18 @@ unfolding hasSector sectorPresent
 returns c =
     let l = c .before .before .before in
     let a = l .before in
-    sym (any-holds 8 (λ k. sectorPresent (a .args .sectors .now) (a .args .i * 8 + k)) (l .loop .s) (omega arith) (ap not (ne-eqb _ _ (c .if1 .taken))))
+    sym (any-holds 8 (λ k. sectorPresent (a .args .sectors .now) (a .args .i * 8 + k)) (l .loop .s) (omega arith)
+    (ap not (ne-eqb _ _ (c .if1 .taken))))
 
 loop-again : tie.Need-loop-again Inv-loop μ-loop
 unfolding sectorPresent
 loop-again c =
     let l = c .before .before .before in
-    let a = l .before in
-    (omega arith, any-more (l .loop .s) (λ k. sectorPresent (a .args .sectors .now) (a .args .i * 8 + k)) (l .loop .inv .1) (ap not (eq-eqb _ _ (c .if1 .left))))
+    let a = l .before in (
+      omega arith,
+      any-more (l .loop .s) (λ k. sectorPresent (a .args .sectors .now) (a .args .i * 8 + k))
+          (l .loop .inv .1) (ap not (eq-eqb _ _ (c .if1 .left))),
+    )
 
 returns-2 : tie.Need-returns-2 Inv-loop μ-loop
 unfolding hasSector

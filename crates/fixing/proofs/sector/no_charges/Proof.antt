@@ -10,7 +10,9 @@ use Rattle.fixing.proofs.sector.no_charges.Tie as tie
 
 returns : tie.Need-returns
 unfolding noCharges chargedPlaces
-returns c = ap₂ {C = SectorCharges} (λ p q. record { present = p; charges = q }) (filled-none 320 false _) (filled-none 320 (pos 0) _)
+returns c =
+    ap₂ {C = SectorCharges} (λ p q. record { present = p; charges = q }) (filled-none 320 false _)
+    (filled-none 320 (pos 0) _)
 
 pub no-charges-spec : {M : Type 1} → statement M
 no-charges-spec = tie.close (tie.spec returns)

@@ -19,7 +19,8 @@ module _ (c : tie.After-difference) where
   s = c .before
 
   -- the product of the numbers behind the bits
-  product : toZ w64 (ofZ w64 (s .args .charge)) *ℤ toZ w64 (ofZ w64 (c .difference .result)) ≡ s .args .charge *ℤ pos (s .args .factor)
+  product : toZ w64 (ofZ w64 (s .args .charge)) *ℤ toZ w64 (ofZ w64 (c .difference .result)) ≡ s .args .charge *ℤ pos
+      (s .args .factor)
   product =
       mul-bits (s .args .charge) (c .difference .result) (s .fits .charge) (sfits-of (c .difference .ok))
       ∙ ap (λ z. s .args .charge *ℤ z) (c .difference .ensures ∙ pos-sub-zero (s .args .factor))
@@ -43,7 +44,8 @@ returns : tie.Need-returns
 unfolding sectorCharge
 returns c =
     toZ-ofZ (sfits-of (c .half-away .ok)) ∙ c .half-away .ensures
-    ∙ ap (λ z. halfAway z 10000) (ap (λ z. toZ w64 (ofZ w64 z)) (product (c .before)) ∙ toZ-ofZ (product-fits (c .before)))
+    ∙ ap (λ z. halfAway z 10000)
+    (ap (λ z. toZ w64 (ofZ w64 z)) (product (c .before)) ∙ toZ-ofZ (product-fits (c .before)))
 
 pub sector-charge-spec : {M : Type 1} → statement M
 sector-charge-spec =

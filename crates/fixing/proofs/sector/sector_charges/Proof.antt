@@ -21,7 +21,8 @@ abbrev chargeIn : List ℤ → ℕ → ℤ
 chargeIn charges i = getD charges i (pos 0)
 
 abbrev Inv-loop : tie.InvT-loop
-Inv-loop n sectors charges force₀ k₀ force k = (k ≤ length sectors) × (force ≡ chargedPlaces k (chargeIn charges) sectors)
+Inv-loop n sectors charges force₀ k₀ force k =
+    (k ≤ length sectors) × (force ≡ chargedPlaces k (chargeIn charges) sectors)
 
 abbrev μ-loop : tie.MeasureT-loop
 μ-loop n sectors charges force₀ k₀ force k = length sectors - k
@@ -42,7 +43,9 @@ no-charges-requires : tie.Need-no-charges-requires Inv-loop μ-loop
 no-charges-requires c κs = tt
 
 loop-holds : tie.Need-loop-holds Inv-loop μ-loop
-loop-holds c = let s = c .before .before in (omega arith, c .no-charges .ensures ∙ places-none (chargeIn (s .args .t2)) (s .args .sectors .now))
+loop-holds c =
+    let s = c .before .before in
+    (omega arith, c .no-charges .ensures ∙ places-none (chargeIn (s .args .t2)) (s .args .sectors .now))
 
 mul-charge : tie.Need-mul-charge Inv-loop μ-loop
 mul-charge c = omega (arith, own (c .before) (omega arith))
@@ -54,18 +57,24 @@ element-write-force : tie.Need-element-write-force Inv-loop μ-loop
 element-write-force c = few (c .before .before .before) (omega arith)
 
 -- the charge at hand is read back as it is
-unread : (c : tie.In-loop Inv-loop μ-loop) → toZ w64 (ofZ w64 (chargeIn (start (c .before) .args .t2) (c .before .loop .k / 8))) ≡ chargeIn (start (c .before) .args .t2) (c .before .loop .k / 8)
+unread : (c : tie.In-loop Inv-loop μ-loop) →
+    toZ w64 (ofZ w64 (chargeIn (start (c .before) .args .t2) (c .before .loop .k / 8))) ≡ chargeIn
+    (start (c .before) .args .t2) (c .before .loop .k / 8)
 unread c =
     let l = c .before in
     let s = start l in
-    toZ-ofZ (size-fits (chargeIn (s .args .t2) (l .loop .k / 8)) (omega (arith, s .pre .charge (l .loop .k / 8) (own l (omega arith)))))
+    toZ-ofZ (size-fits (chargeIn (s .args .t2) (l .loop .k / 8))
+    (omega (arith, s .pre .charge (l .loop .k / 8) (own l (omega arith)))))
 
 sector-charge-requires : tie.Need-sector-charge-requires Inv-loop μ-loop
 sector-charge-requires c κs =
     let e = c .before .before in
     let l = e .before in
-    let s = start l in
-    (rw (unread e) (s .pre .charge (l .loop .k / 8) (own l (omega arith))), s .pre .factors (l .loop .k) (omega (arith, s .pre .lent)))
+    let s = start l in (
+      rw (unread e) (s .pre .charge (l .loop .k / 8) (own l (omega arith))),
+      s .pre .factors (l .loop .k)
+          (omega (arith, s .pre .lent)),
+    )
 
 mul-t11 : tie.Need-mul-t11 Inv-loop μ-loop
 mul-t11 c = omega (arith, few (c .before .before .before .before) (omega arith))
@@ -83,7 +92,8 @@ loop-again c =
     let l = e .before in
     let s = start l in (
       omega arith,
-      places-more (chargeIn (s .args .t2)) (s .args .sectors .now) (l .loop .k) (l .loop .force) _ _ (few l (omega arith)) (l .loop .inv .1) refl
+      places-more (chargeIn (s .args .t2)) (s .args .sectors .now) (l .loop .k) (l .loop .force) _ _
+          (few l (omega arith)) (l .loop .inv .1) refl
           (toZ-ofZ (sfits-of (c .sector-charge .ok)) ∙ c .sector-charge .ensures
           ∙ ap (λ z. sectorCharge z (factorAt (s .args .sectors .now) (l .loop .k))) (unread e)),
     )

@@ -2,7 +2,8 @@
 use mathlib.Core.Path.{sym, _∙_}
 use Prim.Native.Nat.{ℕ}
 use lib.ListN.{drop}
-use Rattle.journal.proofs.CommandLaws.{commandWords, Among, command-end, among-all, command-word, among-rest, command-unknown}
+use Rattle.journal.proofs.CommandLaws.{commandWords, Among, command-end, among-all, command-word, among-rest}
+use Rattle.journal.proofs.CommandLaws.{command-unknown}
 use borrow.Author.Needs.{needs}
 use Rattle.journal.proofs.command.command_in.Statement.{statement}
 use Rattle.journal.proofs.command.command_in.Tie as tie
@@ -36,15 +37,20 @@ past-settle : (c : tie.Else4) → Past (c .before .before .before .before .befor
 past-settle c = among-rest (past-fix (c .before .before .before)) (sym (c .before .is-word3 .ensures) ∙ c .if4 .left)
 
 returns-5 : tie.Need-returns-5
-returns-5 c = command-word (past-settle (c .before .before .before)) (sym (c .before .is-word4 .ensures) ∙ c .if5 .taken)
+returns-5 c =
+    command-word (past-settle (c .before .before .before)) (sym (c .before .is-word4 .ensures) ∙ c .if5 .taken)
 
-past-save : (c : tie.Else5) → Past (c .before .before .before .before .before .before .before .before .before .before .before .before) 4
+past-save : (c : tie.Else5) →
+    Past (c .before .before .before .before .before .before .before .before .before .before .before .before) 4
 past-save c = among-rest (past-settle (c .before .before .before)) (sym (c .before .is-word4 .ensures) ∙ c .if5 .left)
 
 returns-6 : tie.Need-returns-6
 returns-6 c = command-word (past-save (c .before .before .before)) (sym (c .before .is-word5 .ensures) ∙ c .if6 .taken)
 
-past-load : (c : tie.Else6) → Past (c .before .before .before .before .before .before .before .before .before .before .before .before .before .before .before) 5
+past-load : (c : tie.Else6) →
+    Past
+    (c .before .before .before .before .before .before .before .before .before .before .before .before .before .before
+    .before) 5
 past-load c = among-rest (past-save (c .before .before .before)) (sym (c .before .is-word5 .ensures) ∙ c .if6 .left)
 
 returns-7 : tie.Need-returns-7

@@ -21,7 +21,8 @@ next-number-requires-4 c κs = number-within _ _ (next-number-requires-3 (c .bef
 read-list-requires : tie.Need-read-list-requires
 read-list-requires c κs =
     let first = c .before .before in
-    number-within _ _ (next-number-requires-4 (first .before) (first .next-number4 .lifetimes)) _ _ (first .next-number4 .ensures)
+    number-within _ _ (next-number-requires-4 (first .before) (first .next-number4 .lifetimes)) _ _
+    (first .next-number4 .ensures)
 
 read-list-requires-2 : tie.Need-read-list-requires-2
 read-list-requires-2 c κs =
@@ -36,10 +37,12 @@ read-list-requires-3 c κs =
 next-word-requires : tie.Need-next-word-requires
 next-word-requires c κs =
     let sectors = c .before .before .before in
-    list-within _ _ (read-list-requires-3 (sectors .before) (sectors .read-list3 .lifetimes)) _ _ _ _ (sectors .read-list3 .ensures .0)
+    list-within _ _ (read-list-requires-3 (sectors .before) (sectors .read-list3 .lifetimes)) _ _ _ _
+    (sectors .read-list3 .ensures .0)
 
 next-number-requires-5 : tie.Need-next-number-requires-5
-next-number-requires-5 c κs = word-within _ _ (next-word-requires (c .before) (c .next-word .lifetimes)) _ _ (c .next-word .ensures)
+next-number-requires-5 c κs =
+    word-within _ _ (next-word-requires (c .before) (c .next-word .lifetimes)) _ _ (c .next-word .ensures)
 
 returns : tie.Need-returns
 returns c =
@@ -60,8 +63,10 @@ returns c =
       first = record { read = _; same = first .next-number4 .ensures };
       series = record { read = _; list = _; rest = _; same = rw (start .pre .1 .0) at (series .read-list .ensures) };
       lines = record { read = _; list = _; rest = _; same = rw (start .pre .1 .1 .0) at (lines .read-list2 .ensures) };
-      sectors = record { read = _; list = _; rest = _; same = rw (start .pre .1 .1 .1) at (sectors .read-list3 .ensures) };
-      prices = record { named = _; read = _; name-same = name .next-word .ensures; same = c .before .next-number5 .ensures };
+      sectors =
+          record { read = _; list = _; rest = _; same = rw (start .pre .1 .1 .1) at (sectors .read-list3 .ensures) };
+      prices =
+          record { named = _; read = _; name-same = name .next-word .ensures; same = c .before .next-number5 .ensures };
     } in
     (fix-read parts, (series-words parts, (lines-words parts, sectors-words parts)))
 

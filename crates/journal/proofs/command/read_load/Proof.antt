@@ -24,7 +24,8 @@ next-number-requires-5 c κs = number-within _ _ (next-number-requires-4 (c .bef
 read-list-requires : tie.Need-read-list-requires
 read-list-requires c κs =
     let month = c .before .before in
-    number-within _ _ (next-number-requires-5 (month .before) (month .next-number5 .lifetimes)) _ _ (month .next-number5 .ensures)
+    number-within _ _ (next-number-requires-5 (month .before) (month .next-number5 .lifetimes)) _ _
+    (month .next-number5 .ensures)
 
 read-signed-list-requires : tie.Need-read-signed-list-requires
 read-signed-list-requires c κs =
@@ -34,7 +35,8 @@ read-signed-list-requires c κs =
 read-signed-list-requires-2 : tie.Need-read-signed-list-requires-2
 read-signed-list-requires-2 c κs =
     let charges = c .before .before .before in
-    signed-list-within _ _ (read-signed-list-requires (charges .before) κs) _ _ _ (charges .read-signed-list .ensures .0)
+    signed-list-within _ _ (read-signed-list-requires (charges .before) κs) _ _ _
+    (charges .read-signed-list .ensures .0)
 
 returns : tie.Need-returns
 returns c =
@@ -55,8 +57,21 @@ returns c =
       fixed = record { read = _; same = fixed .next-number4 .ensures };
       month = record { read = _; same = month .next-number5 .ensures };
       present = record { read = _; list = _; rest = _; same = rw (start .pre .1 .0) at (present .read-list .ensures) };
-      charges = record { read = _; list = _; rest = _; same = rw (start .pre .1 .1 .0) at (charges .read-signed-list .ensures) };
-      balances = record { read = _; list = _; rest = _; same = rw (start .pre .1 .1 .1) at (balances .read-signed-list2 .ensures) };
+      charges =
+          record {
+            read = _;
+            list = _;
+            rest = _;
+            same = rw (start .pre .1 .1 .0) at (charges .read-signed-list .ensures);
+          };
+      balances =
+          record {
+            read = _;
+            list = _;
+            rest = _;
+            same = rw (start .pre .1 .1 .1) at
+                (balances .read-signed-list2 .ensures);
+          };
     } in
     (load-read parts, (present-words parts, (charges-words parts, balances-words parts)))
 

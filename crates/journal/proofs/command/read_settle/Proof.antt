@@ -12,7 +12,8 @@ next-number-requires c κs = search needs
 read-list-requires : tie.Need-read-list-requires
 read-list-requires c κs =
     let month = c .before .before in
-    number-within _ _ (next-number-requires (month .before) (month .next-number .lifetimes)) _ _ (month .next-number .ensures)
+    number-within _ _ (next-number-requires (month .before) (month .next-number .lifetimes)) _ _
+    (month .next-number .ensures)
 
 read-list-requires-2 : tie.Need-read-list-requires-2
 read-list-requires-2 c κs =
@@ -22,10 +23,12 @@ read-list-requires-2 c κs =
 next-word-requires : tie.Need-next-word-requires
 next-word-requires c κs =
     let losses = c .before .before .before in
-    list-within _ _ (read-list-requires-2 (losses .before) (losses .read-list2 .lifetimes)) _ _ _ _ (losses .read-list2 .ensures .0)
+    list-within _ _ (read-list-requires-2 (losses .before) (losses .read-list2 .lifetimes)) _ _ _ _
+    (losses .read-list2 .ensures .0)
 
 next-number-requires-2 : tie.Need-next-number-requires-2
-next-number-requires-2 c κs = word-within _ _ (next-word-requires (c .before) (c .next-word .lifetimes)) _ _ (c .next-word .ensures)
+next-number-requires-2 c κs =
+    word-within _ _ (next-word-requires (c .before) (c .next-word .lifetimes)) _ _ (c .next-word .ensures)
 
 returns : tie.Need-returns
 returns c =
@@ -37,9 +40,11 @@ returns c =
     let parts : SettleParts (start .args .text .now) (start .args .cursor) =
     record {
       month = record { read = _; same = month .next-number .ensures };
-      readings = record { read = _; list = _; rest = _; same = rw (start .pre .1 .0) at (readings .read-list .ensures) };
+      readings =
+          record { read = _; list = _; rest = _; same = rw (start .pre .1 .0) at (readings .read-list .ensures) };
       losses = record { read = _; list = _; rest = _; same = rw (start .pre .1 .1) at (losses .read-list2 .ensures) };
-      transfers = record { named = _; read = _; name-same = name .next-word .ensures; same = c .before .next-number2 .ensures };
+      transfers =
+          record { named = _; read = _; name-same = name .next-word .ensures; same = c .before .next-number2 .ensures };
     } in
     (settle-read parts, (readings-words parts, losses-words parts))
 

@@ -13,7 +13,9 @@ token-end-requires : tie.Need-token-end-requires
 token-end-requires c κs = start-within _ _ _ (c .before .before .before .pre) (c .token-start .ensures)
 
 read-signed-requires : tie.Need-read-signed-requires
-read-signed-requires c κs = token-within _ _ _ (c .before .before .before .before .pre) (c .before .token-start .ensures) _ (c .token-end .ensures)
+read-signed-requires c κs =
+    token-within _ _ _ (c .before .before .before .before .pre) (c .before .token-start .ensures) _
+    (c .token-end .ensures)
 
 returns-2 : tie.Need-returns-2
 returns-2 c =
@@ -21,7 +23,8 @@ returns-2 c =
     let t = r .before in
     let s = t .before in
     c .signed-from .ensures
-    ∙ rw (r .read-signed .ensures) (signed-after-token _ _ (s .before .if1 .left) _ _ (s .token-start .ensures) (t .token-end .ensures))
+    ∙ rw (r .read-signed .ensures)
+    (signed-after-token _ _ (s .before .if1 .left) _ _ (s .token-start .ensures) (t .token-end .ensures))
 
 pub next-signed-spec : {M : Type 1} → statement M
 next-signed-spec =

@@ -13,21 +13,25 @@ token-end-requires : tie.Need-token-end-requires
 token-end-requires c κs = start-within _ _ _ (c .before .before .before .before .pre) (c .token-start .ensures)
 
 is-word-requires : tie.Need-is-word-requires
-is-word-requires c κs = token-within _ _ _ (c .before .before .before .before .before .pre) (c .before .token-start .ensures) _ (c .token-end .ensures)
+is-word-requires c κs =
+    token-within _ _ _ (c .before .before .before .before .before .pre) (c .before .token-start .ensures) _
+    (c .token-end .ensures)
 
 returns-2 : tie.Need-returns-2
 returns-2 c =
     let w = c .before .before in
     let t = w .before in
     let s = t .before in
-    c .read-to .ensures ∙ word-after-same _ _ (s .before .if1 .left) _ _ (s .token-start .ensures) (t .token-end .ensures) _ (sym (w .is-word .ensures) ∙ c .before .if2 .taken)
+    c .read-to .ensures ∙ word-after-same _ _ (s .before .if1 .left) _ _ (s .token-start .ensures)
+    (t .token-end .ensures) _ (sym (w .is-word .ensures) ∙ c .before .if2 .taken)
 
 returns-3 : tie.Need-returns-3
 returns-3 c =
     let w = c .before .before in
     let t = w .before in
     let s = t .before in
-    c .broken-at .ensures ∙ word-after-other _ _ (s .before .if1 .left) _ _ (s .token-start .ensures) (t .token-end .ensures) _ (sym (w .is-word .ensures) ∙ c .before .if2 .left)
+    c .broken-at .ensures ∙ word-after-other _ _ (s .before .if1 .left) _ _ (s .token-start .ensures)
+    (t .token-end .ensures) _ (sym (w .is-word .ensures) ∙ c .before .if2 .left)
 
 pub next-word-spec : {M : Type 1} → statement M
 next-word-spec =

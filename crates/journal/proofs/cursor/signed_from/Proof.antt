@@ -10,7 +10,9 @@ enum-told : tie.Need-enum-told
 enum-told c = search needs
 
 returns : tie.Need-returns
-returns c = ap (λ z. signedRead z (c .read-to .result)) (toZ-ofZ (sfits-of (c .before .known-told .given .0 .1))) ∙ signed-some _ _ _ _ _ (c .before .before .reading .given .1) (c .read-to .ensures)
+returns c =
+    ap (λ z. signedRead z (c .read-to .result)) (toZ-ofZ (sfits-of (c .before .known-told .given .0 .1)))
+    ∙ signed-some _ _ _ _ _ (c .before .before .reading .given .1) (c .read-to .ensures)
 
 returns-2 : tie.Need-returns-2
 returns-2 c = signed-none _ _ _ _ (c .before .enum-told .given .1) (c .broken-at .ensures)

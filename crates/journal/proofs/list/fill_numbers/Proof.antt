@@ -12,7 +12,9 @@ use Rattle.journal.proofs.list.fill_numbers.Statement.{statement}
 use Rattle.journal.proofs.list.fill_numbers.Tie as tie
 
 abbrev Inv-loop : tie.InvT-loop
-Inv-loop text most into₀ next₀ k₀ into next k = (k ≤ length into) × (length into ≡ length into₀) × (next .at ≤ length text) × (next ≡ cursorAfter k text next₀ most) × (take k into ≡ listBelow k (numberAt text next₀ most))
+Inv-loop text most into₀ next₀ k₀ into next k =
+    (k ≤ length into) × (length into ≡ length into₀) × (next .at ≤ length text) ×
+    (next ≡ cursorAfter k text next₀ most) × (take k into ≡ listBelow k (numberAt text next₀ most))
 
 abbrev μ-loop : tie.MeasureT-loop
 μ-loop text most into₀ next₀ k₀ into next k = length into - k
@@ -42,7 +44,8 @@ loop-again c =
       simp length-set (l .loop .inv .1),
       number-within _ _ (l .loop .inv .2) _ _ (n .next-number .ensures),
       cursor-next _ _ _ _ _ (l .loop .inv .3) _ (n .next-number .ensures),
-      list-more (numberAt (s .args .text .now) (s .args .cursor) (s .args .most)) (l .loop .into) (l .loop .k) _ (omega arith) (l .loop .inv .4)
+      list-more (numberAt (s .args .text .now) (s .args .cursor) (s .args .most)) (l .loop .into) (l .loop .k) _
+          (omega arith) (l .loop .inv .4)
           (number-here _ _ _ _ _ (l .loop .inv .3) _ (n .next-number .ensures)),
     )
 

@@ -14,7 +14,9 @@ use Rattle.journal.proofs.list.fill_signed.Statement.{statement}
 use Rattle.journal.proofs.list.fill_signed.Tie as tie
 
 abbrev Inv-loop : tie.InvT-loop
-Inv-loop text into₀ next₀ k₀ into next k = (k ≤ length into) × (length into ≡ length into₀) × (next .at ≤ length text) × (next ≡ signedCursorAfter k text next₀) × (take k into ≡ listBelow k (signedAt text next₀))
+Inv-loop text into₀ next₀ k₀ into next k =
+    (k ≤ length into) × (length into ≡ length into₀) × (next .at ≤ length text) ×
+    (next ≡ signedCursorAfter k text next₀) × (take k into ≡ listBelow k (signedAt text next₀))
 
 abbrev μ-loop : tie.MeasureT-loop
 μ-loop text into₀ next₀ k₀ into next k = length into - k
@@ -44,8 +46,10 @@ loop-again c =
       simp length-set (l .loop .inv .1),
       signed-within _ _ (l .loop .inv .2) _ (n .next-signed .ensures),
       signed-cursor-next _ _ _ _ (l .loop .inv .3) _ (n .next-signed .ensures),
-      list-more (signedAt (s .args .text .now) (s .args .cursor)) (l .loop .into) (l .loop .k) _ (omega arith) (l .loop .inv .4)
-          (toZ-ofZ (sfits-of (c .before .struct-told .given .0 .1)) ∙ signed-here _ _ _ _ (l .loop .inv .3) _ (n .next-signed .ensures)),
+      list-more (signedAt (s .args .text .now) (s .args .cursor)) (l .loop .into) (l .loop .k) _ (omega arith)
+          (l .loop .inv .4)
+          (toZ-ofZ (sfits-of (c .before .struct-told .given .0 .1)) ∙ signed-here _ _ _ _ (l .loop .inv .3) _
+          (n .next-signed .ensures)),
     )
 
 same-length : tie.Need-same-length Inv-loop μ-loop

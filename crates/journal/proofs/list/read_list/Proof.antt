@@ -34,7 +34,8 @@ returns c =
     let counted = count-read _ _ _ _ _ _ (w .next-word .ensures) (n .next-number .ensures) in
     let same = length-take-le _ _ (slice-relend-prefix-fill-numbers n) in (
       list-read _ _ _ _ _ counted _ same _ _ (f .fill-numbers .ensures .0),
-      ap (λ words. words ++ drop (n .next-number .result .value) (s .args .into .now)) (words-read _ _ _ _ _ counted _ same _ _ (f .fill-numbers .ensures .1)),
+      ap (λ words. words ++ drop (n .next-number .result .value) (s .args .into .now))
+          (words-read _ _ _ _ _ counted _ same _ _ (f .fill-numbers .ensures .1)),
     )
 
 pub read-list-spec : {M : Type 1} → statement M

@@ -32,7 +32,8 @@ returns c =
     let counted = count-read _ _ _ _ _ _ (w .next-word .ensures) (n .next-number .ensures) in
     let same = length-take-le _ _ (slice-relend-prefix-fill-signed n) in (
       signed-list-read _ _ _ _ _ counted _ same _ (f .fill-signed .ensures .0),
-      ap (λ words. words ++ drop (n .next-number .result .value) (s .args .into .now)) (signed-words-read _ _ _ _ _ counted _ same _ (f .fill-signed .ensures .1)),
+      ap (λ words. words ++ drop (n .next-number .result .value) (s .args .into .now))
+          (signed-words-read _ _ _ _ _ counted _ same _ (f .fill-signed .ensures .1)),
     )
 
 pub read-signed-list-spec : {M : Type 1} → statement M

@@ -8,7 +8,9 @@ use Rattle.journal.proofs.number.above_zero.Statement.{statement}
 use Rattle.journal.proofs.number.above_zero.Tie as tie
 
 returns : tie.Need-returns
-returns c = above-small _ _ (c .before .before .before .reading .given .1) _ (c .before .if1 .taken) (toZ-ofZ (sfits-of (c .difference .ok)) ∙ c .difference .ensures)
+returns c =
+    above-small _ _ (c .before .before .before .reading .given .1) _ (c .before .if1 .taken)
+    (toZ-ofZ (sfits-of (c .difference .ok)) ∙ c .difference .ensures)
 
 returns-2 : tie.Need-returns-2
 returns-2 c = above-large _ _ (c .before .before .reading .given .1) (omega arith)

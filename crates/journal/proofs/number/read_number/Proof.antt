@@ -10,12 +10,14 @@ use Rattle.numbers.specs.Bounded.{allBelow}
 use Rattle.numbers.proofs.TestLaws.{all-more}
 use Rattle.journal.specs.Token.{byteAt}
 use Rattle.journal.specs.Number.{digitsValue, numberIn}
-use Rattle.journal.proofs.NumberLaws.{digit-least, digit-most, digitAt, value-next, none-readable, no-digit, too-large, all-readable}
+use Rattle.journal.proofs.NumberLaws.{digit-least, digit-most, digitAt, value-next, none-readable, no-digit}
+use Rattle.journal.proofs.NumberLaws.{too-large, all-readable}
 use Rattle.journal.proofs.number.read_number.Statement.{statement}
 use Rattle.journal.proofs.number.read_number.Tie as tie
 
 abbrev Inv-loop : tie.InvT-loop
-Inv-loop text start end count value₀ j₀ value j = (j ≤ count) × (allBelow j (digitAt text start) ≡ true) × (value ≡ digitsValue j text start) × (value < 2 ^ 64)
+Inv-loop text start end count value₀ j₀ value j =
+    (j ≤ count) × (allBelow j (digitAt text start) ≡ true) × (value ≡ digitsValue j text start) × (value < 2 ^ 64)
 
 abbrev μ-loop : tie.MeasureT-loop
 μ-loop text start end count value₀ j₀ value j = count - j
@@ -36,7 +38,8 @@ unfolding numberIn
 returns-2 c =
     let l = c .before .before .before .before in
     let s = l .before .before .before .args in
-    rw (no-digit (s .text .now) (s .start) (s .end - s .start) (l .loop .j) (omega arith) (sym (c .before .is-digit .ensures) ∙ not-true _ (c .if2 .taken)))
+    rw (no-digit (s .text .now) (s .start) (s .end - s .start) (l .loop .j) (omega arith)
+    (sym (c .before .is-digit .ensures) ∙ not-true _ (c .if2 .taken)))
 
 -- the byte at hand is a digit
 module _ (c : tie.Else2 Inv-loop μ-loop) where
@@ -106,8 +109,13 @@ returns-4 c =
     let l = c .before in
     let s = l .before .before .before .args in
     let e : l .loop .j ≡ s .end - s .start = omega arith in
-    let value : l .loop .value ≡ digitsValue (s .end - s .start) (s .text .now) (s .start) = rw e at (l .loop .inv .2) in
-    rw (all-readable (s .text .now) (s .start) (s .end - s .start) (omega arith) (rw e at (l .loop .inv .1)) (rw (← value) (l .loop .inv .3)), value)
+    let value : l .loop .value ≡ digitsValue (s .end - s .start) (s .text .now) (s .start) = rw e at
+    (l .loop .inv .2) in
+    rw (
+      all-readable (s .text .now) (s .start) (s .end - s .start) (omega arith) (rw e at (l .loop .inv .1))
+          (rw (← value) (l .loop .inv .3)),
+      value,
+    )
 
 pub read-number-spec : {M : Type 1} → statement M
 read-number-spec =

@@ -14,13 +14,15 @@ returns : tie.Need-returns
 returns c =
     let r = c .before in
     let t = r .before in
-    c .below-zero .ensures ∙ ap belowZero (r .read-number .ensures) ∙ signed-minus _ _ _ (sym (t .before .is-minus .ensures) ∙ t .if1 .taken)
+    c .below-zero .ensures ∙ ap belowZero (r .read-number .ensures) ∙ signed-minus _ _ _
+    (sym (t .before .is-minus .ensures) ∙ t .if1 .taken)
 
 returns-2 : tie.Need-returns-2
 returns-2 c =
     let r = c .before in
     let t = r .before in
-    c .above-zero .ensures ∙ ap aboveZero (r .read-number2 .ensures) ∙ signed-plain _ _ _ (sym (t .before .is-minus .ensures) ∙ t .if1 .left)
+    c .above-zero .ensures ∙ ap aboveZero (r .read-number2 .ensures) ∙ signed-plain _ _ _
+    (sym (t .before .is-minus .ensures) ∙ t .if1 .left)
 
 pub read-signed-spec : {M : Type 1} → statement M
 read-signed-spec =

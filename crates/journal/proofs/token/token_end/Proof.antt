@@ -23,14 +23,16 @@ returns : tie.Need-returns Inv-loop μ-loop
 returns c =
     let l = c .before .before .before .before in
     let s = l .before .before in
-    sym (end-here (s .args .text .now) (l .loop .k) (length (s .args .text .now) - l .loop .k) (sym (c .before .ends-token .ensures) ∙ c .if1 .taken)) ∙ l .loop .inv .1
+    sym (end-here (s .args .text .now) (l .loop .k) (length (s .args .text .now) - l .loop .k)
+    (sym (c .before .ends-token .ensures) ∙ c .if1 .taken)) ∙ l .loop .inv .1
 
 loop-again : tie.Need-loop-again Inv-loop μ-loop
 loop-again c =
     let l = c .before .before .before .before in
     let s = l .before .before in (
       omega arith,
-      sym (end-on (s .args .text .now) (l .loop .k) (omega arith) (sym (c .before .ends-token .ensures) ∙ c .if1 .left)) ∙ l .loop .inv .1,
+      sym (end-on (s .args .text .now) (l .loop .k) (omega arith) (sym (c .before .ends-token .ensures) ∙ c .if1 .left))
+          ∙ l .loop .inv .1,
     )
 
 returns-2 : tie.Need-returns-2 Inv-loop μ-loop

@@ -11,7 +11,8 @@ use Rattle.journal.proofs.token.token_start.Statement.{statement}
 use Rattle.journal.proofs.token.token_start.Tie as tie
 
 abbrev Inv-loop : tie.InvT-loop
-Inv-loop text from comment₀ k₀ comment k = (k ≤ length text) × (startFrom (length text - k) comment text k ≡ tokenStart text from)
+Inv-loop text from comment₀ k₀ comment k =
+    (k ≤ length text) × (startFrom (length text - k) comment text k ≡ tokenStart text from)
 
 abbrev μ-loop : tie.MeasureT-loop
 μ-loop text from comment₀ k₀ comment k = length text - k
@@ -24,7 +25,8 @@ returns : tie.Need-returns Inv-loop μ-loop
 returns c =
     let l = c .before .before .before .before in
     let text = l .before .before .args .text .now in
-    sym (start-here text (l .loop .k) (l .loop .comment) (length text - l .loop .k) (sym (c .before .is-skipped .ensures) ∙ not-true _ (c .if1 .taken)))
+    sym (start-here text (l .loop .k) (l .loop .comment) (length text - l .loop .k)
+    (sym (c .before .is-skipped .ensures) ∙ not-true _ (c .if1 .taken)))
     ∙ l .loop .inv .1
 
 loop-again : tie.Need-loop-again Inv-loop μ-loop
@@ -33,7 +35,8 @@ loop-again c =
     let text = l .before .before .args .text .now in (
       omega arith,
       rw (c .comment-after .ensures)
-          (sym (start-on text (l .loop .k) (l .loop .comment) (omega arith) (sym (c .before .before .is-skipped .ensures) ∙ not-false _ (c .before .if1 .left)))
+          (sym (start-on text (l .loop .k) (l .loop .comment) (omega arith)
+          (sym (c .before .before .is-skipped .ensures) ∙ not-false _ (c .before .if1 .left)))
           ∙ l .loop .inv .1),
     )
 

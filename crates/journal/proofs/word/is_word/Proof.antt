@@ -32,7 +32,11 @@ returns-2 c =
     let l = c .before .before .before .before in
     let s = l .before .before .args in
     let word = s .word .now in
-    rw (eq-eqb _ _ (l .before .if1 .left), all-fails (length word) (sameByte (s .text .now) (s .start) word) (l .loop .k) (omega arith) (ne-eqb _ _ (c .if2 .taken)))
+    rw (
+      eq-eqb _ _ (l .before .if1 .left),
+      all-fails (length word) (sameByte (s .text .now) (s .start) word)
+          (l .loop .k) (omega arith) (ne-eqb _ _ (c .if2 .taken)),
+    )
 
 loop-again : tie.Need-loop-again Inv-loop μ-loop
 unfolding sameByte
@@ -40,7 +44,8 @@ loop-again c =
     let l = c .before .before .before .before in
     let s = l .before .before .args in (
       omega arith,
-      all-more (l .loop .k) (sameByte (s .text .now) (s .start) (s .word .now)) (l .loop .inv .1) (eq-eqb _ _ (c .if2 .left)),
+      all-more (l .loop .k) (sameByte (s .text .now) (s .start) (s .word .now)) (l .loop .inv .1)
+          (eq-eqb _ _ (c .if2 .left)),
     )
 
 returns-3 : tie.Need-returns-3 Inv-loop μ-loop

@@ -28,7 +28,9 @@ module _ (c : tie.Else1) where
   ledger = start .args .ledger
 
   abbrev call : FixingCall
-  call = fixingCallOf (start .args .numbers) (start .args .series .now) (start .args .lines .now) (start .args .sectors .now) (start .args .prices .now)
+  call =
+      fixingCallOf (start .args .numbers) (start .args .series .now) (start .args .lines .now)
+      (start .args .sectors .now) (start .args .prices .now)
 
   whole : sound ledger ≡ true
   whole = told-true (c .before .is-sound .ensures) (c .if1 .left)
@@ -48,7 +50,8 @@ module _ (c : tie.After-in-turn) where
   abbrev counted : tie.Else2
   counted = c .before .before .before
 
-  due : c .in-turn .result ≡ fixingTurn (anySettled (ledger (two (counted .before)))) (nextMonth (ledger (two (counted .before)))) (call (two (counted .before)) .input .numbers .month)
+  due : c .in-turn .result ≡ fixingTurn (anySettled (ledger (two (counted .before))))
+      (nextMonth (ledger (two (counted .before)))) (call (two (counted .before)) .input .numbers .month)
   due = rw (c .before .before .any-settled .ensures, c .before .next-month .ensures) at (c .in-turn .ensures)
 
 module _ (c : tie.Else3) where
@@ -62,7 +65,8 @@ module _ (c : tie.Else3) where
   turn = told-true (due (c .before)) (c .if3 .left)
 
   right : RightLengths (ledger from .n) (call from .input)
-  right = right-lengths (ledger from .n) (call from) (sound-some _ (whole from)) (sound-few _ (whole from)) (lengths three)
+  right =
+      right-lengths (ledger from .n) (call from) (sound-some _ (whole from)) (sound-few _ (whole from)) (lengths three)
 
   first : FirstPass 3 (fixingChecks (ledger from) (call from))
   unfolding FirstPass fixingChecks
@@ -72,7 +76,9 @@ returns : tie.Need-returns
 unfolding fixingChecks FirstPass
 returns c =
     let t = c .before in
-    fixed-refused _ _ Unsound (refused-unless 0 (fixingChecks _ _) 2 _ Unsound _ tt refl (told-false (t .before .is-sound .ensures) (t .if1 .taken))) _ (c .refused .ensures)
+    fixed-refused _ _ Unsound
+    (refused-unless 0 (fixingChecks _ _) 2 _ Unsound _ tt refl
+    (told-false (t .before .is-sound .ensures) (t .if1 .taken))) _ (c .refused .ensures)
 
 returns-2 : tie.Need-returns-2
 unfolding fixingChecks FirstPass
@@ -80,7 +86,8 @@ returns-2 c =
     let t = c .before in
     let e = two (t .before) in
     fixed-refused (ledger e) (call e) WrongLength
-    (refused-unless 1 (fixingChecks (ledger e) (call e)) 3 _ WrongLength _ (passes Unsound (whole e), tt) refl (told-false (told (t .before)) (t .if2 .taken))) _ (c .refused2 .ensures)
+    (refused-unless 1 (fixingChecks (ledger e) (call e)) 3 _ WrongLength _ (passes Unsound (whole e), tt) refl
+    (told-false (told (t .before)) (t .if2 .taken))) _ (c .refused2 .ensures)
 
 returns-3 : tie.Need-returns-3
 unfolding fixingChecks FirstPass
@@ -89,7 +96,9 @@ returns-3 c =
     let e = counted (t .before) in
     let s = two (e .before) in
     fixed-refused (ledger s) (call s) OutOfTurn
-    (refused-unless 2 (fixingChecks (ledger s) (call s)) 4 _ OutOfTurn _ (passes Unsound (whole s), (passes WrongLength (lengths e), tt)) refl (told-false (due (t .before)) (t .if3 .taken)))
+    (refused-unless 2 (fixingChecks (ledger s) (call s)) 4 _ OutOfTurn _
+    (passes Unsound (whole s), (passes WrongLength (lengths e), tt)) refl
+    (told-false (due (t .before)) (t .if3 .taken)))
     _ (c .refused3 .ensures)
 
 returns-4 : tie.Need-returns-4
@@ -98,7 +107,8 @@ returns-4 c =
     let g = v .before .before in
     let e = g .before in
     fixed-refused (ledger (from e)) (call (from e)) _
-    (verdict-left (ledger (from e)) (call (from e)) (first e) _ (g .fix-input .ensures .worked) ∙ v .verdict .given .1) _ (c .refused4 .ensures)
+    (verdict-left (ledger (from e)) (call (from e)) (first e) _ (g .fix-input .ensures .worked)
+    ∙ v .verdict .given .1) _ (c .refused4 .ensures)
 
 -- an input that passed
 module _ (c : tie.After-enum-told) where
@@ -118,7 +128,8 @@ write-prices-requires c κs =
       sound-few _ (whole (from e)),
       (
         prices-length b l (lengths (three e)),
-        prices-small _ _ (right e) (input-passes b l (first e) _ (g .fix-input .ensures .worked) (passed t)) _ (g .fix-input .ensures .worked),
+        prices-small _ _ (right e) (input-passes b l (first e) _ (g .fix-input .ensures .worked) (passed t)) _
+            (g .fix-input .ensures .worked),
       ),
     )
 

@@ -8,10 +8,12 @@ use Rattle.ledger.proofs.fix.price_part.Statement.{statement}
 use Rattle.ledger.proofs.fix.price_part.Tie as tie
 
 returns : tie.Need-returns
-returns c = rw (toZ-ofZ (sfits-of (c .difference .ok)), c .before .match .keys1) (c .difference .ensures ∙ pos-sub-zero _)
+returns c =
+    rw (toZ-ofZ (sfits-of (c .difference .ok)), c .before .match .keys1) (c .difference .ensures ∙ pos-sub-zero _)
 
 returns-2 : tie.Need-returns-2
-returns-2 c = rw (toZ-ofZ (sfits-of (c .difference2 .ok)), c .before .match .keys2) (c .difference2 .ensures ∙ pos-sub-zero _)
+returns-2 c =
+    rw (toZ-ofZ (sfits-of (c .difference2 .ok)), c .before .match .keys2) (c .difference2 .ensures ∙ pos-sub-zero _)
 
 returns-3 : tie.Need-returns-3
 returns-3 c =

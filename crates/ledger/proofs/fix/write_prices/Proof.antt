@@ -35,7 +35,8 @@ loop-again c =
     let l = c .before .before .before .before .before in
     let a = l .before .args in
     let i = l .loop .k / 3 in
-    let unread : toZ w64 (ofZ w64 (getD (a .t4) i (pos 0))) ≡ getD (a .t4) i (pos 0) = toZ-ofZ (sfits-of (c .before .charge .given)) in
+    let unread : toZ w64 (ofZ w64 (getD (a .t4) i (pos 0))) ≡ getD (a .t4) i (pos 0) = toZ-ofZ
+    (sfits-of (c .before .charge .given)) in
     written-more (l .loop .inv) (omega arith)
     (toZ-ofZ (sfits-of (c .price-part .ok)) ∙ c .price-part .ensures
     ∙ ap (λ (z : ℤ). pricePart (getD (a .t2) i noPrice .0) (getD (a .t3) i noPrice .0) z (l .loop .k % 3)) unread)

@@ -6,10 +6,12 @@ use Rattle.ledger.proofs.open.open.Statement.{statement}
 use Rattle.ledger.proofs.open.open.Tie as tie
 
 returns : tie.Need-returns
-returns c = opening-accepted _ _ (sym (c .before .before .is-between .ensures) ∙ c .before .if1 .taken) (c .empty .ensures)
+returns c =
+    opening-accepted _ _ (sym (c .before .before .is-between .ensures) ∙ c .before .if1 .taken) (c .empty .ensures)
 
 returns-2 : tie.Need-returns-2
-returns-2 c = opening-refused _ _ (sym (c .before .before .is-between .ensures) ∙ c .before .if1 .left) (c .empty2 .ensures)
+returns-2 c =
+    opening-refused _ _ (sym (c .before .before .is-between .ensures) ∙ c .before .if1 .left) (c .empty2 .ensures)
 
 pub open-spec : {M : Type 1} → statement M
 open-spec = tie.close (tie.spec

@@ -26,7 +26,9 @@ module _ (c : tie.Else1) where
   ledger = start .args .ledger
 
   abbrev call : SettlementCall
-  call = settlementCallOf (start .args .month) (start .args .readings .now) (start .args .losses .now) (start .args .transfers .now)
+  call =
+      settlementCallOf (start .args .month) (start .args .readings .now) (start .args .losses .now)
+      (start .args .transfers .now)
 
   whole : sound ledger ≡ true
   whole = told-true (c .before .is-sound .ensures) (c .if1 .left)
@@ -49,7 +51,8 @@ module _ (c : tie.After-in-turn) where
   abbrev kept : Ledger
   kept = ledger (two (counted .before))
 
-  due : c .in-turn .result ≡ settlementTurn (anySettled kept) (nextMonth kept) (kept .fixed) (kept .month) (call (two (counted .before)) .month)
+  due : c .in-turn .result ≡ settlementTurn (anySettled kept) (nextMonth kept) (kept .fixed) (kept .month)
+      (call (two (counted .before)) .month)
   due = rw (c .before .before .any-settled .ensures, c .before .next-month .ensures) at (c .in-turn .ensures)
 
 module _ (c : tie.Else3) where
@@ -59,14 +62,17 @@ module _ (c : tie.Else3) where
   abbrev from : tie.Else1
   from = two (three .before)
 
-  turn : settlementTurn (anySettled (ledger from)) (nextMonth (ledger from)) (ledger from .fixed) (ledger from .month) (call from .month) ≡ true
+  turn : settlementTurn (anySettled (ledger from)) (nextMonth (ledger from)) (ledger from .fixed) (ledger from .month)
+      (call from .month) ≡ true
   turn = told-true (due (c .before)) (c .if3 .left)
 
 returns : tie.Need-returns
 unfolding settlementChecks FirstPass
 returns c =
     let t = c .before in
-    month-refused _ _ Unsound (refused-unless 0 (settlementChecks _ _) 2 _ Unsound _ tt refl (told-false (t .before .is-sound .ensures) (t .if1 .taken))) _ (c .refused .ensures)
+    month-refused _ _ Unsound
+    (refused-unless 0 (settlementChecks _ _) 2 _ Unsound _ tt refl
+    (told-false (t .before .is-sound .ensures) (t .if1 .taken))) _ (c .refused .ensures)
 
 returns-2 : tie.Need-returns-2
 unfolding settlementChecks FirstPass
@@ -74,7 +80,8 @@ returns-2 c =
     let t = c .before in
     let s = two (t .before) in
     month-refused (ledger s) (call s) WrongLength
-    (refused-unless 1 (settlementChecks (ledger s) (call s)) 3 _ WrongLength _ (passes Unsound (whole s), tt) refl (told-false (told (t .before)) (t .if2 .taken)))
+    (refused-unless 1 (settlementChecks (ledger s) (call s)) 3 _ WrongLength _ (passes Unsound (whole s), tt) refl
+    (told-false (told (t .before)) (t .if2 .taken)))
     _ (c .refused2 .ensures)
 
 returns-3 : tie.Need-returns-3
@@ -83,7 +90,8 @@ returns-3 c =
     let e = counted (t .before) in
     let s = two (e .before) in
     month-refused (ledger s) (call s) OutOfTurn
-    (out-of-turn (ledger s) (call s) (whole s) (lengths e) (told-false (due (t .before)) (t .if3 .taken))) _ (c .refused3 .ensures)
+    (out-of-turn (ledger s) (call s) (whole s) (lengths e) (told-false (due (t .before)) (t .if3 .taken))) _
+    (c .refused3 .ensures)
 
 returns-4 : tie.Need-returns-4
 unfolding settlementChecks FirstPass
@@ -92,7 +100,8 @@ returns-4 c =
     let e = t .before in
     let s = from e in
     month-refused (ledger s) (call s) NoFixing
-    (refused-unless 3 (settlementChecks (ledger s) (call s)) 5 (ledger s .fixed) NoFixing _ (passes Unsound (whole s), (passes WrongLength (lengths (three e)), (passes OutOfTurn (turn e), tt))) refl
+    (refused-unless 3 (settlementChecks (ledger s) (call s)) 5 (ledger s .fixed) NoFixing _
+    (passes Unsound (whole s), (passes WrongLength (lengths (three e)), (passes OutOfTurn (turn e), tt))) refl
     (not-true _ (t .if4 .taken))) _ (c .refused4 .ensures)
 
 settle-month-requires : tie.Need-settle-month-requires

@@ -13,7 +13,8 @@ use Rattle.ledger.specs.Ledger.{billedUnder}
 use Rattle.ledger.specs.Settle.{SettlementCall, settlementCallOf, positionsOf, settlementChecks}
 use Rattle.ledger.specs.declared.ledger.Ledger.{Ledger}
 use Rattle.ledger.proofs.SoundLaws.{sound-few, sound-months, sound-balances}
-use Rattle.ledger.proofs.SettleLaws.{lists-due, transfers-length, first-due, billed-due, position-beyond, month-settled, month-refused}
+use Rattle.ledger.proofs.SettleLaws.{lists-due, transfers-length, first-due, billed-due, position-beyond}
+use Rattle.ledger.proofs.SettleLaws.{month-settled, month-refused}
 use borrow.Author.Needs.{needs}
 use Rattle.ledger.proofs.settle.settle_month.Statement.{statement}
 use Rattle.ledger.proofs.settle.settle_month.Tie as tie
@@ -35,7 +36,9 @@ module _ (c : tie.After-present2) where
   under = c .before .before .before .billed-under .ensures
 
 tested : (c : tie.After-billing-in-range) →
-    c .billing-in-range .result ≡ billingInRange (ledger (start (c .before)) .n) (billedUnder (ledger (start (c .before))) .present) (start (c .before) .args .readings .now) (start (c .before) .args .losses .now)
+    c .billing-in-range .result ≡ billingInRange (ledger (start (c .before)) .n)
+    (billedUnder (ledger (start (c .before))) .present) (start (c .before) .args .readings .now)
+    (start (c .before) .args .losses .now)
 tested c = rw (under (c .before)) at (c .billing-in-range .ensures)
 
 -- what is known where a check is passed
@@ -43,7 +46,8 @@ module _ (c : tie.Else1) where
   abbrev begun : tie.Start
   begun = start (c .before .before)
 
-  billed : billingInRange (ledger begun .n) (billedUnder (ledger begun) .present) (begun .args .readings .now) (begun .args .losses .now) ≡ true
+  billed : billingInRange (ledger begun .n) (billedUnder (ledger begun) .present) (begun .args .readings .now)
+      (begun .args .losses .now) ≡ true
   billed = told-true (tested (c .before)) (c .if1 .left)
 
 module _ (c : tie.After-positions) where
@@ -70,14 +74,18 @@ returns c =
     let t = c .before in
     let s = start (t .before .before) in
     month-refused (ledger s) (call s) WrongReading
-    (refused-unless 4 (settlementChecks (ledger s) (call s)) 12 _ WrongReading _ (first-due (ledger s) (call s) (s .pre)) refl (told-false (tested (t .before)) (t .if1 .taken)))
+    (refused-unless 4 (settlementChecks (ledger s) (call s)) 12 _ WrongReading _
+    (first-due (ledger s) (call s) (s .pre)) refl (told-false (tested (t .before)) (t .if1 .taken)))
     _ (c .refused .ensures)
 
 positions-requires : tie.Need-positions-requires
 positions-requires c κs =
     let e = c .before .before in
-    let s = begun e in
-    (sound-balances _ (s .pre .whole), rw (under (e .before .before)) (billed-due (ledger s) (call s) (s .pre) (billed e)))
+    let s = begun e in (
+      sound-balances _ (s .pre .whole),
+      rw (under (e .before .before))
+          (billed-due (ledger s) (call s) (s .pre) (billed e)),
+    )
 
 positions-in-range-requires : tie.Need-positions-in-range-requires
 positions-in-range-requires c κs = omega (arith, sound-few (ledger (begun (twelve c))) (begun (twelve c) .pre .whole))
@@ -88,7 +96,8 @@ returns-2 c =
     let p = t .before .before in
     let s = begun (twelve p) in
     month-refused (ledger s) (call s) PositionBeyond
-    (position-beyond (ledger s) (call s) (s .pre) (billed (twelve p)) _ (worked p) (told-false (t .before .positions-in-range .ensures) (t .if2 .taken)))
+    (position-beyond (ledger s) (call s) (s .pre) (billed (twelve p)) _ (worked p)
+    (told-false (t .before .positions-in-range .ensures) (t .if2 .taken)))
     _ (c .refused2 .ensures)
 
 settle-positions-requires : tie.Need-settle-positions-requires

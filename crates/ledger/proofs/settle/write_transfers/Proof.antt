@@ -18,7 +18,8 @@ loop-holds : tie.Need-loop-holds Inv-loop μ-loop
 loop-holds c = written-none _ _ _ (c .pre .1)
 
 loop-again : tie.Need-loop-again Inv-loop μ-loop
-loop-again c = written-more (c .before .before .before .loop .inv) (omega arith) (toZ-ofZ (sfits-of (c .struct-told .given .0 .1)))
+loop-again c =
+    written-more (c .before .before .before .loop .inv) (omega arith) (toZ-ofZ (sfits-of (c .struct-told .given .0 .1)))
 
 returns : tie.Need-returns Inv-loop μ-loop
 returns c = written-all (c .before .loop .inv) (omega arith)

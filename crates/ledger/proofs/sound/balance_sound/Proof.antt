@@ -18,7 +18,13 @@ within-size-requires c κs =
 
 returns : tie.Need-returns
 unfolding balanceTest
-returns c = rw (c .within-size .ensures, c .before .before .most-balance .ensures, toZ-ofZ (sfits-of (c .before .struct-told .given .0 .1)))
+returns c =
+    rw (
+      c .within-size .ensures,
+      c .before .before .most-balance .ensures,
+      toZ-ofZ
+          (sfits-of (c .before .struct-told .given .0 .1)),
+    )
 
 pub balance-sound-spec : {M : Type 1} → statement M
 balance-sound-spec = tie.close (tie.spec

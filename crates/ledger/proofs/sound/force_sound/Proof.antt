@@ -22,13 +22,15 @@ returns : tie.Need-returns Inv-loop μ-loop
 unfolding forceSound placeSound
 returns c =
     tested-fails (c .before .before .before .before .before .loop .inv) (omega arith)
-    (told-false (rw (toZ-ofZ (sfits-of (c .before .before .charge .given))) at (c .before .place-sound .ensures)) (c .if1 .taken))
+    (told-false (rw (toZ-ofZ (sfits-of (c .before .before .charge .given))) at (c .before .place-sound .ensures))
+    (c .if1 .taken))
 
 loop-again : tie.Need-loop-again Inv-loop μ-loop
 unfolding placeSound
 loop-again c =
     tested-more (c .before .before .before .before .before .loop .inv) (omega arith)
-    (told-true (rw (toZ-ofZ (sfits-of (c .before .before .charge .given))) at (c .before .place-sound .ensures)) (c .if1 .left))
+    (told-true (rw (toZ-ofZ (sfits-of (c .before .before .charge .given))) at (c .before .place-sound .ensures))
+    (c .if1 .left))
 
 returns-2 : tie.Need-returns-2 Inv-loop μ-loop
 unfolding forceSound

@@ -42,10 +42,12 @@ loop-again c =
     let l = c .before .before .before .before .before .before in
     let balances = l .before .args .t1 in
     let i = l .loop .i in
-    let unread : toZ w64 (ofZ w64 (moneyAt balances i)) ≡ moneyAt balances i = toZ-ofZ (sfits-of (c .struct-told2 .given .0 .1)) in (
+    let unread : toZ w64 (ofZ w64 (moneyAt balances i)) ≡ moneyAt balances i = toZ-ofZ
+    (sfits-of (c .struct-told2 .given .0 .1)) in (
       omega arith,
       ap₂ _||_ (l .loop .inv .1) (ap (ltZ (pos 0)) unread) ∙ sym (any-step i (isAbove balances)),
-      ap₂ _||_ (l .loop .inv .2) (ap (λ (z : ℤ). ltZ z (pos 0)) unread ∙ negative-is _) ∙ sym (any-step i (isBelow balances)),
+      ap₂ _||_ (l .loop .inv .2) (ap (λ (z : ℤ). ltZ z (pos 0)) unread ∙ negative-is _) ∙ sym
+          (any-step i (isBelow balances)),
     )
 
 returns : tie.Need-returns Inv-loop μ-loop

@@ -10,7 +10,9 @@ use Rattle.ledger.proofs.sound.unset_zero.Statement.{statement}
 use Rattle.ledger.proofs.sound.unset_zero.Tie as tie
 
 -- a fixing, or none of its parts
-unset : (c : tie.Joined1) → (c .before .args .fixed || (eqb (c .before .args .month) 0 && nothingPresent (c .before .args .force))) ≡ c .if1 .if3
+unset : (c : tie.Joined1) →
+    (c .before .args .fixed || (eqb (c .before .args .month) 0 && nothingPresent
+    (c .before .args .force))) ≡ c .if1 .if3
 unset c =
     ⊎-elim
     (λ w. rw (w .0 .taken) (sym (w .1 ∙ w .0 .taken)))

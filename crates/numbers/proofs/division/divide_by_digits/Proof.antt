@@ -8,7 +8,8 @@ use Rattle.numbers.proofs.division.divide_by_digits.Statement.{statemen
 use Rattle.numbers.proofs.division.divide_by_digits.Tie as tie
 
 abbrev Inv-loop : tie.InvT-loop
-Inv-loop a b m quotient₀ remainder₀ power₀ digits₀ quotient remainder power digits = (digits ≤ 8) × (power ≡ 128 ^ digits) × Part a m (b / power) quotient remainder
+Inv-loop a b m quotient₀ remainder₀ power₀ digits₀ quotient remainder power digits =
+    (digits ≤ 8) × (power ≡ 128 ^ digits) × Part a m (b / power) quotient remainder
 
 abbrev μ-loop : tie.MeasureT-loop
 μ-loop a b m quotient₀ remainder₀ power₀ digits₀ quotient remainder power digits = digits
@@ -23,7 +24,8 @@ module _ (c : tie.In-loop Inv-loop μ-loop) where
   lower : Down (l .loop .digits) (l .loop .power)
   lower = down _ _ (omega arith) (l .loop .inv .1)
 
-  part : Part (s .args .a) (s .args .m) (s .args .b / (l .loop .power / 128 * 128)) (l .loop .quotient) (l .loop .remainder)
+  part : Part (s .args .a) (s .args .m) (s .args .b / (l .loop .power / 128 * 128)) (l .loop .quotient)
+      (l .loop .remainder)
   part = rebase _ _ _ _ _ _ _ (lower .whole) (l .loop .inv .2)
 
   abbrev digit : ℕ

@@ -11,7 +11,8 @@ mul-product : tie.Need-mul-product
 mul-product c =
     let s = c .before .before in
     let small : s .args .a * s .args .b ≤ 4294967295 * 4294967295 =
-    mul-le-mul {n₂ = 4294967295} {m₂ = 4294967295} (omega arith) (omega (arith, ltb-true (s .args .b) 4294967296 (c .if2 .taken))) in
+    mul-le-mul {n₂ = 4294967295} {m₂ = 4294967295} (omega arith)
+    (omega (arith, ltb-true (s .args .b) 4294967296 (c .if2 .taken))) in
     omega arith
 
 pub multiply-divide-spec : {M : Type 1} → statement M

@@ -25,10 +25,18 @@ half-up-requires c κs = omega (arith, rw (unread (c .before)) at (c .magnitude 
 -- the rounded size
 module _ (c : tie.After-half-up) where
   rounded : c .half-up .result ≡ halfUp (natAbs (c .before .before .args .x)) (c .before .before .args .b)
-  rounded = c .half-up .ensures ∙ ap (λ m. halfUp m (c .before .before .args .b)) (rw (unread (c .before .before)) at (c .before .magnitude .ensures))
+  rounded =
+      c .half-up .ensures ∙ ap (λ m. halfUp m (c .before .before .args .b))
+      (rw (unread (c .before .before)) at (c .before .magnitude .ensures))
 
   small : c .half-up .result < 2 ^ 63
-  small = omega (arith, rounded, half-up-self (natAbs (c .before .before .args .x)) (c .before .before .args .b) (c .before .before .pre .0))
+  small =
+      omega (
+        arith,
+        rounded,
+        half-up-self (natAbs (c .before .before .args .x)) (c .before .before .args .b)
+            (c .before .before .pre .0),
+      )
 
 difference-requires : tie.Need-difference-requires
 difference-requires c κs = (omega arith, small (c .before .before))
@@ -41,14 +49,16 @@ returns c =
     let h = c .before .before .before in
     let s = h .before .before in
     toZ-ofZ (sfits-of (c .difference .ok)) ∙ c .difference .ensures ∙ ap (subℕ 0) (rounded h)
-    ∙ away-negative (s .args .x) (s .args .b) (sym (rw (unread s) at (c .before .before .is-negative .ensures)) ∙ c .before .if1 .taken)
+    ∙ away-negative (s .args .x) (s .args .b)
+    (sym (rw (unread s) at (c .before .before .is-negative .ensures)) ∙ c .before .if1 .taken)
 
 returns-2 : tie.Need-returns-2
 returns-2 c =
     let h = c .before .before .before in
     let s = h .before .before in
     toZ-ofZ (sfits-of (c .difference2 .ok)) ∙ c .difference2 .ensures ∙ ap (λ m. subℕ m 0) (rounded h)
-    ∙ away-positive (s .args .x) (s .args .b) (sym (rw (unread s) at (c .before .before .is-negative .ensures)) ∙ c .before .if1 .left)
+    ∙ away-positive (s .args .x) (s .args .b)
+    (sym (rw (unread s) at (c .before .before .is-negative .ensures)) ∙ c .before .if1 .left)
 
 pub half-away-spec : {M : Type 1} → statement M
 half-away-spec =

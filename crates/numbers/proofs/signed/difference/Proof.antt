@@ -9,7 +9,8 @@ sub-result : tie.Need-sub-result
 sub-result c = rw (sub-bits (c .args .p) (c .args .n) (c .pre .0) (c .pre .1)) (sub-fits _ _ (c .pre .0) (c .pre .1))
 
 returns : tie.Need-returns
-returns c = rw (sub-bits (c .args .p) (c .args .n) (c .pre .0) (c .pre .1)) (toZ-ofZ (sub-fits _ _ (c .pre .0) (c .pre .1)))
+returns c =
+    rw (sub-bits (c .args .p) (c .args .n) (c .pre .0) (c .pre .1)) (toZ-ofZ (sub-fits _ _ (c .pre .0) (c .pre .1)))
 
 pub difference-spec : {M : Type 1} → statement M
 difference-spec = tie.close (tie.spec

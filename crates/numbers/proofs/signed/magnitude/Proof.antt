@@ -23,8 +23,11 @@ cast-result c =
 
 cast-result-2 : tie.Need-cast-result-2
 cast-result-2 c =
-    rw (toZ-ofZ (c .before .fits .x))
-    (pos-size (c .before .args .x) (rw (toZ-ofZ (c .before .fits .x)) at (c .if1 .left)), fits-natAbs tt (c .before .fits .x))
+    rw (toZ-ofZ (c .before .fits .x)) (
+      pos-size (c .before .args .x) (rw (toZ-ofZ (c .before .fits .x)) at (c .if1 .left)),
+      fits-natAbs tt
+          (c .before .fits .x),
+    )
 
 returns : tie.Need-returns
 returns c =

@@ -19,7 +19,8 @@ module _ (c : tie.Start) where
   fits : SFits w64 (subℕ 0 (c .args .bound))
   fits = sub-fits 0 (c .args .bound) (omega arith) (c .pre)
 
-  test : leZ (toZ w64 (ofZ w64 (pos 0 -ℤ toZ w64 (c .args .bound)))) (toZ w64 (ofZ w64 (c .args .x))) ≡ leZ (subℕ 0 (c .args .bound)) (c .args .x)
+  test : leZ (toZ w64 (ofZ w64 (pos 0 -ℤ toZ w64 (c .args .bound)))) (toZ w64 (ofZ w64 (c .args .x))) ≡ leZ
+      (subℕ 0 (c .args .bound)) (c .args .x)
   test = ap₂ leZ (ap (λ z. toZ w64 (ofZ w64 z)) lower ∙ toZ-ofZ fits) (toZ-ofZ (c .fits .x))
 
 sub-if1 : tie.Need-sub-if1

@@ -33,9 +33,11 @@ module _ (c : tie.In-loop Inv-loop μ-loop) where
   abbrev k : ℕ
   k = c .before .loop .k
 
-  taken : getD (s .args .row .now) (s .args .month - s .args .lag - s .args .first - k) 0 ≡ termValue (s .args .row .now) (s .args .first) (s .args .month) (s .args .lag) k
+  taken : getD (s .args .row .now) (s .args .month - s .args .lag - s .args .first - k) 0 ≡ termValue
+      (s .args .row .now) (s .args .first) (s .args .month) (s .args .lag) k
   taken =
-      window-inside (s .args .row .now) (s .args .first) (s .args .month) (s .args .lag) (s .args .window) (s .pre .1 .some) k (omega arith)
+      window-inside (s .args .row .now) (s .args .first) (s .args .month) (s .args .lag) (s .args .window)
+      (s .pre .1 .some) k (omega arith)
       (omega arith) (omega arith)
 
 -- the sum at the loop's head
@@ -52,12 +54,14 @@ sum-most l =
 returns : tie.Need-returns Inv-loop μ-loop
 returns c =
     let s = c .before in
-    sym (mean-missing (s .args .row .now) _ _ _ _ (window-before (s .args .row .now) _ _ _ _ (s .pre .1 .some) (omega arith)))
+    sym (mean-missing (s .args .row .now) _ _ _ _
+    (window-before (s .args .row .now) _ _ _ _ (s .pre .1 .some) (omega arith)))
 
 returns-2 : tie.Need-returns-2 Inv-loop μ-loop
 returns-2 c =
     let s = c .before .before in
-    sym (mean-missing (s .args .row .now) _ _ _ _ (window-past (s .args .row .now) _ _ _ _ (s .pre .1 .some) (omega arith) (omega arith) (omega arith)))
+    sym (mean-missing (s .args .row .now) _ _ _ _
+    (window-past (s .args .row .now) _ _ _ _ (s .pre .1 .some) (omega arith) (omega arith) (omega arith)))
 
 loop-holds : tie.Need-loop-holds Inv-loop μ-loop
 unfolding anyBelow sumBelow
@@ -77,7 +81,13 @@ add-sum : tie.Need-add-sum Inv-loop μ-loop
 add-sum c =
     let i = c .before .before in
     let a = s i .args in
-    omega (arith, taken i, value-most (a .row .now) (s i .pre .0) (a .first) (a .month) (a .lag) (k i), sum-most (i .before))
+    omega (
+      arith,
+      taken i,
+      value-most (a .row .now) (s i .pre .0) (a .first) (a .month) (a .lag) (k i),
+      sum-most
+          (i .before),
+    )
 
 loop-again : tie.Need-loop-again Inv-loop μ-loop
 loop-again c =
@@ -90,7 +100,8 @@ loop-again c =
     )
 
 half-up-requires : tie.Need-half-up-requires Inv-loop μ-loop
-half-up-requires c κs = let s = c .before .before .before .before in omega (arith, s .pre .1 .some, s .pre .1 .few, sum-most (c .before))
+half-up-requires c κs =
+    let s = c .before .before .before .before in omega (arith, s .pre .1 .some, s .pre .1 .few, sum-most (c .before))
 
 returns-4 : tie.Need-returns-4 Inv-loop μ-loop
 unfolding windowMissing windowMean meanOf
@@ -107,7 +118,8 @@ mean-spec =
     (tie.spec
     Inv-loop
     μ-loop
-    (λ c. omega (arith, c .pre .1 .start, c .pre .1 .lagged)) (λ c. omega (arith, c .pre .1 .start, c .pre .1 .lagged, c .pre .1 .few))
+    (λ c. omega (arith, c .pre .1 .start, c .pre .1 .lagged))
+    (λ c. omega (arith, c .pre .1 .start, c .pre .1 .lagged, c .pre .1 .few))
     (λ c. omega (arith, c .pre .1 .some))
     returns
     (λ c. omega (arith, c .before .pre .1 .some)) (λ c. omega (arith, c .before .pre .1 .some))

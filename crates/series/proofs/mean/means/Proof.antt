@@ -41,7 +41,8 @@ loop-again c =
     let s = l .before in
     written-more (l .loop .inv) (omega arith)
     (c .mean .ensures
-    ∙ ap (meanOrZero (getD (s .args .t1) (l .loop .place / 36) []) (s .args .first) (s .args .month) (l .loop .place / 3 % 12 + 1)) (c .before .before .window-of .ensures))
+    ∙ ap (meanOrZero (getD (s .args .t1) (l .loop .place / 36) []) (s .args .first) (s .args .month)
+    (l .loop .place / 3 % 12 + 1)) (c .before .before .window-of .ensures))
 
 returns : tie.Need-returns Inv-loop μ-loop
 unfolding meanList

@@ -22,7 +22,8 @@ abbrev sector : List ℤ → List ℕ → List ℕ → ℕ → ℕ → ℤ
 sector charges readings losses i s = chargeAt charges i s *ℤ energyWithLosses readings losses i s
 
 abbrev Inv-loop : tie.InvT-loop
-Inv-loop n charges readings losses i sum₀ s₀ sum s = (s ≤ 8) × (sum ≡ ofZ w64 (signedSumBelow s (sector charges readings losses i)))
+Inv-loop n charges readings losses i sum₀ s₀ sum s =
+    (s ≤ 8) × (sum ≡ ofZ w64 (signedSumBelow s (sector charges readings losses i)))
 
 abbrev μ-loop : tie.MeasureT-loop
 μ-loop n charges readings losses i sum₀ s₀ sum s = 8 - s
@@ -37,11 +38,14 @@ module _ (d : tie.Start Inv-loop μ-loop) where
       size-fits (f s)
       (omega (
         arith,
-        sector-amount (d .args .charges .now) _ _ _ (d .pre .0 .billed .facts (d .args .i) (d .pre .1)) (λ k. d .pre .0 .bounded (d .args .i) k (d .pre .1)) s p,
+        sector-amount (d .args .charges .now) _ _ _ (d .pre .0 .billed .facts (d .args .i) (d .pre .1))
+            (λ k. d .pre .0 .bounded (d .args .i) k (d .pre .1)) s p,
       ))
 
   size : (s : ℕ) → s ≤ 8 → natAbs (signedSumBelow s f) ≤ 1008000000000000000
-  size = sectors-amount (d .args .charges .now) _ _ _ (d .pre .0 .billed .facts (d .args .i) (d .pre .1)) (λ k. d .pre .0 .bounded (d .args .i) k (d .pre .1))
+  size =
+      sectors-amount (d .args .charges .now) _ _ _ (d .pre .0 .billed .facts (d .args .i) (d .pre .1))
+      (λ k. d .pre .0 .bounded (d .args .i) k (d .pre .1))
 
   all : (s : ℕ) → s ≤ 8 → SFits w64 (signedSumBelow s f)
   all s p = size-fits (signedSumBelow s f) (omega (arith, size s p))
@@ -65,8 +69,12 @@ module _ (c : tie.After-energy-with-losses Inv-loop μ-loop) where
       product-bits charge (c .energy-with-losses .result) charge _ (sfits-of (c .before .charge .given))
       (sfits-of (c .energy-with-losses .ok)) refl (c .energy-with-losses .ensures)
 
-  next : toZ w64 (l .loop .sum) +ℤ toZ w64 (ofZ w64 (toZ w64 (ofZ w64 charge) *ℤ toZ w64 (ofZ w64 (c .energy-with-losses .result)))) ≡ signedSumBelow (l .loop .s + 1) (f d)
-  next = next-bits (l .loop .sum) (l .loop .s) (f d) _ (l .loop .inv .1) product (all d (l .loop .s) (omega arith)) (one d (l .loop .s) under)
+  next : toZ w64 (l .loop .sum) +ℤ toZ w64
+      (ofZ w64 (toZ w64 (ofZ w64 charge) *ℤ toZ w64 (ofZ w64 (c .energy-with-losses .result)))) ≡ signedSumBelow
+      (l .loop .s + 1) (f d)
+  next =
+      next-bits (l .loop .sum) (l .loop .s) (f d) _ (l .loop .inv .1) product (all d (l .loop .s) (omega arith))
+      (one d (l .loop .s) under)
 
 -- all sectors
 module _ (c : tie.After-loop Inv-loop μ-loop) where
@@ -76,7 +84,8 @@ module _ (c : tie.After-loop Inv-loop μ-loop) where
   whole : toZ w64 (c .before .loop .sum) ≡ signedSumBelow 8 (f e)
   whole =
       let end : c .before .loop .s ≡ 8 = omega arith in
-      ap (toZ w64) (c .before .loop .inv .1) ∙ toZ-ofZ (all e (c .before .loop .s) (omega arith)) ∙ ap (λ k. signedSumBelow k (f e)) end
+      ap (toZ w64) (c .before .loop .inv .1) ∙ toZ-ofZ (all e (c .before .loop .s) (omega arith))
+      ∙ ap (λ k. signedSumBelow k (f e)) end
 
 loop-holds : tie.Need-loop-holds Inv-loop μ-loop
 unfolding signedSumBelow

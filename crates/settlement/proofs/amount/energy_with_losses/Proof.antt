@@ -25,7 +25,8 @@ facts : (s : tie.Start) → BillingFacts (s .args .readings .now) (s .args .loss
 facts s = s .pre .0 .facts (s .args .i) (s .pre .1 .0)
 
 -- a reading fits
-small : (s : tie.Start) (k reading : ℕ) → k < 4 → reading ≡ readingOf (s .args .readings .now) (s .args .i) (s .args .s) k → reading < 2 ^ 63
+small : (s : tie.Start) (k reading : ℕ) → k < 4 →
+    reading ≡ readingOf (s .args .readings .now) (s .args .i) (s .args .s) k → reading < 2 ^ 63
 small s k reading p e = omega (arith, facts s .reading (s .args .s) k (s .pre .1 .1) p)
 
 -- the loss factors
@@ -57,7 +58,9 @@ module _ (c : tie.After-difference3) where
   highCode = back (n .difference .result) *ℤ back (c .difference3 .result)
 
   abbrev highPart : ℤ
-  highPart = highNet (d .args .readings .now) (d .args .i) (d .args .s) *ℤ pos (highLossOf (d .args .losses .now) (d .args .i) * 10000)
+  highPart =
+      highNet (d .args .readings .now) (d .args .i) (d .args .s) *ℤ pos
+      (highLossOf (d .args .losses .now) (d .args .i) * 10000)
 
   high : highCode ≡ highPart
   unfolding highNet
@@ -82,14 +85,17 @@ module _ (c : tie.After-difference4) where
   lowCode = back (m .difference2 .result) *ℤ back (c .difference4 .result)
 
   abbrev lowPart : ℤ
-  lowPart = lowNet (b .args .readings .now) (b .args .i) (b .args .s) *ℤ pos (highLossOf (b .args .losses .now) (b .args .i) * lowLossOf (b .args .losses .now) (b .args .i))
+  lowPart =
+      lowNet (b .args .readings .now) (b .args .i) (b .args .s) *ℤ pos
+      (highLossOf (b .args .losses .now) (b .args .i) * lowLossOf (b .args .losses .now) (b .args .i))
 
   low : lowCode ≡ lowPart
   unfolding lowNet
   low =
       product-bits _ _ _ _ (sfits-of (m .difference2 .ok)) (sfits-of (c .difference4 .ok))
       (m .difference2 .ensures ∙ ap₂ subℕ (m .before .before .reading3 .ensures) (m .before .reading4 .ensures))
-      (c .difference4 .ensures ∙ pos-sub-zero _ ∙ ap₂ (λ x y. pos (x * y)) (highLoss (c .before .before)) (lowLoss (c .before .before)))
+      (c .difference4 .ensures ∙ pos-sub-zero _ ∙ ap₂ (λ x y. pos (x * y)) (highLoss (c .before .before))
+      (lowLoss (c .before .before)))
 
   lowFits : SFits w64 lowCode
   lowFits =

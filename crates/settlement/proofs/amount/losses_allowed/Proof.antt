@@ -13,7 +13,8 @@ unfolding lossesAllowed
 returns c =
     let a = c .before .before .before .before .before .args in
     ap₂ _&&_
-    (c .before .before .is-between .ensures ∙ ap (between 10000 20000) (c .before .before .before .loss .ensures ∙ high-first (a .losses .now) (a .i)))
+    (c .before .before .is-between .ensures ∙ ap (between 10000 20000)
+    (c .before .before .before .loss .ensures ∙ high-first (a .losses .now) (a .i)))
     (c .is-between2 .ensures ∙ ap (between 10000 20000) (c .before .loss2 .ensures))
 
 pub losses-allowed-spec : {M : Type 1} → statement M

@@ -20,11 +20,13 @@ loop-holds c = tested-none _ _
 returns : tie.Need-returns Inv-loop μ-loop
 unfolding readingsAllowed
 returns c =
-    tested-fails (c .before .before .before .loop .inv) (omega arith) (told-false (c .before .sector-allowed .ensures) (c .if1 .taken))
+    tested-fails (c .before .before .before .loop .inv) (omega arith)
+    (told-false (c .before .sector-allowed .ensures) (c .if1 .taken))
 
 loop-again : tie.Need-loop-again Inv-loop μ-loop
 loop-again c =
-    tested-more (c .before .before .before .loop .inv) (omega arith) (told-true (c .before .sector-allowed .ensures) (c .if1 .left))
+    tested-more (c .before .before .before .loop .inv) (omega arith)
+    (told-true (c .before .sector-allowed .ensures) (c .if1 .left))
 
 returns-2 : tie.Need-returns-2 Inv-loop μ-loop
 unfolding readingsAllowed

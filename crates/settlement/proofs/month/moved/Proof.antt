@@ -16,7 +16,9 @@ use native.Mathlib.Omega.{arith}
 use borrow.Author.Needs.{sfits-of}
 
 abbrev Inv-loop : tie.InvT-loop
-Inv-loop n paid received positions balances₀ transfers₀ i₀ balances transfers i = (i ≤ n) × (balances ≡ moneyBelow i (λ j. moneyAt positions j +ℤ subℕ (getD received j 0) (getD paid j 0))) × (transfers ≡ moneyBelow i (λ j. subℕ (getD received j 0) (getD paid j 0)))
+Inv-loop n paid received positions balances₀ transfers₀ i₀ balances transfers i =
+    (i ≤ n) × (balances ≡ moneyBelow i (λ j. moneyAt positions j +ℤ subℕ (getD received j 0) (getD paid j 0))) ×
+    (transfers ≡ moneyBelow i (λ j. subℕ (getD received j 0) (getD paid j 0)))
 
 abbrev μ-loop : tie.MeasureT-loop
 μ-loop n paid received positions balances₀ transfers₀ i₀ balances transfers i = n - i
@@ -36,17 +38,24 @@ module _ (c : tie.After-struct-told Inv-loop μ-loop) where
   balance j = moneyAt (s .args .t2) j +ℤ transfer j
 
   abbrev code : ℤ
-  code = toZ w64 (ofZ w64 (moneyAt (s .args .t2) (l .loop .i))) +ℤ toZ w64 (ofZ w64 (c .before .before .difference .result))
+  code =
+      toZ w64 (ofZ w64 (moneyAt (s .args .t2) (l .loop .i))) +ℤ toZ w64
+      (ofZ w64 (c .before .before .difference .result))
 
   sum : code ≡ balance (l .loop .i)
   sum =
-      sum-bits (moneyAt (s .args .t2) (l .loop .i)) _ _ _ (sfits-of (c .struct-told .given .0 .1)) (sfits-of (c .before .before .difference .ok))
+      sum-bits (moneyAt (s .args .t2) (l .loop .i)) _ _ _ (sfits-of (c .struct-told .given .0 .1))
+      (sfits-of (c .before .before .difference .ok))
       refl (c .before .before .difference .ensures)
 
   fits : SFits w64 code
   fits =
       is-fits code (balance (l .loop .i)) sum
-      (omega (arith, moved-size (s .args .n) (s .args .t2) (s .args .paid .now) (s .args .received .now) (s .pre .0) (s .pre .1 .0) (s .pre .1 .1) (l .loop .i) (omega arith)))
+      (omega (
+        arith,
+        moved-size (s .args .n) (s .args .t2) (s .args .paid .now) (s .args .received .now) (s .pre .0)
+            (s .pre .1 .0) (s .pre .1 .1) (l .loop .i) (omega arith),
+      ))
 
 loop-holds : tie.Need-loop-holds Inv-loop μ-loop
 loop-holds c = (omega arith, money-none _, money-none _)
@@ -63,7 +72,8 @@ add-t24 c = fits c
 loop-again : tie.Need-loop-again Inv-loop μ-loop
 loop-again c = (
   omega arith,
-  money-next (balance c) (l c .loop .i) (l c .loop .balances) _ (omega arith) (l c .loop .inv .1) (toZ-ofZ (fits c) ∙ sum c),
+  money-next (balance c) (l c .loop .i) (l c .loop .balances) _ (omega arith) (l c .loop .inv .1)
+      (toZ-ofZ (fits c) ∙ sum c),
   money-next (transfer c) (l c .loop .i) (l c .loop .transfers) _ (omega arith) (l c .loop .inv .2)
       (toZ-ofZ (sfits-of (c .before .before .difference .ok)) ∙ c .before .before .difference .ensures),
 )
@@ -72,7 +82,8 @@ returns : tie.Need-returns Inv-loop μ-loop
 unfolding movedMonth
 returns c =
     let e : c .before .loop .i ≡ c .before .before .args .n = omega arith in
-    ap₂ {C = SettledMonth} (λ b t. record { balances = b; transfers = t }) (rw e at (c .before .loop .inv .1)) (rw e at (c .before .loop .inv .2))
+    ap₂ {C = SettledMonth} (λ b t. record { balances = b; transfers = t }) (rw e at (c .before .loop .inv .1))
+    (rw e at (c .before .loop .inv .2))
 
 pub moved-spec : {M : Type 1} → statement M
 moved-spec =

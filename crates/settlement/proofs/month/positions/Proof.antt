@@ -17,7 +17,8 @@ use native.Mathlib.Omega.{arith}
 use borrow.Author.Needs.{needs, sfits-of}
 
 abbrev Inv-loop : tie.InvT-loop
-Inv-loop n charges readings losses balances positions₀ i₀ positions i = (i ≤ n) × (positions ≡ moneyBelow i (positionOf (moneyAt balances) (collectedAmount charges readings losses)))
+Inv-loop n charges readings losses balances positions₀ i₀ positions i =
+    (i ≤ n) × (positions ≡ moneyBelow i (positionOf (moneyAt balances) (collectedAmount charges readings losses)))
 
 abbrev μ-loop : tie.MeasureT-loop
 μ-loop n charges readings losses balances positions₀ i₀ positions i = n - i
@@ -31,21 +32,30 @@ module _ (c : tie.After-struct-told2 Inv-loop μ-loop) where
   s = l .before .before .before
 
   abbrev code : ℤ
-  code = toZ w64 (ofZ w64 (moneyAt (s .args .t2) (l .loop .i))) +ℤ toZ w64 (ofZ w64 (c .before .before .before .before .collected-amount .result .0))
+  code =
+      toZ w64 (ofZ w64 (moneyAt (s .args .t2) (l .loop .i))) +ℤ toZ w64
+      (ofZ w64 (c .before .before .before .before .collected-amount .result .0))
 
   abbrev position : ℕ → ℤ
-  position = positionOf (moneyAt (s .args .t2)) (collectedAmount (s .args .charges .now) (s .args .readings .now) (s .args .losses .now))
+  position =
+      positionOf (moneyAt (s .args .t2))
+      (collectedAmount (s .args .charges .now) (s .args .readings .now) (s .args .losses .now))
 
   sum : code ≡ position (l .loop .i)
   unfolding positionOf
   sum =
-      sum-bits (moneyAt (s .args .t2) (l .loop .i)) _ _ _ (sfits-of (c .before .before .struct-told .given .0 .1)) (sfits-of (c .struct-told2 .given .0 .1))
+      sum-bits (moneyAt (s .args .t2) (l .loop .i)) _ _ _ (sfits-of (c .before .before .struct-told .given .0 .1))
+      (sfits-of (c .struct-told2 .given .0 .1))
       refl (ap (λ (m : Pesos). m .0) (c .before .before .before .before .collected-amount .ensures))
 
   fits : SFits w64 code
   fits =
       is-fits code (position (l .loop .i)) sum
-      (omega (arith, position-size (s .args .n) (s .args .t2) (s .args .charges .now) _ _ (s .pre .0) (s .pre .1) (l .loop .i) (omega arith)))
+      (omega (
+        arith,
+        position-size (s .args .n) (s .args .t2) (s .args .charges .now) _ _ (s .pre .0) (s .pre .1)
+            (l .loop .i) (omega arith),
+      ))
 
 loop-holds : tie.Need-loop-holds Inv-loop μ-loop
 loop-holds c = (omega arith, money-none _)
@@ -56,7 +66,8 @@ add-t17 c = fits c
 loop-again : tie.Need-loop-again Inv-loop μ-loop
 loop-again c = (
   omega arith,
-  money-next (position c) (l c .loop .i) (l c .loop .positions) _ (omega arith) (l c .loop .inv .1) (toZ-ofZ (fits c) ∙ sum c),
+  money-next (position c) (l c .loop .i) (l c .loop .positions) _ (omega arith) (l c .loop .inv .1)
+      (toZ-ofZ (fits c) ∙ sum c),
 )
 
 returns : tie.Need-returns Inv-loop μ-loop

@@ -24,12 +24,14 @@ returns : tie.Need-returns Inv-loop μ-loop
 unfolding positionsInRange
 returns c =
     tested-fails (c .before .before .before .before .before .loop .inv) (omega arith)
-    (told-false (rw (toZ-ofZ (sfits-of (c .before .before .struct-told .given .0 .1))) at (c .before .within-size .ensures)) (c .if1 .taken))
+    (told-false (rw (toZ-ofZ (sfits-of (c .before .before .struct-told .given .0 .1))) at
+    (c .before .within-size .ensures)) (c .if1 .taken))
 
 loop-again : tie.Need-loop-again Inv-loop μ-loop
 loop-again c =
     tested-more (c .before .before .before .before .before .loop .inv) (omega arith)
-    (told-true (rw (toZ-ofZ (sfits-of (c .before .before .struct-told .given .0 .1))) at (c .before .within-size .ensures)) (c .if1 .left))
+    (told-true (rw (toZ-ofZ (sfits-of (c .before .before .struct-told .given .0 .1))) at
+    (c .before .within-size .ensures)) (c .if1 .left))
 
 returns-2 : tie.Need-returns-2 Inv-loop μ-loop
 unfolding positionsInRange

@@ -46,7 +46,8 @@ module _ (c : tie.Joined1) where
   owingTotal : t .before .before .side-total .result ≡ sideTotal n (owing position)
   unfolding sideSize
   owingTotal =
-      sizes-total n (s d .pre .few) (sideSize false position) _ _ (d .before .side-sizes .ensures) (t .before .before .side-total .ensures)
+      sizes-total n (s d .pre .few) (sideSize false position) _ _ (d .before .side-sizes .ensures)
+      (t .before .before .side-total .ensures)
 
   owedTotal : t .side-total2 .result ≡ sideTotal n (owed position)
   unfolding sideSize
@@ -55,7 +56,8 @@ module _ (c : tie.Joined1) where
 
   smaller : c .if1 .transferred ≡ transferred n position
   unfolding transferred
-  smaller = ⊎-elim (λ w. omega (arith, owingTotal, owedTotal)) (λ w. omega (arith, owingTotal, owedTotal)) (c .if1 .came)
+  smaller =
+      ⊎-elim (λ w. omega (arith, owingTotal, owedTotal)) (λ w. omega (arith, owingTotal, owedTotal)) (c .if1 .came)
 
 side-total-requires : tie.Need-side-total-requires
 side-total-requires c κs = owingSide (c .before)
@@ -64,7 +66,8 @@ side-total-requires-2 : tie.Need-side-total-requires-2
 side-total-requires-2 c κs = owedSide (c .before .before .before)
 
 -- the shares' totals
-owingEnough : (c : tie.Joined1) → c .if1 .transferred ≤ sideTotal (n c) (λ i. getD (d c .before .side-sizes .result) i 0)
+owingEnough : (c : tie.Joined1) →
+    c .if1 .transferred ≤ sideTotal (n c) (λ i. getD (d c .before .side-sizes .result) i 0)
 owingEnough c = omega (arith, t c .before .before .side-total .ensures, least c)
 
 owedEnough : (c : tie.Joined1) → c .if1 .transferred ≤ sideTotal (n c) (λ i. getD (d c .side-sizes2 .result) i 0)
@@ -93,7 +96,8 @@ returns c =
     let r = c .before .before .before in
     let p = r .before .before in
     let j = p .before .before in
-    let e : c .moved .result ≡ movedMonth (n j) (s (d j) .args .positions) (p .shares .result) (r .shares2 .result) = c .moved .ensures in
+    let e : c .moved .result ≡ movedMonth (n j) (s (d j) .args .positions) (p .shares .result)
+    (r .shares2 .result) = c .moved .ensures in
     e
     ∙ ap₂ (movedMonth (n j) (s (d j) .args .positions))
     (p .shares .ensures ∙ ap₂ (shareList (n j)) (d j .before .side-sizes .ensures) (smaller j))

@@ -18,7 +18,8 @@ use native.Mathlib.Omega.{arith}
 use borrow.Author.Needs.{needs, sfits-of}
 
 abbrev Inv-loop : tie.InvT-loop
-Inv-loop n negative positions sizes₀ i₀ sizes i = (i ≤ n) × (sizes ≡ sizesBelow i (sideSize negative (moneyAt positions)))
+Inv-loop n negative positions sizes₀ i₀ sizes i =
+    (i ≤ n) × (sizes ≡ sizesBelow i (sideSize negative (moneyAt positions)))
 
 abbrev μ-loop : tie.MeasureT-loop
 μ-loop n negative positions sizes₀ i₀ sizes i = n - i
@@ -50,7 +51,8 @@ loop-holds c = (omega arith, filled-none 40 0 _)
 magnitude-requires : tie.Need-magnitude-requires Inv-loop μ-loop
 magnitude-requires c κs =
     let l = c .before .before .before .before .before .before in
-    rw (toZ-ofZ (sfits-of (c .struct-told2 .given .0 .1))) (omega (arith, l .before .pre .within (l .loop .i) (omega arith)))
+    rw (toZ-ofZ (sfits-of (c .struct-told2 .given .0 .1)))
+    (omega (arith, l .before .pre .within (l .loop .i) (omega arith)))
 
 loop-again : tie.Need-loop-again Inv-loop μ-loop
 unfolding sizesBelow sideSize owing owed

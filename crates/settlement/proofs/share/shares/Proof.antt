@@ -1,4 +1,5 @@
--- The invariant: the shares of those passed are written; running is the total of their sizes, before that of their shares.
+-- The invariant: the shares of those passed are written; running is the total of their sizes, before that of their
+-- shares.
 use mathlib.Core.Path.{_≡_, refl, sym, _∙_, ap, ap₂}
 use Prim.Native.Nat.{ℕ, _≤_, _-_, _+_, _*_, _/_}
 use lib.ListN.{getD}
@@ -15,7 +16,9 @@ use Rattle.settlement.proofs.share.shares.Tie as tie
 use native.Mathlib.Omega.{arith}
 
 abbrev Inv-loop : tie.InvT-loop
-Inv-loop n sizes transferred total shares₀ running₀ before₀ i₀ shares running before i = (i ≤ n) × (shares ≡ filledBelow 40 0 i (share n (λ j. getD sizes j 0) transferred)) × (running ≡ sumBelow i (λ j. getD sizes j 0)) × (before ≡ sharedBefore n (λ j. getD sizes j 0) transferred i)
+Inv-loop n sizes transferred total shares₀ running₀ before₀ i₀ shares running before i =
+    (i ≤ n) × (shares ≡ filledBelow 40 0 i (share n (λ j. getD sizes j 0) transferred)) ×
+    (running ≡ sumBelow i (λ j. getD sizes j 0)) × (before ≡ sharedBefore n (λ j. getD sizes j 0) transferred i)
 
 abbrev μ-loop : tie.MeasureT-loop
 μ-loop n sizes transferred total shares₀ running₀ before₀ i₀ shares running before i = n - i
@@ -49,13 +52,15 @@ module _ (c : tie.After-multiply-divide Inv-loop μ-loop) where
   abbrev r : tie.After-running Inv-loop μ-loop
   r = c .before
 
-  shared : c .multiply-divide .result .quotient ≡ sharedBefore (s r .args .n) (size r) (s r .args .transferred) (l r .loop .i + 1)
+  shared : c .multiply-divide .result .quotient ≡ sharedBefore (s r .args .n) (size r) (s r .args .transferred)
+      (l r .loop .i + 1)
   shared =
       ap (λ (d : Division). d .quotient) (c .multiply-divide .ensures)
       ∙ ap₂ (λ x y. s r .args .transferred * (x + size r (l r .loop .i)) / y) (l r .loop .inv .2) (total r)
       ∙ sym (before-next (s r .args .n) (size r) (s r .args .transferred) (s r .pre .1) (l r .loop .i))
 
-  up : sharedBefore (s r .args .n) (size r) (s r .args .transferred) (l r .loop .i) ≤ sharedBefore (s r .args .n) (size r) (s r .args .transferred) (l r .loop .i + 1)
+  up : sharedBefore (s r .args .n) (size r) (s r .args .transferred) (l r .loop .i) ≤ sharedBefore (s r .args .n)
+      (size r) (s r .args .transferred) (l r .loop .i + 1)
   up = before-up (s r .args .n) (size r) (s r .args .transferred) (s r .pre .1) (l r .loop .i) (omega arith)
 
 side-total-requires : tie.Need-side-total-requires Inv-loop μ-loop
@@ -64,7 +69,8 @@ side-total-requires c κs = c .pre .0
 returns : tie.Need-returns Inv-loop μ-loop
 returns c =
     let s = c .before .before in
-    shares-none (s .args .n) (s .args .sizes .now) (s .args .transferred) (sym (c .before .side-total .ensures) ∙ c .if1 .taken)
+    shares-none (s .args .n) (s .args .sizes .now) (s .args .transferred)
+    (sym (c .before .side-total .ensures) ∙ c .if1 .taken)
 
 loop-holds : tie.Need-loop-holds Inv-loop μ-loop
 unfolding sumBelow
@@ -91,7 +97,8 @@ unfolding share
 loop-again c =
     let r = c .before in (
       omega arith,
-      filled-next 40 0 (l r .loop .i) (share (s r .args .n) (size r) (s r .args .transferred)) (l r .loop .shares) _ (omega arith)
+      filled-next 40 0 (l r .loop .i) (share (s r .args .n) (size r) (s r .args .transferred)) (l r .loop .shares) _
+          (omega arith)
           (l r .loop .inv .1) (ap₂ (λ x y. x - y) (shared c) (l r .loop .inv .3)),
       running r,
       shared c,

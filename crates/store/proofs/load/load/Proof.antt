@@ -6,7 +6,12 @@ use Rattle.store.proofs.load.load.Tie as tie
 returns : tie.Need-returns
 unfolding loadedLedger loadedForce
 returns c =
-    rw (c .before .before .before .load-present .ensures, c .before .before .load-charges .ensures, c .before .load-balances .ensures, c .word-truth .ensures)
+    rw (
+      c .before .before .before .load-present .ensures,
+      c .before .before .load-charges .ensures,
+      c .before .load-balances .ensures,
+      c .word-truth .ensures,
+    )
 
 pub load-spec : {M : Type 1} → statement M
 load-spec =

@@ -22,8 +22,11 @@ loop-holds : tie.Need-loop-holds Inv-loop μ-loop
 loop-holds c = (omega arith, money-none _)
 
 loop-again : tie.Need-loop-again Inv-loop μ-loop
-loop-again c = let l = c .before .before in
-    (omega arith, money-next _ (l .loop .i) (l .loop .balances) _ (omega arith) (l .loop .inv .1) (toZ-ofZ (sfits-of (c .t8 .given))))
+loop-again c = let l = c .before .before in (
+  omega arith,
+  money-next _ (l .loop .i) (l .loop .balances) _ (omega arith) (l .loop .inv .1)
+      (toZ-ofZ (sfits-of (c .t8 .given))),
+)
 
 returns : tie.Need-returns Inv-loop μ-loop
 unfolding loadedBalances

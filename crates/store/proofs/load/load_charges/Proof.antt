@@ -13,7 +13,8 @@ use Rattle.store.proofs.load.load_charges.Statement.{statement}
 use Rattle.store.proofs.load.load_charges.Tie as tie
 
 abbrev Inv-loop : tie.InvT-loop
-Inv-loop words charges₀ k₀ charges k = (k ≤ length words) × (charges ≡ filledBelow sectorPlaces (pos 0) k (λ j. getD words j (pos 0)))
+Inv-loop words charges₀ k₀ charges k =
+    (k ≤ length words) × (charges ≡ filledBelow sectorPlaces (pos 0) k (λ j. getD words j (pos 0)))
 
 abbrev μ-loop : tie.MeasureT-loop
 μ-loop words charges₀ k₀ charges k = length words - k
@@ -22,8 +23,11 @@ loop-holds : tie.Need-loop-holds Inv-loop μ-loop
 loop-holds c = (omega arith, filled-none sectorPlaces (pos 0) _)
 
 loop-again : tie.Need-loop-again Inv-loop μ-loop
-loop-again c = let l = c .before .before in
-    (omega arith, filled-next sectorPlaces (pos 0) (l .loop .k) _ (l .loop .charges) _ (omega arith) (l .loop .inv .1) (toZ-ofZ (sfits-of (c .charges .given))))
+loop-again c = let l = c .before .before in (
+  omega arith,
+  filled-next sectorPlaces (pos 0) (l .loop .k) _ (l .loop .charges) _ (omega arith) (l .loop .inv .1)
+      (toZ-ofZ (sfits-of (c .charges .given))),
+)
 
 returns : tie.Need-returns Inv-loop μ-loop
 returns c =

@@ -13,7 +13,8 @@ use Rattle.store.proofs.load.load_present.Statement.{statement}
 use Rattle.store.proofs.load.load_present.Tie as tie
 
 abbrev Inv-loop : tie.InvT-loop
-Inv-loop words present₀ k₀ present k = (k ≤ length words) × (present ≡ filledBelow sectorPlaces false k (λ j. wordTruth (getD words j 0)))
+Inv-loop words present₀ k₀ present k =
+    (k ≤ length words) × (present ≡ filledBelow sectorPlaces false k (λ j. wordTruth (getD words j 0)))
 
 abbrev μ-loop : tie.MeasureT-loop
 μ-loop words present₀ k₀ present k = length words - k
@@ -22,8 +23,11 @@ loop-holds : tie.Need-loop-holds Inv-loop μ-loop
 loop-holds c = (omega arith, filled-none sectorPlaces false _)
 
 loop-again : tie.Need-loop-again Inv-loop μ-loop
-loop-again c = let l = c .before .before .before in
-    (omega arith, filled-next sectorPlaces false (l .loop .k) _ (l .loop .present) _ (omega arith) (l .loop .inv .1) (c .word-truth .ensures))
+loop-again c = let l = c .before .before .before in (
+  omega arith,
+  filled-next sectorPlaces false (l .loop .k) _ (l .loop .present) _ (omega arith) (l .loop .inv .1)
+      (c .word-truth .ensures),
+)
 
 returns : tie.Need-returns Inv-loop μ-loop
 returns c =
@@ -37,6 +41,7 @@ load-present-spec =
     Inv-loop
     μ-loop
     loop-holds
-    (λ c. omega arith) (λ c. omega arith) (λ c κs. search needs) (λ c. omega arith) (λ c. omega arith) (λ c. omega arith)
+    (λ c. omega arith) (λ c. omega arith) (λ c κs. search needs) (λ c. omega arith) (λ c. omega arith)
+    (λ c. omega arith)
     loop-again
     returns)

@@ -52,13 +52,15 @@ slice-reshare-prefix-load-2 : tie.Need-slice-reshare-prefix-load-2
 slice-reshare-prefix-load-2 c = charged (c .before .before .before .before .before .before) .long
 
 slice-aggregate-load-2 : tie.Need-slice-aggregate-load-2
-slice-aggregate-load-2 c = sym (length-take-le _ _ (charged (c .before .before .before .before .before .before .before) .long))
+slice-aggregate-load-2 c =
+    sym (length-take-le _ _ (charged (c .before .before .before .before .before .before .before) .long))
 
 slice-reshare-prefix-load-3 : tie.Need-slice-reshare-prefix-load-3
 slice-reshare-prefix-load-3 c = balanced (c .before .before .before .before .before .before .before) .long
 
 slice-aggregate-load-3 : tie.Need-slice-aggregate-load-3
-slice-aggregate-load-3 c = sym (length-take-le _ _ (balanced (c .before .before .before .before .before .before .before .before) .long))
+slice-aggregate-load-3 c =
+    sym (length-take-le _ _ (balanced (c .before .before .before .before .before .before .before .before) .long))
 
 load-requires : tie.Need-load-requires
 load-requires c κs =

@@ -20,12 +20,14 @@ loop-holds c = tested-none _ _
 returns : tie.Need-returns Inv-loop μ-loop
 unfolding balanceKept
 returns c =
-    tested-fails (c .before .before .before .before .loop .inv) (omega arith) (told-false (c .before .balance-kept .ensures) (c .if1 .taken))
+    tested-fails (c .before .before .before .before .loop .inv) (omega arith)
+    (told-false (c .before .balance-kept .ensures) (c .if1 .taken))
 
 loop-again : tie.Need-loop-again Inv-loop μ-loop
 unfolding balanceKept
 loop-again c =
-    tested-more (c .before .before .before .before .loop .inv) (omega arith) (told-true (c .before .balance-kept .ensures) (c .if1 .left))
+    tested-more (c .before .before .before .before .loop .inv) (omega arith)
+    (told-true (c .before .balance-kept .ensures) (c .if1 .left))
 
 returns-2 : tie.Need-returns-2 Inv-loop μ-loop
 returns-2 c = tested-all (c .before .loop .inv) (omega arith)

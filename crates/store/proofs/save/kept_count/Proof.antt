@@ -15,7 +15,11 @@ returns-2 : tie.Need-returns-2
 unfolding keptCount
 returns-2 c =
     let e = c .before .before .before in
-    rw (le-leb (e .before .args .ledger .n) 40 (omega (arith, e .if1 .left)), sym (c .before .places-kept .ensures) ∙ not-true _ (c .if2 .taken))
+    rw (
+      le-leb (e .before .args .ledger .n) 40 (omega (arith, e .if1 .left)),
+      sym (c .before .places-kept .ensures)
+          ∙ not-true _ (c .if2 .taken),
+    )
 
 returns-3 : tie.Need-returns-3
 unfolding keptCount

@@ -26,29 +26,39 @@ slice-aggregate-save-present c = sym (length-take-le _ _ (omega (arith, few (c .
 
 save-present-requires : tie.Need-save-present-requires
 save-present-requires c κs =
-    rw (length-take-le (c .before .before .kept-count .result * 8) (c .before .before .before .before .args .present .now) (omega (arith, few (c .before .before))))
+    rw (length-take-le (c .before .before .kept-count .result * 8)
+    (c .before .before .before .before .args .present .now) (omega (arith, few (c .before .before))))
     (omega (arith, few (c .before .before)))
 
 slice-relend-prefix-save-charges : tie.Need-slice-relend-prefix-save-charges
 slice-relend-prefix-save-charges c = omega (arith, few (c .before .before .before .before .before))
 
 slice-aggregate-save-charges : tie.Need-slice-aggregate-save-charges
-slice-aggregate-save-charges c = sym (length-take-le _ _ (omega (arith, few (c .before .before .before .before .before .before))))
+slice-aggregate-save-charges c =
+    sym (length-take-le _ _ (omega (arith, few (c .before .before .before .before .before .before))))
 
 save-charges-requires : tie.Need-save-charges-requires
 save-charges-requires c κs =
-    rw (length-take-le (c .before .before .before .before .before .before .kept-count .result * 8) (c .before .before .before .before .before .before .before .before .args .charges .now) (omega (arith, few (c .before .before .before .before .before .before))))
+    rw (length-take-le (c .before .before .before .before .before .before .kept-count .result * 8)
+    (c .before .before .before .before .before .before .before .before .args .charges .now)
+    (omega (arith, few (c .before .before .before .before .before .before))))
     (omega (arith, few (c .before .before .before .before .before .before)))
 
 slice-relend-prefix-save-balances : tie.Need-slice-relend-prefix-save-balances
-slice-relend-prefix-save-balances c = omega (arith, few (c .before .before .before .before .before .before .before .before .before))
+slice-relend-prefix-save-balances c =
+    omega (arith, few (c .before .before .before .before .before .before .before .before .before))
 
 slice-aggregate-save-balances : tie.Need-slice-aggregate-save-balances
-slice-aggregate-save-balances c = sym (length-take-le _ _ (omega (arith, few (c .before .before .before .before .before .before .before .before .before .before))))
+slice-aggregate-save-balances c =
+    sym (length-take-le _ _ (omega
+    (arith, few (c .before .before .before .before .before .before .before .before .before .before))))
 
 save-balances-requires : tie.Need-save-balances-requires
 save-balances-requires c κs =
-    rw (length-take-le (c .before .before .before .before .before .before .before .before .before .before .kept-count .result) (c .before .before .before .before .before .before .before .before .before .before .before .before .args .balances .now) (omega (arith, few (c .before .before .before .before .before .before .before .before .before .before))))
+    rw (length-take-le
+    (c .before .before .before .before .before .before .before .before .before .before .kept-count .result)
+    (c .before .before .before .before .before .before .before .before .before .before .before .before .args .balances
+    .now) (omega (arith, few (c .before .before .before .before .before .before .before .before .before .before))))
     (omega (arith, few (c .before .before .before .before .before .before .before .before .before .before)))
 
 returns : tie.Need-returns
@@ -62,15 +72,18 @@ returns c =
       presences =
           ap (λ l. l ++ drop (count * 8) (s .args .present .now))
           (c .before .before .before .before .before .before .before .before .before .save-present .ensures
-          ∙ ap (presentWords (ledger .force)) (length-take-le (count * 8) (s .args .present .now) (omega (arith, few k))));
+          ∙ ap (presentWords (ledger .force))
+          (length-take-le (count * 8) (s .args .present .now) (omega (arith, few k))));
       charged =
           ap (λ l. l ++ drop (count * 8) (s .args .charges .now))
           (c .before .before .before .before .before .save-charges .ensures
-          ∙ ap (chargeWords (ledger .force)) (length-take-le (count * 8) (s .args .charges .now) (omega (arith, few k))));
+          ∙ ap (chargeWords (ledger .force))
+          (length-take-le (count * 8) (s .args .charges .now) (omega (arith, few k))));
       balanced =
           ap (λ l. l ++ drop count (s .args .balances .now))
           (c .before .save-balances .ensures
-          ∙ ap (balanceWords (ledger .balances)) (length-take-le count (s .args .balances .now) (omega (arith, few k))));
+          ∙ ap (balanceWords (ledger .balances))
+          (length-take-le count (s .args .balances .now) (omega (arith, few k))));
     }
 
 pub save-spec : {M : Type 1} → statement M

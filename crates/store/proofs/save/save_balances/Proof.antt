@@ -21,7 +21,8 @@ loop-holds : tie.Need-loop-holds Inv-loop μ-loop
 loop-holds c = written-none _ _ _ refl
 
 loop-again : tie.Need-loop-again Inv-loop μ-loop
-loop-again c = written-more (c .before .before .before .loop .inv) (omega arith) (toZ-ofZ (sfits-of (c .struct-told .given .0 .1)))
+loop-again c =
+    written-more (c .before .before .before .loop .inv) (omega arith) (toZ-ofZ (sfits-of (c .struct-told .given .0 .1)))
 
 same-length : tie.Need-same-length Inv-loop μ-loop
 same-length c = c .before .loop .inv .long

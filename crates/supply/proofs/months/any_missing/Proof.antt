@@ -24,12 +24,16 @@ loop-holds c = (omega arith, refl)
 returns : tie.Need-returns Inv-loop μ-loop
 returns c =
     let l = c .before .before .before in
-    sym (any-holds 180 (λ i. eqb (getD (l .before .args .means .now) i 0) 0) (l .loop .k) (omega arith) (eq-eqb _ _ (c .if1 .taken)))
+    sym (any-holds 180 (λ i. eqb (getD (l .before .args .means .now) i 0) 0) (l .loop .k) (omega arith)
+    (eq-eqb _ _ (c .if1 .taken)))
 
 loop-again : tie.Need-loop-again Inv-loop μ-loop
 loop-again c =
-    let l = c .before .before .before in
-    (omega arith, any-more (l .loop .k) (λ i. eqb (getD (l .before .args .means .now) i 0) 0) (l .loop .inv .1) (ne-eqb _ _ (c .if1 .left)))
+    let l = c .before .before .before in (
+      omega arith,
+      any-more (l .loop .k) (λ i. eqb (getD (l .before .args .means .now) i 0) 0) (l .loop .inv .1)
+          (ne-eqb _ _ (c .if1 .left)),
+    )
 
 returns-2 : tie.Need-returns-2 Inv-loop μ-loop
 returns-2 c =

@@ -1,5 +1,5 @@
--- Where no mean is 0 nothing is missing. The walk's invariants: nothing is missing in the lines passed, nor in the terms
--- passed of the line at hand.
+-- Where no mean is 0 nothing is missing. The walk's invariants: nothing is missing in the lines passed, nor in the
+-- terms passed of the line at hand.
 use mathlib.Core.Path.{_≡_, refl, sym, _∙_, ap}
 use mathlib.Core.Option.{none, some}
 use Prim.Native.Nat.{ℕ, _≤_, _<_, _-_}
@@ -54,7 +54,8 @@ module _ (c : tie.After-term-mean Inv-loop μ-loop Inv-lines μ-lines) where
   abbrev at : tie.After-line-at Inv-loop μ-loop Inv-lines μ-lines
   at = c .before .before .before .before
 
-  lacks : eqb (c .term-mean .result) 0 ≡ listedLacks (s at .args .means .now) (termOf (at .line-at .result) (c .before .before .before .loop .k))
+  lacks : eqb (c .term-mean .result) 0 ≡ listedLacks (s at .args .means .now)
+      (termOf (at .line-at .result) (c .before .before .before .loop .k))
   unfolding listedLacks
   lacks = ap (λ m. eqb m 0) (c .term-mean .ensures)
 
@@ -62,7 +63,8 @@ returns : tie.Need-returns Inv-loop μ-loop Inv-lines μ-lines
 unfolding verdictOf monthCheck
 returns c =
     let s = c .before .before .before in
-    rw (none-listed (s .args .means .now) (s .args .lines .now) (s .pre) (told-false (c .before .any-missing .ensures) (c .if1 .taken)))
+    rw (none-listed (s .args .means .now) (s .args .lines .now) (s .pre)
+    (told-false (c .before .any-missing .ensures) (c .if1 .taken)))
 
 lines-holds : tie.Need-lines-holds Inv-loop μ-loop Inv-lines μ-lines
 unfolding firstBelow
@@ -84,8 +86,10 @@ loop-again c =
     let a = l .before in (
       omega arith,
       l .loop .inv .1,
-      first-step (missingTerm (listedLacks (s a .args .means .now)) (a .line-at .result) (j a)) (l .loop .k) (l .loop .inv .2)
-          ∙ term-published (listedLacks (s a .args .means .now)) (a .line-at .result) (j a) (l .loop .k) (sym (lacks (c .before)) ∙ ne-eqb _ _ (c .if2 .left)),
+      first-step (missingTerm (listedLacks (s a .args .means .now)) (a .line-at .result) (j a)) (l .loop .k)
+          (l .loop .inv .2)
+          ∙ term-published (listedLacks (s a .args .means .now)) (a .line-at .result) (j a) (l .loop .k)
+          (sym (lacks (c .before)) ∙ ne-eqb _ _ (c .if2 .left)),
     )
 
 lines-again : tie.Need-lines-again Inv-loop μ-loop Inv-lines μ-lines
@@ -107,7 +111,8 @@ returns-2 : tie.Need-returns-2 Inv-loop μ-loop Inv-lines μ-lines
 unfolding verdictOf monthCheck firstMissing
 returns-2 c =
     let o = c .before in
-    let e : o .lines .j ≡ lineCount (o .before .before .before .before .before .args .lines .now) = omega (arith, o .before .line-count .ensures) in
+    let e : o .lines .j ≡ lineCount
+    (o .before .before .before .before .before .args .lines .now) = omega (arith, o .before .line-count .ensures) in
     rw (← e, o .lines .inv .2) (o .lines .inv .1)
 
 returns-3 : tie.Need-returns-3 Inv-loop μ-loop Inv-lines μ-lines
@@ -119,9 +124,11 @@ returns-3 c =
     let t = listedLacks (s a .args .means .now) in
     let place : Place = record { line = j a; term = l .loop .k } in
     rw
-    (first-is (λ i. missingInLine t (lineOf (s a .args .lines .now) i) i) (j a) (lineCount (s a .args .lines .now)) place (below a) (o .lines .inv .2)
+    (first-is (λ i. missingInLine t (lineOf (s a .args .lines .now) i) i) (j a) (lineCount (s a .args .lines .now))
+    place (below a) (o .lines .inv .2)
     (ap (λ line. missingInLine t line (j a)) (sym (a .line-at .ensures))
-    ∙ first-is (missingTerm t (a .line-at .result) (j a)) (l .loop .k) (a .line-at .result .«term_count») place (omega arith) (l .loop .inv .2)
+    ∙ first-is (missingTerm t (a .line-at .result) (j a)) (l .loop .k) (a .line-at .result .«term_count») place
+    (omega arith) (l .loop .inv .2)
     (term-missing t (a .line-at .result) (j a) (l .loop .k) (sym (lacks (c .before)) ∙ eq-eqb _ _ (c .if2 .taken)))))
 
 pub search-months-spec : {M : Type 1} → statement M

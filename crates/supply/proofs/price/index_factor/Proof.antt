@@ -27,14 +27,16 @@ abbrev μ-loop : tie.MeasureT-loop
 -- what each term adds
 module _ (s : tie.Start Inv-loop μ-loop) where
   abbrev added : ℕ → ℕ
-  added i = weightedRatio (listedMean (s .args .means .now)) (termOf (s .args .t2) i) (ltb i (s .args .t2 .«term_count»))
+  added i =
+      weightedRatio (listedMean (s .args .means .now)) (termOf (s .args .t2) i) (ltb i (s .args .t2 .«term_count»))
 
   term : (i : ℕ) → ltb i (s .args .t2 .«term_count») ≡ true → TermFacts (termOf (s .args .t2) i)
   term i h = s .pre .1 .term i (ltb-true _ _ h)
 
   added-most : (i : ℕ) → added i ≤ 999999990000000000
   added-most i =
-      weighted-most (listedMean (s .args .means .now)) (termOf (s .args .t2) i) (listed-most (s .args .means .now) (s .pre .0) (termOf (s .args .t2) i)) _ (term i)
+      weighted-most (listedMean (s .args .means .now)) (termOf (s .args .t2) i)
+      (listed-most (s .args .means .now) (s .pre .0) (termOf (s .args .t2) i)) _ (term i)
 
   sum-most : (k : ℕ) → sumBelow k added ≤ k * 999999990000000000
   sum-most k = sum-le k _ added (λ i p. added-most i)
@@ -47,7 +49,8 @@ loop-holds : tie.Need-loop-holds Inv-loop μ-loop
 loop-holds c = summed-none _ _
 
 weighted-ratio-requires : tie.Need-weighted-ratio-requires Inv-loop μ-loop
-weighted-ratio-requires c κs = let s = c .before .before .before .before in (s .pre .0, term s (c .before .before .loop .k))
+weighted-ratio-requires c κs =
+    let s = c .before .before .before .before in (s .pre .0, term s (c .before .before .loop .k))
 
 add-sum : tie.Need-add-sum Inv-loop μ-loop
 add-sum c =
@@ -69,7 +72,8 @@ returns-2 : tie.Need-returns-2 Inv-loop μ-loop
 unfolding indexFactor
 returns-2 c =
     let l = c .before .before in
-    rw (ne-eqb _ _ (l .before .if1 .left)) (c .half-up .ensures ∙ ap (λ x. halfUp x 10000) (summed-all (l .loop .inv) (omega arith)))
+    rw (ne-eqb _ _ (l .before .if1 .left))
+    (c .half-up .ensures ∙ ap (λ x. halfUp x 10000) (summed-all (l .loop .inv) (omega arith)))
 
 pub index-factor-spec : {M : Type 1} → statement M
 index-factor-spec =

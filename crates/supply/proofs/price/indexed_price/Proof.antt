@@ -13,21 +13,25 @@ use Rattle.supply.proofs.price.indexed_price.Statement.{statement}
 use Rattle.supply.proofs.price.indexed_price.Tie as tie
 
 -- base price times factor is at most 10^14
-product : (c : tie.Else1) → c .before .before .args .line .«base_price» * c .before .index-factor .result ≤ 100000000000000
+product : (c : tie.Else1) →
+    c .before .before .args .line .«base_price» * c .before .index-factor .result ≤ 100000000000000
 product c = mul-le-mul {n₂ = 1000000} (c .before .before .pre .1 .baseMost) (c .if1 .left)
 
 indexed : (c : tie.After-half-up) →
-    c .half-up .result ≡ lineIndexed (listedMean (c .before .before .before .before .args .means .now)) (c .before .before .before .before .args .line)
+    c .half-up .result ≡ lineIndexed (listedMean (c .before .before .before .before .args .means .now))
+    (c .before .before .before .before .args .line)
 unfolding lineIndexed indexedOf
 indexed c =
     c .half-up .ensures
-    ∙ ap (λ factor. halfUp (c .before .before .before .before .args .line .«base_price» * factor) 1000000) (c .before .before .before .index-factor .ensures)
+    ∙ ap (λ factor. halfUp (c .before .before .before .before .args .line .«base_price» * factor) 1000000)
+    (c .before .before .before .index-factor .ensures)
 
 returns : tie.Need-returns
 unfolding indexedAnswer indexedAllowed
 returns c =
     let s = c .before .before in
-    indexed-promised (listedMean (s .args .means .now)) (s .args .line) _ (rw (← c .before .index-factor .ensures, lt-leb _ _ (c .if1 .taken)))
+    indexed-promised (listedMean (s .args .means .now)) (s .args .line) _
+    (rw (← c .before .index-factor .ensures, lt-leb _ _ (c .if1 .taken)))
 
 mul-half-up : tie.Need-mul-half-up
 mul-half-up c = omega (arith, product (c .before))
@@ -41,7 +45,13 @@ returns-2 c =
     let h = c .before .before in
     let s = h .before .before .before .before in
     indexed-promised (listedMean (s .args .means .now)) (s .args .line) _
-    (rw (← indexed h, ← h .before .before .before .index-factor .ensures, le-leb _ _ (h .before .before .if1 .left), ← c .before .is-between .ensures, c .if2 .taken))
+    (rw (
+      ← indexed h,
+      ← h .before .before .before .index-factor .ensures,
+      le-leb _ _ (h .before .before .if1 .left),
+      ← c .before .is-between .ensures,
+      c .if2 .taken,
+    ))
 
 returns-3 : tie.Need-returns-3
 unfolding indexedAnswer indexedAllowed
@@ -49,7 +59,13 @@ returns-3 c =
     let h = c .before .before in
     let s = h .before .before .before .before in
     indexed-promised (listedMean (s .args .means .now)) (s .args .line) _
-    (rw (← indexed h, ← h .before .before .before .index-factor .ensures, le-leb _ _ (h .before .before .if1 .left), ← c .before .is-between .ensures, c .if2 .left))
+    (rw (
+      ← indexed h,
+      ← h .before .before .before .index-factor .ensures,
+      le-leb _ _ (h .before .before .if1 .left),
+      ← c .before .is-between .ensures,
+      c .if2 .left,
+    ))
 
 pub indexed-price-spec : {M : Type 1} → statement M
 indexed-price-spec =

@@ -11,8 +11,14 @@ reference-price-requires : tie.Need-reference-price-requires
 reference-price-requires c κs =
     let i = c .before .before in
     let s = i .before .before .before in
-    let given = sym (i .before .before .indexed-price .ensures .answered) ∙ i .indexed .given .1 in
-    (s .pre .1 .0, (s .pre .1 .1, rw (c .price-taken .ensures) (taken-most _ (indexed-bounds (listedMean (s .args .means .now)) (s .args .line) _ given .1))))
+    let given = sym (i .before .before .indexed-price .ensures .answered) ∙ i .indexed .given .1 in (
+      s .pre .1 .0,
+      (
+        s .pre .1 .1,
+        rw (c .price-taken .ensures)
+            (taken-most _ (indexed-bounds (listedMean (s .args .means .now)) (s .args .line) _ given .1)),
+      ),
+    )
 
 returns : tie.Need-returns
 unfolding priceAnswer
@@ -20,7 +26,8 @@ returns c =
     let i = c .before .before .before in
     let s = i .before .before .before in
     rw (← i .before .before .indexed-price .ensures .answered, i .indexed .given .1)
-    (c .reference-price .ensures ∙ ap (referenceAnswer (s .args .numbers) (s .args .line)) (c .before .price-taken .ensures))
+    (c .reference-price .ensures ∙ ap (referenceAnswer (s .args .numbers) (s .args .line))
+    (c .before .price-taken .ensures))
 
 returns-2 : tie.Need-returns-2
 unfolding priceAnswer

@@ -18,19 +18,24 @@ module _ (m : tie.After-search-months) where
   abbrev s : tie.Start
   s = m .before .before .before .before
 
-  searched : m .search-months .result ≡ verdictOf (monthCheck (lacksMonth (s .args .table) (s .args .numbers)) (s .args .lines .now) ∷ [])
+  searched : m .search-months .result ≡ verdictOf
+      (monthCheck (lacksMonth (s .args .table) (s .args .numbers)) (s .args .lines .now) ∷ [])
   searched =
       m .search-months .ensures
-      ∙ ap (λ means. verdictOf (monthCheck (listedLacks means) (s .args .lines .now) ∷ [])) (m .before .before .means .ensures)
-      ∙ ap (λ check. verdictOf (check ∷ [])) (check-listed (s .args .table) (s .args .numbers) (s .args .lines .now) (s .pre .1 .1))
+      ∙ ap (λ means. verdictOf (monthCheck (listedLacks means) (s .args .lines .now) ∷ []))
+      (m .before .before .means .ensures)
+      ∙ ap (λ check. verdictOf (check ∷ []))
+      (check-listed (s .args .table) (s .args .numbers) (s .args .lines .now) (s .pre .1 .1))
 
 means-requires : tie.Need-means-requires
 means-requires c κs = let s = c .before in (s .pre .0, s .pre .1 .0 .start)
 
 reference-prices-requires : tie.Need-reference-prices-requires
 reference-prices-requires c κs =
-    let m = c .before .before .before in
-    (rw (m .before .before .means .ensures) (means-within (s m .args .table) (s m .pre .0) _ _), (s m .pre .1 .0, s m .pre .1 .1))
+    let m = c .before .before .before in (
+      rw (m .before .before .means .ensures) (means-within (s m .args .table) (s m .pre .0) _ _),
+      (s m .pre .1 .0, s m .pre .1 .1),
+    )
 
 returns : tie.Need-returns
 returns c =
@@ -38,7 +43,8 @@ returns c =
     let a = s m .args in
     references-promised (a .table) (a .numbers) (a .lines .now) _
     (c .refused .ensures
-    ∙ sym (months-refused (a .table) (a .numbers) (a .lines .now) _ (sym (searched m) ∙ c .before .before .refusal .given .1)))
+    ∙ sym (months-refused (a .table) (a .numbers) (a .lines .now) _
+    (sym (searched m) ∙ c .before .before .refusal .given .1)))
 
 returns-2 : tie.Need-returns-2
 returns-2 c =
@@ -47,8 +53,10 @@ returns-2 c =
     let present = sym (searched m) ∙ c .before .before .enum-told .given .1 in
     references-promised (a .table) (a .numbers) (a .lines .now) _
     (c .reference-prices .ensures
-    ∙ ap (λ means. boundedReferences (listedMean means) (a .numbers) (a .lines .now)) (m .before .before .means .ensures)
-    ∙ references-listed (a .table) (a .numbers) (a .lines .now) (s m .pre .1 .1) (months-present (a .table) (a .numbers) (a .lines .now) present)
+    ∙ ap (λ means. boundedReferences (listedMean means) (a .numbers) (a .lines .now))
+    (m .before .before .means .ensures)
+    ∙ references-listed (a .table) (a .numbers) (a .lines .now) (s m .pre .1 .1)
+    (months-present (a .table) (a .numbers) (a .lines .now) present)
     ∙ sym (months-bounded (a .table) (a .numbers) (a .lines .now) present))
 
 pub price-lines-spec : {M : Type 1} → statement M

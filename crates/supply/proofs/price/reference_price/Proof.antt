@@ -17,7 +17,8 @@ use Rattle.supply.proofs.price.reference_price.Tie as tie
 bought-most : (s : tie.Start) → s .args .taken * s .args .line .«purchase_factor» ≤ 20000000000
 bought-most s = mul-le-mul {n₂ = 1000000} (s .pre .1 .1) (s .pre .1 .0 .purchaseMost)
 
-bought : (c : tie.After-half-up) → c .half-up .result ≡ linePurchase (c .before .before .args .line) (c .before .before .args .taken)
+bought : (c : tie.After-half-up) →
+    c .half-up .result ≡ linePurchase (c .before .before .args .line) (c .before .before .args .taken)
 unfolding linePurchase purchaseOf
 bought c = c .half-up .ensures
 
@@ -36,12 +37,15 @@ module _ (c : tie.After-peso-price) where
   unfolding pesoOf
   peso-most =
       half-up-le (h .half-up .result * s .args .numbers .dollar) 100000 (omega arith) 2000000
-      (mul-le-mul {n₂ = 1000000} (between-high 1 1000000 _ (sym (c .before .before .is-between .ensures) ∙ not-false _ (c .before .if1 .left))) (s .pre .0 .dollarMost))
+      (mul-le-mul {n₂ = 1000000}
+      (between-high 1 1000000 _ (sym (c .before .before .is-between .ensures) ∙ not-false _ (c .before .if1 .left)))
+      (s .pre .0 .dollarMost))
 
   turned-most : c .peso-price .result .0 * s .args .numbers .«reference_factor» ≤ 40000000000
   turned-most = mul-le-mul {n₂ = 2000000} (omega (arith, peso, peso-most)) (s .pre .0 .factorMost)
 
-  referred : halfUp (c .peso-price .result .0 * s .args .numbers .«reference_factor») (s .args .line .«purchase_factor») ≡ lineReference (s .args .numbers) (s .args .line) (s .args .taken)
+  referred : halfUp (c .peso-price .result .0 * s .args .numbers .«reference_factor»)
+      (s .args .line .«purchase_factor») ≡ lineReference (s .args .numbers) (s .args .line) (s .args .taken)
   unfolding lineReference referenceOf
   referred =
       ap (λ p. halfUp (p * s .args .numbers .«reference_factor») (s .args .line .«purchase_factor»))
@@ -55,11 +59,19 @@ half-up-requires c κs = let s = c .before in omega (arith, bought-most s, s .pr
 
 returns : tie.Need-returns
 unfolding referenceAnswer
-returns c = rw (← bought (c .before .before), ← c .before .is-between .ensures, not-true (c .before .is-between .result) (c .if1 .taken))
+returns c =
+    rw (
+      ← bought (c .before .before),
+      ← c .before .is-between .ensures,
+      not-true (c .before .is-between .result)
+          (c .if1 .taken),
+    )
 
 peso-price-requires : tie.Need-peso-price-requires
-peso-price-requires c κs =
-    (between-high 1 1000000 _ (sym (c .before .is-between .ensures) ∙ not-false _ (c .if1 .left)), c .before .before .before .before .pre .0 .dollarMost)
+peso-price-requires c κs = (
+  between-high 1 1000000 _ (sym (c .before .is-between .ensures) ∙ not-false _ (c .if1 .left)),
+  c .before .before .before .before .pre .0 .dollarMost,
+)
 
 mul-half-up-2 : tie.Need-mul-half-up-2
 mul-half-up-2 c = omega (arith, turned-most (c .before .before))
@@ -73,7 +85,12 @@ returns-2 : tie.Need-returns-2
 unfolding referenceAnswer
 returns-2 c =
     let p = c .before .before .before .before in
-    rw (← bought (h p), ← p .before .before .is-between .ensures, not-false (p .before .before .is-between .result) (p .before .if1 .left))
+    rw (
+      ← bought (h p),
+      ← p .before .before .is-between .ensures,
+      not-false (p .before .before .is-between .result)
+          (p .before .if1 .left),
+    )
     (c .checked .ensures .answered ∙ ap checkedPrice (c .before .half-up2 .ensures ∙ referred p))
 
 pub reference-price-spec : {M : Type 1} → statement M

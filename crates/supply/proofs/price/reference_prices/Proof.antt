@@ -12,7 +12,8 @@ use Rattle.numbers.proofs.FirstLaws.{first-step, first-is}
 use Rattle.numbers.proofs.ListLaws.{filled-none, filled-more}
 use Rattle.supply.specs.Line.{lineCount, lineOf}
 use Rattle.supply.specs.Listed.{listedMean}
-use Rattle.supply.specs.Price.{priceAnswer, beyondIn, firstBeyond, boundsCheck, referencePrice, referenceList, boundedReferences}
+use Rattle.supply.specs.Price.{priceAnswer, beyondIn, firstBeyond, boundsCheck, referencePrice, referenceList}
+use Rattle.supply.specs.Price.{boundedReferences}
 use Rattle.supply.proofs.PriceLaws.{line-within, line-beyond, line-price}
 use Rattle.supply.proofs.price.reference_prices.Statement.{statement}
 use Rattle.supply.proofs.price.reference_prices.Tie as tie
@@ -37,14 +38,21 @@ module _ (c : tie.After-price-line Inv-loop μ-loop) where
   below : l .loop .j < lineCount (s .args .lines .now)
   below = omega (arith, l .before .before .line-count .ensures)
 
-  answered : c .price-line .result ≡ priceAnswer (listedMean (s .args .means .now)) (s .args .numbers) (lineOf (s .args .lines .now) (l .loop .j))
-  answered = c .price-line .ensures ∙ ap (priceAnswer (listedMean (s .args .means .now)) (s .args .numbers)) (c .before .line-at .ensures)
+  answered : c .price-line .result ≡ priceAnswer (listedMean (s .args .means .now)) (s .args .numbers)
+      (lineOf (s .args .lines .now) (l .loop .j))
+  answered =
+      c .price-line .ensures ∙ ap (priceAnswer (listedMean (s .args .means .now)) (s .args .numbers))
+      (c .before .line-at .ensures)
 
 loop-holds : tie.Need-loop-holds Inv-loop μ-loop
 unfolding firstBelow
 loop-holds c =
-    let s = c .before .before .before in
-    (omega arith, refl, c .no-references .ensures ∙ filled-none 256 noPrice (referencePrice (listedMean (s .args .means .now)) (s .args .numbers) (s .args .lines .now)))
+    let s = c .before .before .before in (
+      omega arith,
+      refl,
+      c .no-references .ensures ∙ filled-none 256 noPrice
+          (referencePrice (listedMean (s .args .means .now)) (s .args .numbers) (s .args .lines .now)),
+    )
 
 line-at-requires : tie.Need-line-at-requires Inv-loop μ-loop
 line-at-requires c κs = omega (arith, c .before .before .before .line-count .ensures)
@@ -52,8 +60,14 @@ line-at-requires c κs = omega (arith, c .before .before .before .line-count .en
 price-line-requires : tie.Need-price-line-requires Inv-loop μ-loop
 price-line-requires c κs =
     let l = c .before .before in
-    let s = l .before .before .before .before in
-    (s .pre .0, (s .pre .1 .0, rw (c .line-at .ensures) (s .pre .1 .1 .facts (l .loop .j) (omega (arith, l .before .before .line-count .ensures)))))
+    let s = l .before .before .before .before in (
+      s .pre .0,
+      (
+        s .pre .1 .0,
+        rw (c .line-at .ensures)
+            (s .pre .1 .1 .facts (l .loop .j) (omega (arith, l .before .before .line-count .ensures))),
+      ),
+    )
 
 array-set-from-prices : tie.Need-array-set-from-prices Inv-loop μ-loop
 array-set-from-prices c = let p = c .before .before .before in omega (arith, below p, s p .pre .1 .1 .few)
@@ -65,7 +79,8 @@ returns c =
     let f = beyondIn (listedMean (s p .args .means .now)) (s p .args .numbers) (s p .args .lines .now) in
     let e : firstBelow (lineCount (s p .args .lines .now)) f ≡ some (l p .loop .j) =
     first-is f (l p .loop .j) (lineCount (s p .args .lines .now)) (l p .loop .j) (below p) (l p .loop .inv .1)
-    (line-beyond (listedMean (s p .args .means .now)) (s p .args .numbers) (s p .args .lines .now) (l p .loop .j) (sym (answered p) ∙ c .before .enum-told .given .1)) in
+    (line-beyond (listedMean (s p .args .means .now)) (s p .args .numbers) (s p .args .lines .now) (l p .loop .j)
+    (sym (answered p) ∙ c .before .enum-told .given .1)) in
     rw e (c .refused .ensures)
 
 loop-again : tie.Need-loop-again Inv-loop μ-loop

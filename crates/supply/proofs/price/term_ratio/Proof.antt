@@ -10,14 +10,30 @@ use Rattle.supply.proofs.price.term_ratio.Statement.{statement}
 use Rattle.supply.proofs.price.term_ratio.Tie as tie
 
 mul-half-up : tie.Need-mul-half-up
-mul-half-up c = let s = c .before in omega (arith, c .term-mean .ensures, listed-most (s .args .means .now) (s .pre .0) (s .args .term))
+mul-half-up c =
+    let s = c .before in omega (
+      arith,
+      c .term-mean .ensures,
+      listed-most (s .args .means .now) (s .pre .0)
+          (s .args .term),
+    )
 
 half-up-requires : tie.Need-half-up-requires
-half-up-requires c κs = let s = c .before in omega (arith, c .term-mean .ensures, listed-most (s .args .means .now) (s .pre .0) (s .args .term), s .pre .1 .base, s .pre .1 .baseMost)
+half-up-requires c κs =
+    let s = c .before in omega (
+      arith,
+      c .term-mean .ensures,
+      listed-most (s .args .means .now) (s .pre .0)
+          (s .args .term),
+      s .pre .1 .base,
+      s .pre .1 .baseMost,
+    )
 
 returns : tie.Need-returns
 unfolding termRatio ratioOf
-returns c = c .half-up .ensures ∙ ap (λ m. halfUp (m * 1000000) (c .before .before .args .term .«base_value»)) (c .before .term-mean .ensures)
+returns c =
+    c .half-up .ensures ∙ ap (λ m. halfUp (m * 1000000) (c .before .before .args .term .«base_value»))
+    (c .before .term-mean .ensures)
 
 pub term-ratio-spec : {M : Type 1} → statement M
 term-ratio-spec =

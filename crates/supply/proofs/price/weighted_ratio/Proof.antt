@@ -10,7 +10,8 @@ use Rattle.supply.proofs.price.weighted_ratio.Statement.{statement}
 use Rattle.supply.proofs.price.weighted_ratio.Tie as tie
 
 product : (c : tie.After-term-ratio) →
-    c .before .before .args .term .weight * c .term-ratio .result ≡ weightedRatio (listedMean (c .before .before .args .means .now)) (c .before .before .args .term) (c .before .before .args .used)
+    c .before .before .args .term .weight * c .term-ratio .result ≡ weightedRatio
+    (listedMean (c .before .before .args .means .now)) (c .before .before .args .term) (c .before .before .args .used)
 unfolding weightedRatio
 product c = rw (c .before .if1 .taken) (ap (λ r. c .before .before .args .term .weight * r) (c .term-ratio .ensures))
 
@@ -20,7 +21,12 @@ term-ratio-requires c κs = let s = c .before in (s .pre .0, s .pre .1 (c .if1 .
 mul-result : tie.Need-mul-result
 mul-result c =
     let s = c .before .before .before in
-    omega (arith, product (c .before), weighted-most (listedMean (s .args .means .now)) (s .args .term) (listed-most (s .args .means .now) (s .pre .0) (s .args .term)) (s .args .used) (s .pre .1))
+    omega (
+      arith,
+      product (c .before),
+      weighted-most (listedMean (s .args .means .now)) (s .args .term)
+          (listed-most (s .args .means .now) (s .pre .0) (s .args .term)) (s .args .used) (s .pre .1),
+    )
 
 returns : tie.Need-returns
 returns c = product (c .before)

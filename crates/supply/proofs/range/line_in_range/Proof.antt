@@ -20,7 +20,13 @@ returns c = rw (← c .before .head-in-range .ensures, not-true (c .before .head
 
 returns-2 : tie.Need-returns-2
 unfolding lineInRange
-returns-2 c = rw (head (c .before .before), ← c .before .terms-allowed .ensures, not-true (c .before .terms-allowed .result) (c .if2 .taken))
+returns-2 c =
+    rw (
+      head (c .before .before),
+      ← c .before .terms-allowed .ensures,
+      not-true (c .before .terms-allowed .result)
+          (c .if2 .taken),
+    )
 
 weight-total-requires : tie.Need-weight-total-requires
 weight-total-requires c κs = terms (c .before .before)

@@ -24,19 +24,22 @@ line-at-requires c κs = omega (arith, c .before .before .line-count .ensures)
 
 -- what the test says of the line
 tested : (c : tie.After-line-in-range Inv-loop μ-loop) →
-    c .line-in-range .result ≡ lineInRange (c .before .before .before .before .before .before .args .n) (lineOf (c .before .before .before .before .before .before .args .lines .now) (c .before .before .before .loop .j))
+    c .line-in-range .result ≡ lineInRange (c .before .before .before .before .before .before .args .n)
+    (lineOf (c .before .before .before .before .before .before .args .lines .now) (c .before .before .before .loop .j))
 tested c = c .line-in-range .ensures ∙ ap (lineInRange _) (c .before .line-at .ensures)
 
 returns : tie.Need-returns Inv-loop μ-loop
 unfolding linesInRange
 returns c =
     let l = c .before .before .before .before in
-    tested-fails (l .loop .inv) (omega (arith, l .before .line-count .ensures)) (told-false (tested (c .before)) (c .if1 .taken))
+    tested-fails (l .loop .inv) (omega (arith, l .before .line-count .ensures))
+    (told-false (tested (c .before)) (c .if1 .taken))
 
 loop-again : tie.Need-loop-again Inv-loop μ-loop
 loop-again c =
     let l = c .before .before .before .before in
-    tested-more (l .loop .inv) (omega (arith, l .before .line-count .ensures)) (told-true (tested (c .before)) (c .if1 .left))
+    tested-more (l .loop .inv) (omega (arith, l .before .line-count .ensures))
+    (told-true (tested (c .before)) (c .if1 .left))
 
 returns-2 : tie.Need-returns-2 Inv-loop μ-loop
 unfolding linesInRange

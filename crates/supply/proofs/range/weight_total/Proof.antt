@@ -25,7 +25,8 @@ add-total c =
       arith,
       l .loop .inv .sum,
       allowed-weight (s .args .t1) (s .pre) (l .loop .k) (omega arith),
-      sum-le (l .loop .k) 10000 (λ i. termOf (s .args .t1) i .weight) (λ i p. allowed-weight (s .args .t1) (s .pre) i (omega arith)),
+      sum-le (l .loop .k) 10000 (λ i. termOf (s .args .t1) i .weight)
+          (λ i p. allowed-weight (s .args .t1) (s .pre) i (omega arith)),
     )
 
 loop-again : tie.Need-loop-again Inv-loop μ-loop

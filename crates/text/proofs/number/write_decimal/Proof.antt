@@ -13,7 +13,8 @@ returns c =
     let s = d .before .before .before in
     w .write-text .ensures
     ∙ ap (λ text. written text (bufferOf (s .args .buffer .now) (s .args .count)))
-    (d .decimal .ensures .1 .1 ∙ fewest-decimal (s .args .x) (d .decimal .result) (s .fits .x .fits) (d .decimal .ensures .1 .0))
+    (d .decimal .ensures .1 .1 ∙ fewest-decimal (s .args .x) (d .decimal .result) (s .fits .x .fits)
+    (d .decimal .ensures .1 .0))
 
 pub write-decimal-spec : {M : Type 1} → statement M
 write-decimal-spec =

@@ -19,8 +19,10 @@ returns c =
     let w = c .before .before in
     let t = w .before .before .before in
     let s = t .before .before .before in
-    let told : withinSize 9223372036854775807 (s .args .x) ≡ false = rw (toZ-ofZ (s .fits .x)) at (sym (t .before .within-size .ensures) ∙ not-true _ (t .if1 .taken)) in
-    w .write-text .ensures ∙ ap (λ text. written text (bufferOf (s .args .buffer .now) (s .args .count))) (sym (least-text (s .args .x) (s .fits .x) told))
+    let told : withinSize 9223372036854775807 (s .args .x) ≡ false = rw (toZ-ofZ (s .fits .x)) at
+    (sym (t .before .within-size .ensures) ∙ not-true _ (t .if1 .taken)) in
+    w .write-text .ensures ∙ ap (λ text. written text (bufferOf (s .args .buffer .now) (s .args .count)))
+    (sym (least-text (s .args .x) (s .fits .x) told))
 
 -- what the tests say of the number
 module _ (e : tie.After-is-negative) where
@@ -29,10 +31,12 @@ module _ (e : tie.After-is-negative) where
 
   sized : natAbs (s .args .x) < 2 ^ 63
   sized =
-      within-size (s .args .x) (rw (toZ-ofZ (s .fits .x)) at (sym (e .before .before .within-size .ensures) ∙ not-false _ (e .before .if1 .left)))
+      within-size (s .args .x) (rw (toZ-ofZ (s .fits .x)) at
+      (sym (e .before .before .within-size .ensures) ∙ not-false _ (e .before .if1 .left)))
 
 magnitude-requires : tie.Need-magnitude-requires
-magnitude-requires c κs = let e = c .before .before .before .before .before .before in rw (toZ-ofZ (s e .fits .x)) (sized e)
+magnitude-requires c κs =
+    let e = c .before .before .before .before .before .before in rw (toZ-ofZ (s e .fits .x)) (sized e)
 
 returns-2 : tie.Need-returns-2
 returns-2 c =
@@ -41,9 +45,12 @@ returns-2 c =
     let b = m .before .before .before .before in
     let e = w .before .before .before .before .before .before .before .before in
     let x = s e .args .x in
-    let told : isNegative x ≡ true = rw (toZ-ofZ (s e .fits .x)) at (sym (e .is-negative .ensures) ∙ b .before .before .if2 .taken) in
+    let told : isNegative x ≡ true = rw (toZ-ofZ (s e .fits .x)) at
+    (sym (e .is-negative .ensures) ∙ b .before .before .if2 .taken) in
     let size : m .magnitude .result ≡ natAbs x = rw (toZ-ofZ (s e .fits .x)) at (m .magnitude .ensures) in
-    byte-after minus (decimal (natAbs x)) (bufferOf (s e .args .buffer .now) (s e .args .count)) (bufferOf (b .write-byte .last .0) (b .write-byte .result)) _ (b .write-byte .ensures) (rw size at (w .write-decimal .ensures))
+    byte-after minus (decimal (natAbs x)) (bufferOf (s e .args .buffer .now) (s e .args .count))
+    (bufferOf (b .write-byte .last .0) (b .write-byte .result)) _ (b .write-byte .ensures)
+    (rw size at (w .write-decimal .ensures))
     ∙ ap (λ text. written text (bufferOf (s e .args .buffer .now) (s e .args .count))) (sym (negative-text x told))
 
 magnitude-requires-2 : tie.Need-magnitude-requires-2
@@ -55,10 +62,12 @@ returns-3 c =
     let m = w .before in
     let e = w .before .before .before .before in
     let x = s e .args .x in
-    let told : isNegative x ≡ false = rw (toZ-ofZ (s e .fits .x)) at (sym (e .is-negative .ensures) ∙ m .before .before .if2 .left) in
+    let told : isNegative x ≡ false = rw (toZ-ofZ (s e .fits .x)) at
+    (sym (e .is-negative .ensures) ∙ m .before .before .if2 .left) in
     let size : m .magnitude2 .result ≡ natAbs x = rw (toZ-ofZ (s e .fits .x)) at (m .magnitude2 .ensures) in
     w .write-decimal2 .ensures
-    ∙ ap (λ text. written text (bufferOf (s e .args .buffer .now) (s e .args .count))) (ap decimal size ∙ sym (positive-text x told))
+    ∙ ap (λ text. written text (bufferOf (s e .args .buffer .now) (s e .args .count)))
+    (ap decimal size ∙ sym (positive-text x told))
 
 pub write-signed-decimal-spec : {M : Type 1} → statement M
 write-signed-decimal-spec =

@@ -11,7 +11,8 @@ unfolding signedWord
 returns c =
     let e = c .before .before in
     let s = e .before .before .before .before .before .before .before in
-    byte-after blank (signedDecimal (s .args .x)) _ _ _ (e .before .before .before .before .write-byte .ensures) (rw (toZ-ofZ (s .fits .x)) at (e .write-signed-decimal .ensures))
+    byte-after blank (signedDecimal (s .args .x)) _ _ _ (e .before .before .before .before .write-byte .ensures)
+    (rw (toZ-ofZ (s .fits .x)) at (e .write-signed-decimal .ensures))
 
 pub write-signed-word-spec : {M : Type 1} → statement M
 write-signed-word-spec =

@@ -11,7 +11,8 @@ use Rattle.text.proofs.write.write_text.Tie as tie
 
 abbrev Inv-loop : tie.InvT-loop
 Inv-loop buffer₀ count text end₀ k₀ buffer end k =
-    (k ≤ length text) × (length buffer ≡ length buffer₀) × (written (drop k text) (bufferOf buffer end) ≡ written text (bufferOf buffer₀ count))
+    (k ≤ length text) × (length buffer ≡ length buffer₀) ×
+    (written (drop k text) (bufferOf buffer end) ≡ written text (bufferOf buffer₀ count))
 
 abbrev μ-loop : tie.MeasureT-loop
 μ-loop buffer₀ count text end₀ k₀ buffer end k = length text - k
@@ -23,14 +24,17 @@ loop-again : tie.Need-loop-again Inv-loop μ-loop
 loop-again c = let b = c .before .before in let l = b .before .before .before .before in (
   omega arith,
   search needs,
-  written-next (l .before .before .before .args .text .now) (l .loop .k) _ _ (omega arith) (b .write-byte .ensures) ∙ l .loop .inv .2,
+  written-next (l .before .before .before .args .text .now) (l .loop .k) _ _ (omega arith) (b .write-byte .ensures)
+      ∙ l .loop .inv .2,
 )
 
 same-length : tie.Need-same-length Inv-loop μ-loop
 same-length c = c .before .loop .inv .1
 
 returns : tie.Need-returns Inv-loop μ-loop
-returns c = let l = c .before in sym (written-all (l .before .before .before .args .text .now) (l .loop .k) _ (omega arith)) ∙ l .loop .inv .2
+returns c =
+    let l = c .before in sym (written-all (l .before .before .before .args .text .now) (l .loop .k) _ (omega arith))
+    ∙ l .loop .inv .2
 
 pub write-text-spec : {M : Type 1} → statement M
 write-text-spec =

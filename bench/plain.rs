@@ -1,0 +1,747 @@
+//! The fixing and the settlement of document 01 in plain Rust: the baseline of the benchmark.
+//!
+//!     rustc --edition 2021 -O -C opt-level=3 plain.rs
+//!     ./plain even|mixed fix|settle|both COUNT
+
+use std::hint::black_box;
+use std::ops::RangeInclusive;
+
+const MAX_DISTRIBUTORS: usize = 40;
+const SECTORS: usize = 8;
+const MAX_PLACES: usize = SECTORS * MAX_DISTRIBUTORS;
+const MAX_LINES: usize = 256;
+const LINE_WORDS: usize = 26;
+const TERM_WORDS: usize = 5;
+const SERIES: usize = 5;
+const SERIES_MONTHS: usize = 48;
+
+const LAST_MONTH: u64 = 1_199;
+const MAX_SERIES_VALUE: u64 = 99_999_999;
+const MAX_SECTOR_FACTOR: u64 = 50_000;
+const MAX_READING: u64 = 2_000_000_000;
+const MAX_INDEX_FACTOR: u64 = 100_000_000;
+
+/// One, in ten-thousandths.
+const UNIT: u64 = 10_000;
+/// One, in the millionths of ratios and index factors.
+const MILLION: u64 = 1_000_000;
+
+const FACTOR_RANGE: RangeInclusive<u64> = 5_000..=20_000;
+const DOLLAR_RANGE: RangeInclusive<u64> = 1..=200_000;
+const CONTRACT_PRICE_RANGE: RangeInclusive<u64> = 1..=1_000_000;
+const ENERGY_RANGE: RangeInclusive<u64> = 1..=10_000_000;
+const REFERENCE_RANGE: RangeInclusive<u64> = 1_000..=2_000_000;
+const LOSS_RANGE: RangeInclusive<u64> = 10_000..=20_000;
+const CHARGE_RANGE: RangeInclusive<i64> = -10_500_000..=10_500_000;
+const BALANCE_RANGE: RangeInclusive<i64> = -1_000_000_000_000_000..=1_000_000_000_000_000;
+
+#[derive(Debug, Clone, Copy, PartialEq, Eq)]
+enum Refusal {
+    DistributorCount,
+    UnsoundLedger,
+    WrongLength,
+    OutOfTurn,
+    NoFixing,
+    BadInput,
+    SeriesValue,
+    Sector,
+    DistributorWithoutLine,
+    MonthMissing { line: usize, term: usize },
+    OutOfBounds { line: usize },
+    Reading,
+    Position,
+}
+
+/// `numerator / denominator`, a half upwards.
+fn half_up(numerator: u64, denominator: u64) -> u64 {
+    (numerator + denominator / 2) / denominator
+}
+
+/// `numerator / denominator`, a half away from zero.
+fn half_away(numerator: i64, denominator: u64) -> i64 {
+    let size = half_up(numerator.unsigned_abs(), denominator) as i64;
+    if numerator < 0 {
+        -size
+    } else {
+        size
+    }
+}
+
+#[derive(Debug, Clone, PartialEq, Eq)]
+struct Ledger {
+    distributors: usize,
+    months_settled: u64,
+    last_month: u64,
+    has_fixing: bool,
+    fixing_month: u64,
+    present: [bool; MAX_PLACES],
+    charges: [i64; MAX_PLACES],
+    balances: [i64; MAX_DISTRIBUTORS],
+}
+
+impl Ledger {
+    fn open(distributors: usize) -> Result<Ledger, Refusal> {
+        if !(1..=MAX_DISTRIBUTORS).contains(&distributors) {
+            return Err(Refusal::DistributorCount);
+        }
+        Ok(Ledger {
+            distributors,
+            months_settled: 0,
+            last_month: 0,
+            has_fixing: false,
+            fixing_month: 0,
+            present: [false; MAX_PLACES],
+            charges: [0; MAX_PLACES],
+            balances: [0; MAX_DISTRIBUTORS],
+        })
+    }
+
+    fn is_sound(&self) -> bool {
+        let n = self.distributors;
+        if !(1..=MAX_DISTRIBUTORS).contains(&n) {
+            return false;
+        }
+        // Charges past n are zero too, because their sectors are absent.
+        if self.present[SECTORS * n..].contains(&true) || self.balances[n..].iter().any(|&b| b != 0) {
+            return false;
+        }
+        let charge_is_sound = |(&present, charge): (&bool, &i64)| {
+            if present {
+                CHARGE_RANGE.contains(charge)
+            } else {
+                *charge == 0
+            }
+        };
+        if !self.present.iter().zip(&self.charges).all(charge_is_sound) {
+            return false;
+        }
+        if self.last_month > LAST_MONTH || self.fixing_month > LAST_MONTH {
+            return false;
+        }
+        if !self.has_fixing && (self.fixing_month != 0 || self.present.contains(&true)) {
+            return false;
+        }
+        if self.months_settled == 0 {
+            return self.last_month == 0 && self.balances.iter().all(|&b| b == 0);
+        }
+        self.has_fixing
+            && self.months_settled <= self.last_month + 1
+            && self.fixing_month <= self.last_month + 1
+            && self.balances.iter().all(|b| BALANCE_RANGE.contains(b))
+            && !(self.balances.iter().any(|&b| b > 0) && self.balances.iter().any(|&b| b < 0))
+    }
+}
+
+/// The lent words of a fixing.
+struct FixingInput {
+    month: u64,
+    dollar: u64,
+    reference_factor: u64,
+    first_month: u64,
+    series: Vec<u64>,
+    lines: Vec<u64>,
+    sector_factors: Vec<u64>,
+}
+
+/// The lent words of a settlement.
+struct SettlementInput {
+    month: u64,
+    readings: Vec<u64>,
+    loss_factors: Vec<u64>,
+}
+
+/// The published index values and the number of their first month.
+struct SeriesTable<'a> {
+    rows: &'a [[u64; SERIES_MONTHS]],
+    first_month: u64,
+}
+
+impl SeriesTable<'_> {
+    /// The mean over the term's window, or `None` if one of its months is missing.
+    fn mean(&self, month: u64, term: &Term) -> Option<u64> {
+        let end = (month + 1).checked_sub(term.lag)?;
+        let start = end.checked_sub(term.window)?.checked_sub(self.first_month)?;
+        let values = self.rows[term.series as usize].get(start as usize..(start + term.window) as usize)?;
+        if values.contains(&0) {
+            return None;
+        }
+        Some(half_up(values.iter().sum(), term.window))
+    }
+}
+
+struct Term {
+    series: u64,
+    weight: u64,
+    lag: u64,
+    window: u64,
+    base_value: u64,
+}
+
+impl Term {
+    fn new(words: &[u64; TERM_WORDS]) -> Term {
+        let &[series, weight, lag, window, base_value] = words;
+        Term { series, weight, lag, window, base_value }
+    }
+
+    fn is_valid(&self) -> bool {
+        self.series < SERIES as u64
+            && (1..=UNIT).contains(&self.weight)
+            && (1..=12).contains(&self.lag)
+            && matches!(self.window, 1 | 6 | 9)
+            && (1..=MAX_SERIES_VALUE).contains(&self.base_value)
+    }
+}
+
+/// A supply line, read from its words.
+struct Line<'a> {
+    distributor: u64,
+    base_price: u64,
+    offer_factor: u64,
+    purchase_factor: u64,
+    energy: u64,
+    term_count: u64,
+    term_words: &'a [[u64; TERM_WORDS]],
+}
+
+impl<'a> Line<'a> {
+    fn new(words: &'a [u64; LINE_WORDS]) -> Line<'a> {
+        let &[distributor, base_price, offer_factor, purchase_factor, energy, term_count, ref rest @ ..] = words;
+        let (term_words, _) = rest.as_chunks();
+        Line { distributor, base_price, offer_factor, purchase_factor, energy, term_count, term_words }
+    }
+
+    fn terms(&self) -> impl Iterator<Item = Term> + 'a {
+        self.term_words[..self.term_count as usize].iter().map(Term::new)
+    }
+
+    fn is_valid(&self, distributors: usize) -> bool {
+        if self.distributor >= distributors as u64
+            || !CONTRACT_PRICE_RANGE.contains(&self.base_price)
+            || !FACTOR_RANGE.contains(&self.offer_factor)
+            || !FACTOR_RANGE.contains(&self.purchase_factor)
+            || !ENERGY_RANGE.contains(&self.energy)
+            || self.term_count > self.term_words.len() as u64
+        {
+            return false;
+        }
+        let mut weights = 0;
+        for term in self.terms() {
+            if !term.is_valid() {
+                return false;
+            }
+            weights += term.weight;
+        }
+        let unused = &self.term_words[self.term_count as usize..];
+        (self.term_count == 0 || weights == UNIT) && unused.iter().flatten().all(|&word| word == 0)
+    }
+
+    /// The index factor in millionths, or the number of the first term with a missing month.
+    fn index_factor(&self, month: u64, table: &SeriesTable) -> Result<u64, usize> {
+        if self.term_count == 0 {
+            return Ok(MILLION);
+        }
+        let mut sum = 0;
+        for (number, term) in self.terms().enumerate() {
+            let mean = table.mean(month, &term).ok_or(number)?;
+            sum += term.weight * half_up(mean * MILLION, term.base_value);
+        }
+        Ok(half_up(sum, UNIT))
+    }
+
+    /// The reference price, or `None` if the index factor or a price is out of bounds.
+    fn reference(&self, index_factor: u64, dollar: u64, reference_factor: u64) -> Option<u64> {
+        if index_factor > MAX_INDEX_FACTOR {
+            return None;
+        }
+        let indexed = half_up(self.base_price * index_factor, MILLION);
+        if !CONTRACT_PRICE_RANGE.contains(&indexed) {
+            return None;
+        }
+        let purchase = half_up(indexed * self.purchase_factor, self.offer_factor);
+        if !CONTRACT_PRICE_RANGE.contains(&purchase) {
+            return None;
+        }
+        let peso = half_up(purchase * dollar, 100_000);
+        let reference = half_up(peso * reference_factor, self.purchase_factor);
+        REFERENCE_RANGE.contains(&reference).then_some(reference)
+    }
+}
+
+/// What the limit makes of the average prices.
+struct Adjustment {
+    limit: u64,
+    surcharge: u64,
+    rounds: u64,
+    residue: u64,
+    finals: [u64; MAX_DISTRIBUTORS],
+}
+
+fn adjust(averages: &[u64], energies: &[u64]) -> Adjustment {
+    let total: u64 = averages.iter().zip(energies).map(|(p, e)| p * e).sum();
+    let energy: u64 = energies.iter().sum();
+    let limit = 105 * total / (100 * energy);
+
+    let mut capped = [false; MAX_DISTRIBUTORS];
+    for (capped, &average) in capped.iter_mut().zip(averages) {
+        *capped = average > limit;
+    }
+    let mut surcharge = 0;
+    let mut rounds = 0;
+    let mut joined = capped.contains(&true);
+    while joined {
+        rounds += 1;
+        let mut excess = 0;
+        let mut outside = 0;
+        for ((&capped, &average), &energy) in capped.iter().zip(averages).zip(energies) {
+            if capped {
+                // Signed, since those that joined later have averages up to the limit; the sum stays positive.
+                excess += (average as i64 - limit as i64) * energy as i64;
+            } else {
+                outside += energy;
+            }
+        }
+        surcharge = (excess as u64).div_ceil(outside);
+        joined = false;
+        for (capped, &average) in capped.iter_mut().zip(averages) {
+            if !*capped && average + surcharge > limit {
+                *capped = true;
+                joined = true;
+            }
+        }
+    }
+
+    let mut finals = [0; MAX_DISTRIBUTORS];
+    let mut collected = 0;
+    for (i, (&average, &energy)) in averages.iter().zip(energies).enumerate() {
+        finals[i] = if capped[i] { limit } else { average + surcharge };
+        collected += finals[i] * energy;
+    }
+    Adjustment { limit, surcharge, rounds, residue: collected - total, finals }
+}
+
+struct Fixing {
+    limit: u64,
+    surcharge: u64,
+    rounds: u64,
+    residue: u64,
+    ledger: Ledger,
+}
+
+/// Fixes the prices of a month; `prices` takes average, final and charge of each distributor.
+fn fix(ledger: &Ledger, input: &FixingInput, prices: &mut [i64]) -> Result<Fixing, Refusal> {
+    if !ledger.is_sound() {
+        return Err(Refusal::UnsoundLedger);
+    }
+    let n = ledger.distributors;
+    let month = input.month;
+    let (lines, rest) = input.lines.as_chunks::<LINE_WORDS>();
+    if !rest.is_empty()
+        || !(1..=MAX_LINES).contains(&lines.len())
+        || input.series.len() != SERIES * SERIES_MONTHS
+        || input.sector_factors.len() != SECTORS * n
+        || prices.len() != 3 * n
+    {
+        return Err(Refusal::WrongLength);
+    }
+    if month > LAST_MONTH || (ledger.months_settled > 0 && month != ledger.last_month + 1) {
+        return Err(Refusal::OutOfTurn);
+    }
+    if !DOLLAR_RANGE.contains(&input.dollar)
+        || !FACTOR_RANGE.contains(&input.reference_factor)
+        || input.first_month > LAST_MONTH
+        || !lines.iter().all(|words| Line::new(words).is_valid(n))
+    {
+        return Err(Refusal::BadInput);
+    }
+    if input.series.iter().any(|&value| value > MAX_SERIES_VALUE) {
+        return Err(Refusal::SeriesValue);
+    }
+    let (sector_factors, _) = input.sector_factors.as_chunks::<SECTORS>();
+    if sector_factors.iter().any(|own| *own == [0; SECTORS] || own.iter().any(|&f| f > MAX_SECTOR_FACTOR)) {
+        return Err(Refusal::Sector);
+    }
+    let mut energies = [0; MAX_DISTRIBUTORS];
+    for line in lines.iter().map(Line::new) {
+        energies[line.distributor as usize] += line.energy;
+    }
+    let energies = &energies[..n];
+    // A line's energy is at least 1.
+    if energies.contains(&0) {
+        return Err(Refusal::DistributorWithoutLine);
+    }
+
+    // A missing month in any line goes before a price out of bounds in any other.
+    let table = SeriesTable { rows: input.series.as_chunks().0, first_month: input.first_month };
+    let mut index_factors = Vec::with_capacity(lines.len());
+    for (number, line) in lines.iter().map(Line::new).enumerate() {
+        match line.index_factor(month, &table) {
+            Ok(factor) => index_factors.push(factor),
+            Err(term) => return Err(Refusal::MonthMissing { line: number, term }),
+        }
+    }
+    let mut amounts = [0; MAX_DISTRIBUTORS];
+    for (number, (line, &factor)) in lines.iter().map(Line::new).zip(&index_factors).enumerate() {
+        let reference = line
+            .reference(factor, input.dollar, input.reference_factor)
+            .ok_or(Refusal::OutOfBounds { line: number })?;
+        amounts[line.distributor as usize] += reference * line.energy;
+    }
+    let mut averages = [0; MAX_DISTRIBUTORS];
+    for (average, (&amount, &energy)) in averages.iter_mut().zip(amounts.iter().zip(energies)) {
+        *average = half_up(amount, energy);
+    }
+
+    let Adjustment { limit, surcharge, rounds, residue, finals } = adjust(&averages[..n], energies);
+    let mut ledger = ledger.clone();
+    ledger.has_fixing = true;
+    ledger.fixing_month = month;
+    for i in 0..n {
+        let average = averages[i] as i64;
+        let final_price = finals[i] as i64;
+        let charge = final_price - average;
+        prices[3 * i..3 * i + 3].copy_from_slice(&[average, final_price, charge]);
+        for (sector, &factor) in sector_factors[i].iter().enumerate() {
+            let place = SECTORS * i + sector;
+            ledger.present[place] = factor != 0;
+            ledger.charges[place] = half_away(charge * factor as i64, UNIT);
+        }
+    }
+    Ok(Fixing { limit, surcharge, rounds, residue, ledger })
+}
+
+/// One side of the settlement, those who owe or those who are owed, taken in ascending number.
+struct Side {
+    total: u64,
+    running: u64,
+    given: u64,
+}
+
+impl Side {
+    fn new(total: u64) -> Side {
+        Side { total, running: 0, given: 0 }
+    }
+
+    /// The share of the next position on this side in the transferred sum.
+    fn share(&mut self, size: u64, transferred: u64) -> i64 {
+        self.running += size;
+        let up_to_here = (transferred as u128 * self.running as u128 / self.total as u128) as u64;
+        let share = up_to_here - self.given;
+        self.given = up_to_here;
+        share as i64
+    }
+}
+
+/// What a distributor collected in a month by its charges.
+fn collected(charges: &[i64], readings: &[[u64; 4]], peat: u64, pebt: u64) -> i64 {
+    let (peat, pebt) = (peat as i64, pebt as i64);
+    let mut sum = 0;
+    for (charge, reading) in charges.iter().zip(readings) {
+        let [billed_at, injected_at, billed_bt, injected_bt] = reading.map(|word| word as i64);
+        let net_at = billed_at - injected_at;
+        let net_bt = billed_bt - injected_bt;
+        let energy = half_away(net_at * peat * UNIT as i64 + net_bt * peat * pebt, UNIT * UNIT);
+        sum += charge * energy;
+    }
+    half_away(sum, 1_000)
+}
+
+/// Settles a month and hands back the new ledger; `transfers` takes what each distributor receives.
+fn settle(ledger: &Ledger, input: &SettlementInput, transfers: &mut [i64]) -> Result<Ledger, Refusal> {
+    if !ledger.is_sound() {
+        return Err(Refusal::UnsoundLedger);
+    }
+    let n = ledger.distributors;
+    let month = input.month;
+    if input.readings.len() != 4 * SECTORS * n || input.loss_factors.len() != 2 * n || transfers.len() != n {
+        return Err(Refusal::WrongLength);
+    }
+    let out_of_turn = if ledger.months_settled > 0 {
+        month != ledger.last_month + 1
+    } else {
+        ledger.has_fixing && month != ledger.fixing_month
+    };
+    if month > LAST_MONTH || out_of_turn {
+        return Err(Refusal::OutOfTurn);
+    }
+    if !ledger.has_fixing {
+        return Err(Refusal::NoFixing);
+    }
+    let (readings, _) = input.readings.as_chunks::<4>();
+    let reading_is_valid = |(reading, &present): (&[u64; 4], &bool)| {
+        if present {
+            reading.iter().all(|&word| word <= MAX_READING)
+        } else {
+            *reading == [0; 4]
+        }
+    };
+    if !readings.iter().zip(&ledger.present).all(reading_is_valid)
+        || !input.loss_factors.iter().all(|factor| LOSS_RANGE.contains(factor))
+    {
+        return Err(Refusal::Reading);
+    }
+
+    let mut positions = [0; MAX_DISTRIBUTORS];
+    let (loss_factors, _) = input.loss_factors.as_chunks::<2>();
+    for (i, &[peat, pebt]) in loss_factors.iter().enumerate() {
+        let places = SECTORS * i..SECTORS * (i + 1);
+        let amount = collected(&ledger.charges[places.clone()], &readings[places], peat, pebt);
+        positions[i] = ledger.balances[i] + amount;
+    }
+    let positions = &positions[..n];
+    if !positions.iter().all(|position| BALANCE_RANGE.contains(position)) {
+        return Err(Refusal::Position);
+    }
+
+    let mut owing = Side::new(positions.iter().filter(|&&p| p > 0).map(|p| p.unsigned_abs()).sum());
+    let mut owed = Side::new(positions.iter().filter(|&&p| p < 0).map(|p| p.unsigned_abs()).sum());
+    let transferred = owing.total.min(owed.total);
+    let mut ledger = ledger.clone();
+    for (i, &position) in positions.iter().enumerate() {
+        let size = position.unsigned_abs();
+        transfers[i] = match position.signum() {
+            1 => -owing.share(size, transferred),
+            -1 => owed.share(size, transferred),
+            _ => 0,
+        };
+        ledger.balances[i] = position + transfers[i];
+    }
+    ledger.months_settled += 1;
+    ledger.last_month = month;
+    Ok(ledger)
+}
+
+/// A line's words: the six at its head, then its terms; unused terms stay zero.
+fn line_words(head: [u64; 6], terms: &[[u64; TERM_WORDS]]) -> Vec<u64> {
+    let mut words = head.to_vec();
+    words.extend(terms.iter().flatten());
+    words.resize(LINE_WORDS, 0);
+    words
+}
+
+/// Every distributor alike but for its base prices and energies, four full terms in each line.
+fn even_load() -> (FixingInput, SettlementInput) {
+    let line = |j: u64| {
+        let terms: Vec<_> = (0..4).map(|k| [k, 2_500, 1, 9, 10_000]).collect();
+        line_words([j % 40, 50_000 + 390 * j, 10_000, 10_000, 1_000 + j, 4], &terms)
+    };
+    let fixing = FixingInput {
+        month: 20,
+        dollar: 100_000,
+        reference_factor: 10_000,
+        first_month: 0,
+        series: vec![10_000; 240],
+        lines: (0..256).flat_map(line).collect(),
+        sector_factors: vec![10_000; 320],
+    };
+    let settlement = SettlementInput { month: 20, readings: vec![1_000; 1_280], loss_factors: vec![10_500; 80] };
+    (fixing, settlement)
+}
+
+/// Words of every size, all counts of terms, absent sectors.
+fn mixed_load() -> (FixingInput, SettlementInput) {
+    let line = |j: u64| {
+        let count = j % 5;
+        let term = |k: u64| {
+            let weight = 10_000 / count + if k == 0 { 10_000 % count } else { 0 };
+            let window = [1, 6, 9][(j + k) as usize % 3];
+            [(j + k) % 5, weight, 1 + (5 * j + 3 * k) % 12, window, 9_000 + (37 * j + 101 * k) % 2_001]
+        };
+        let head = [
+            7 * j % 40,
+            40_000 + 977 * j % 60_001,
+            9_000 + 131 * j % 2_001,
+            9_500 + 57 * j % 1_001,
+            1 + 7_919 * j % 500_000,
+            count,
+        ];
+        line_words(head, &(0..count).map(term).collect::<Vec<_>>())
+    };
+    let series_value = |place: u64| {
+        let (series, column) = (place / 48, place % 48);
+        9_500 + (1_000 * series + 13 * column * column) % 1_001
+    };
+    let sector_factor = |place: u64| if place % 4 == 3 { 0 } else { 5_000 + 613 * place % 10_001 };
+    let reading = |word: u64| if sector_factor(word / 4) == 0 { 0 } else { 104_729 * word % 1_000_001 };
+    let fixing = FixingInput {
+        month: 30,
+        dollar: 85_000,
+        reference_factor: 10_000,
+        first_month: 0,
+        series: (0..240).map(series_value).collect(),
+        lines: (0..256).flat_map(line).collect(),
+        sector_factors: (0..320).map(sector_factor).collect(),
+    };
+    let settlement = SettlementInput {
+        month: 30,
+        readings: (0..1_280).map(reading).collect(),
+        loss_factors: (0..80).map(|word| 10_000 + 97 * word % 1_501).collect(),
+    };
+    (fixing, settlement)
+}
+
+fn usage() -> ! {
+    eprintln!("usage: plain even|mixed fix|settle|both COUNT");
+    std::process::exit(2)
+}
+
+fn main() {
+    let arguments: Vec<String> = std::env::args().skip(1).collect();
+    let [load, call, count] = &arguments[..] else { usage() };
+    let (fixing_input, settlement_input) = match load.as_str() {
+        "even" => even_load(),
+        "mixed" => mixed_load(),
+        _ => usage(),
+    };
+    let (with_fixings, with_settlements) = match call.as_str() {
+        "fix" => (true, false),
+        "settle" => (false, true),
+        "both" => (true, true),
+        _ => usage(),
+    };
+    let Ok(count) = count.parse::<u64>() else { usage() };
+
+    let opened = Ledger::open(MAX_DISTRIBUTORS).expect("40 distributors are allowed");
+    let mut prices = vec![0; 3 * MAX_DISTRIBUTORS];
+    let mut transfers = vec![0; MAX_DISTRIBUTORS];
+    let fixed = fix(&opened, &fixing_input, &mut prices).expect("the load is accepted").ledger;
+
+    let (mut fixings, mut settlements) = (0, 0);
+    let mut last_fixing = None;
+    let mut last_settlement = None;
+    for _ in 0..count {
+        if with_fixings {
+            let answer = fix(black_box(&opened), black_box(&fixing_input), black_box(&mut prices));
+            fixings += u64::from(answer.is_ok());
+            last_fixing = Some(answer);
+        }
+        if with_settlements {
+            let answer = settle(black_box(&fixed), black_box(&settlement_input), black_box(&mut transfers));
+            settlements += u64::from(answer.is_ok());
+            last_settlement = Some(answer);
+        }
+    }
+
+    println!("fixings {fixings} settlements {settlements}");
+    match last_fixing {
+        Some(Ok(Fixing { limit, surcharge, rounds, residue, .. })) => {
+            println!("limit {limit} surcharge {surcharge} rounds {rounds} residue {residue}");
+            for (i, row) in prices.chunks(3).enumerate() {
+                println!("{i} {} {} {}", row[0], row[1], row[2]);
+            }
+        }
+        Some(Err(refusal)) => println!("fixing refused: {refusal:?}"),
+        None => {}
+    }
+    match last_settlement {
+        Some(Ok(ledger)) => {
+            for (i, (transfer, balance)) in transfers.iter().zip(ledger.balances).enumerate() {
+                println!("{i} {transfer} {balance}");
+            }
+        }
+        Some(Err(refusal)) => println!("settlement refused: {refusal:?}"),
+        None => {}
+    }
+}
+
+#[cfg(test)]
+mod tests {
+    use super::*;
+
+    /// Document 01's `classroom`: three distributors, one line without terms each.
+    fn classroom() -> (Ledger, FixingInput) {
+        let lines = [(100_000, 10), (83_000, 10), (60_000, 11)];
+        let line = |(i, (price, energy)): (u64, &(u64, u64))| line_words([i, *price, 10_000, 10_000, *energy, 0], &[]);
+        let input = FixingInput {
+            month: 30,
+            dollar: 100_000,
+            reference_factor: 10_000,
+            first_month: 0,
+            series: vec![10_000; 240],
+            lines: (0..).zip(&lines).flat_map(line).collect(),
+            sector_factors: [10_000, 0, 0, 0, 0, 0, 0, 0].repeat(3),
+        };
+        (Ledger::open(3).unwrap(), input)
+    }
+
+    fn month_of(month: u64, billed_at: [u64; 3]) -> SettlementInput {
+        let mut readings = vec![0; 96];
+        for (i, billed) in billed_at.into_iter().enumerate() {
+            readings[32 * i] = billed;
+        }
+        SettlementInput { month, readings, loss_factors: vec![10_000; 6] }
+    }
+
+    fn refusal_of(change: impl Fn(&mut FixingInput)) -> Option<Refusal> {
+        let (ledger, mut input) = classroom();
+        change(&mut input);
+        let mut prices = vec![-7; 9];
+        let refusal = fix(&ledger, &input, &mut prices).err();
+        assert!(refusal.is_none() || prices == [-7; 9]);
+        refusal
+    }
+
+    #[test]
+    fn classroom_and_two_months() {
+        let (ledger, input) = classroom();
+        let mut prices = vec![0; 9];
+        let fixing = fix(&ledger, &input, &mut prices).ok().unwrap();
+        assert_eq!((fixing.limit, fixing.surcharge, fixing.rounds, fixing.residue), (84_338, 13_022, 2, 2));
+        assert_eq!(prices, [100_000, 84_338, -15_662, 83_000, 84_338, 1_338, 60_000, 73_022, 13_022]);
+        let mut transfers = vec![0; 3];
+        let first = settle(&fixing.ledger, &month_of(30, [1_000; 3]), &mut transfers).unwrap();
+        assert_eq!(first.balances[..3], [-1_302, 0, 0]);
+        let second = settle(&first, &month_of(31, [0, 1_000, 1_000]), &mut transfers).unwrap();
+        assert_eq!(transfers, [1_302, -121, -1_181]);
+        assert_eq!(second.balances[..3], [0, 1_217, 11_841]);
+        let again = settle(&second, &month_of(31, [0; 3]), &mut transfers);
+        assert_eq!(again, Err(Refusal::OutOfTurn));
+        assert_eq!(fix(&second, &input, &mut prices).err(), Some(Refusal::OutOfTurn));
+    }
+
+    #[test]
+    fn fixings_are_refused_by_the_first_cause() {
+        assert_eq!(refusal_of(|_| ()), None);
+        assert_eq!(refusal_of(|input| input.lines.truncate(77)), Some(Refusal::WrongLength));
+        assert_eq!(refusal_of(|input| input.lines.clear()), Some(Refusal::WrongLength));
+        assert_eq!(refusal_of(|input| input.month = 1_200), Some(Refusal::OutOfTurn));
+        assert_eq!(refusal_of(|input| input.lines[25] = 1), Some(Refusal::BadInput));
+        assert_eq!(refusal_of(|input| input.series[239] = 100_000_000), Some(Refusal::SeriesValue));
+        assert_eq!(refusal_of(|input| input.sector_factors[8] = 0), Some(Refusal::Sector));
+        assert_eq!(refusal_of(|input| input.lines[26] = 0), Some(Refusal::DistributorWithoutLine));
+        assert_eq!(refusal_of(|input| input.lines[27] = 999), Some(Refusal::OutOfBounds { line: 1 }));
+        assert_eq!(refusal_of(|input| input.lines[27] = 1_000), None);
+        let missing = |input: &mut FixingInput| {
+            input.lines[1] = 999;
+            let terms = [[0, 5_000, 1, 1, 10_000], [1, 5_000, 12, 9, 10_000]];
+            let line = line_words([2, 60_000, 10_000, 10_000, 11, 2], &terms);
+            input.lines[52..].copy_from_slice(&line);
+            input.series[48 + 10] = 0;
+        };
+        assert_eq!(refusal_of(missing), Some(Refusal::MonthMissing { line: 2, term: 1 }));
+    }
+
+    #[test]
+    fn settlements_are_refused_by_the_first_cause() {
+        let (opened, input) = classroom();
+        let fixed = fix(&opened, &input, &mut [0; 9]).ok().unwrap().ledger;
+        let mut transfers = vec![-7; 3];
+        let mut refusal = |ledger: &Ledger, input: &SettlementInput| settle(ledger, input, &mut transfers).err();
+        assert_eq!(refusal(&opened, &month_of(30, [1; 3])), Some(Refusal::NoFixing));
+        assert_eq!(refusal(&opened, &month_of(1_200, [1; 3])), Some(Refusal::OutOfTurn));
+        assert_eq!(refusal(&fixed, &month_of(31, [1; 3])), Some(Refusal::OutOfTurn));
+        assert_eq!(refusal(&fixed, &month_of(30, [2_000_000_001; 3])), Some(Refusal::Reading));
+        let mut absent = month_of(30, [1; 3]);
+        absent.readings[7] = 1;
+        assert_eq!(refusal(&fixed, &absent), Some(Refusal::Reading));
+        let mut short = month_of(30, [1; 3]);
+        short.loss_factors.pop();
+        assert_eq!(refusal(&fixed, &short), Some(Refusal::WrongLength));
+        let mut full = fixed.clone();
+        (full.months_settled, full.last_month) = (1, 30);
+        full.balances[2] = 1_000_000_000_000_000;
+        assert_eq!(refusal(&full, &month_of(31, [0, 0, 1_000])), Some(Refusal::Position));
+        full.balances[1] = -1;
+        assert_eq!(refusal(&full, &month_of(31, [0; 3])), Some(Refusal::UnsoundLedger));
+        assert_eq!(transfers, [-7; 3]);
+    }
+}
