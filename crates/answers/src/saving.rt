@@ -3,6 +3,8 @@ ghost use mathlib.Core.Path.{_≡_};
 ghost use Rattle.text.specs.Buffer.{bufferOf, written};
 ghost use Rattle.answers.specs.Answer.{listText, signedListText, numbersText, savingText};
 use ledger::ledger::Ledger;
+use numbers::sizes::MOST_DISTRIBUTORS;
+use numbers::sizes::PLACES;
 use numbers::sizes::SECTORS;
 use store::save::save;
 use store::save::truth_word;
@@ -57,9 +59,9 @@ pub fn write_saving(buffer: &mut [u8], count: usize, ledger: Ledger) -> usize
     ensures { λ r. ⌜ bufferOf (now (buffer .exit)) r ≡ written (savingText ledger)
         (bufferOf (now (buffer .entry)) count) ⌝ }
 {
-    let mut present = [0u64; 320];
-    let mut charges = [0i64; 320];
-    let mut balances = [0i64; 40];
+    let mut present = [0u64; PLACES];
+    let mut charges = [0i64; PLACES];
+    let mut balances = [0i64; MOST_DISTRIBUTORS];
     let kept = save(ledger, &mut present, &mut charges, &mut balances);
     let places = kept * SECTORS;
     let end = write_numbers(buffer, count, ledger);

@@ -2,12 +2,14 @@
 ghost use mathlib.Core.Path.{_≡_};
 ghost use Prim.Native.Nat.{_<_};
 ghost use lib.ListN.{length};
+ghost use Rattle.numbers.specs.Sizes.{mostDistributors};
 ghost use Rattle.text.specs.Buffer.{bufferOf, written};
 ghost use Rattle.answers.specs.Answer.{transferRow, transferRows, settlementText};
 use crate::outcome::write_changed;
 use crate::outcome::write_outcome_line;
 use numbers::refusal::Verdict;
 use numbers::refusal::verdict_number;
+use numbers::sizes::MOST_DISTRIBUTORS;
 use numbers::units::Pesos;
 use text::number::write_decimal;
 use text::number::write_signed_word;
@@ -18,10 +20,10 @@ fn write_transfer_row(
     buffer: &mut [u8],
     count: usize,
     transfers: &[i64],
-    balances: [Pesos; 40],
+    balances: [Pesos; MOST_DISTRIBUTORS],
     i: usize,
 ) -> usize
-    requires { ⌜ i < length (now transfers) ⌝ ∗ ⌜ i < 40 ⌝ }
+    requires { ⌜ i < length (now transfers) ⌝ ∗ ⌜ i < mostDistributors ⌝ }
     ensures { λ r. ⌜ bufferOf (now (buffer .exit)) r ≡ written (transferRow (now (transfers .entry)) balances i)
         (bufferOf (now (buffer .entry)) count) ⌝ }
 {
@@ -37,14 +39,14 @@ fn write_transfer_rows(
     buffer: &mut [u8],
     count: usize,
     transfers: &[i64],
-    balances: [Pesos; 40],
+    balances: [Pesos; MOST_DISTRIBUTORS],
 ) -> usize
     ensures { λ r. ⌜ bufferOf (now (buffer .exit)) r ≡ written (transferRows (now (transfers .entry)) balances)
         (bufferOf (now (buffer .entry)) count) ⌝ }
 {
     let mut end = count;
     let mut i: usize = 0;
-    while i < transfers.len() && i < 40 {
+    while i < transfers.len() && i < MOST_DISTRIBUTORS {
         end = write_transfer_row(buffer, end, transfers, balances, i);
         i += 1;
     }
@@ -57,7 +59,7 @@ pub fn write_settlement(
     count: usize,
     verdict: Verdict,
     transfers: &[i64],
-    balances: [Pesos; 40],
+    balances: [Pesos; MOST_DISTRIBUTORS],
 ) -> usize
     ensures { λ r. ⌜ bufferOf (now (buffer .exit)) r ≡ written
         (settlementText verdict (now (transfers .entry)) balances) (bufferOf (now (buffer .entry)) count) ⌝ }

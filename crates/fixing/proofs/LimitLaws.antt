@@ -320,10 +320,6 @@ module _ (d : Distributors) (r : InRange d) where
   unfolding collected finalPrice collectedBy
   collected-at = collected-same d (capped d) (surcharge d) (surcharge d) (omega arith) (omega arith) last-told
 
-  pub collected-rises : (s t : ℕ) → s ≤ t → collectedAt d s ≤ collectedAt d t
-  unfolding collectedAt
-  collected-rises s t p = sum-le-sum (d .count) _ _ (λ i q. mul-le-mul-right (d .energy i) (omega arith))
-
   pub surcharge-least : (s : ℕ) → s < surcharge d → collectedAt d s < contractTotal d
   surcharge-least s p = round-short d mean-below (capped d) _ at-end s (rw surcharge-last at p)
 

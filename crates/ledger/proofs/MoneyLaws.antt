@@ -2,13 +2,12 @@
 -- the positions of the n distributors alone. Assumes nothing.
 use mathlib.Core.Path.{_≡_, refl, _∙_, ap, ap₂}
 use mathlib.Core.Bool.{Bool, true, false, and-false}
-use Prim.Native.Nat.{ℕ, zero, suc, _+_, _-_, _≤_, _<_, min}
+use Prim.Native.Nat.{ℕ, _≤_, _<_, min}
 use native.Mathlib.Omega.{arith}
 use native.Mathlib.Decide.{decLt}
-use native.Mathlib.Nat.{zero-add, suc-add}
-use lib.IntN.{ℤ, pos, subℕ, _+ℤ_, +ℤ-idr}
+use lib.IntN.{ℤ, pos, subℕ, _+ℤ_}
 use lib.Signed.{ltZ}
-use Rattle.numbers.specs.Bounded.{allBelow, anyBelow}
+use Rattle.numbers.specs.Bounded.{anyBelow}
 use Rattle.numbers.specs.Signed.{signedSumBelow, positivePart, negativePart, withinSize, isNegative}
 use Rattle.numbers.specs.Units.{noMoney}
 use Rattle.numbers.specs.Sizes.{mostDistributors}

@@ -5,8 +5,7 @@ use Prim.Native.Nat.{ℕ, _+_, _*_, _≤_, _<_}
 use native.Mathlib.Omega.{arith}
 use lib.Dec.{leb, ltb, eqb}
 use lib.IntN.{ℤ, pos, natAbs}
-use borrow.Author.Tests.{ltb-true, ltb-false, leb-true, eqb-true, not-true, not-false, le-ltb, lt-ltb, le-leb, eq-eqb}
-use Rattle.numbers.specs.Bounded.{allBelow}
+use borrow.Author.Tests.{ltb-false, leb-true, eqb-true, not-true, not-false, le-ltb, le-leb, eq-eqb}
 use Rattle.numbers.specs.Signed.{withinSize}
 use Rattle.numbers.specs.Units.{between}
 use Rattle.numbers.specs.Sizes.{mostDistributors, sectorCount, sectorPlaces}

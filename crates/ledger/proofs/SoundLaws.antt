@@ -10,10 +10,9 @@ use borrow.Author.Tests.{eqb-true, ne-eqb, not-false}
 use Rattle.numbers.specs.Sizes.{mostDistributors, sectorCount}
 use Rattle.numbers.specs.declared.units.Pesos.{Pesos}
 use Rattle.series.specs.Series.{lastMonth}
-use Rattle.fixing.specs.declared.sector.SectorCharges.{SectorCharges}
 use Rattle.settlement.specs.Amount.{mostCharge, chargeAt}
 use Rattle.settlement.specs.Required.{MoneyWithin}
-use Rattle.ledger.specs.Ledger.{anySettled, billedUnder, emptyLedger, fixedLedger, settledLedger}
+use Rattle.ledger.specs.Ledger.{anySettled, billedUnder, emptyLedger, settledLedger}
 use Rattle.ledger.specs.Sound.{sound}
 use Rattle.ledger.specs.declared.ledger.Ledger.{Ledger}
 use Rattle.ledger.proofs.SoundFacts.{sound-facts}
@@ -26,11 +25,6 @@ none-settled ledger h = eqb-true (ledger .months) 0 (not-false (eqb (ledger .mon
 pub opened-settled : (n : ℕ) → anySettled (emptyLedger n) ≡ false
 unfolding anySettled emptyLedger
 opened-settled n = refl
-
-pub fixed-settled : (ledger : Ledger) (month : ℕ) (force : SectorCharges) →
-    anySettled (fixedLedger ledger month force) ≡ anySettled ledger
-unfolding anySettled fixedLedger
-fixed-settled ledger month force = refl
 
 pub month-settled : (ledger : Ledger) (month : ℕ) (balances : List Pesos) →
     anySettled (settledLedger ledger month balances) ≡ true

@@ -1,6 +1,6 @@
 -- Each place of the list of means holds 01's mean of one series, lag and window; it is 0 where a month is missing and
 -- nowhere else, since a mean of published values is at least 1. Assumes nothing.
-use mathlib.Core.Path.{_≡_, refl, sym, _∙_, ap, ap₂}
+use mathlib.Core.Path.{_≡_, refl, _∙_, ap, ap₂}
 use mathlib.Core.Bool.{Bool, true, false, cond, _||_, false≢true}
 use mathlib.Core.List.{List, []}
 use Prim.Native.Nat.{ℕ, _+_, _-_, _*_, _/_, _%_, _≤_, _<_}
@@ -8,7 +8,7 @@ use native.Mathlib.Omega.{arith}
 use native.Mathlib.Decide.{decLt}
 use lib.ListN.{getD, List·getD-eq-default}
 use lib.Dec.{eqb}
-use borrow.Author.Tests.{eqb-true, eq-eqb, ne-eqb}
+use borrow.Author.Tests.{eqb-true, ne-eqb}
 use Rattle.numbers.specs.Bounded.{listBelow}
 use Rattle.numbers.proofs.ListLaws.{list-at, list-length}
 use Rattle.series.specs.Series.{mostValue, seriesCount, windowAllowed, windowMissing, windowMean}

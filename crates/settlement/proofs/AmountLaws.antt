@@ -16,7 +16,7 @@ use Rattle.numbers.specs.Units.{between}
 use Rattle.numbers.specs.Sizes.{sectorCount}
 use Rattle.numbers.proofs.BoolLaws.{and-left, and-right}
 use Rattle.numbers.proofs.TestLaws.{all-at}
-use Rattle.numbers.proofs.UnitLaws.{between-low, between-high}
+use Rattle.numbers.proofs.UnitLaws.{between-high}
 use Rattle.numbers.proofs.RoundingLaws.{half-up-le, away-size, away-le}
 use Rattle.numbers.proofs.SignedLaws.{signed-sum-size, size-sub-le, size-add-le, size-mul-le}
 use Rattle.settlement.specs.Amount.{mostReading, readingOf, presentAt, chargeAt, highLossOf, lowLossOf}
@@ -55,9 +55,7 @@ billing-facts n present readings losses h i p =
       reading = λ s k q r.
           reading-most (presentAt present i s) (readingOf readings i s k)
           (all-at 4 (λ l. readingAllowed (presentAt present i s) (readingOf readings i s l)) (row s q) k r);
-      highLeast = between-low 10000 20000 (highLossOf losses i) high;
       highMost = between-high 10000 20000 (highLossOf losses i) high;
-      lowLeast = between-low 10000 20000 (lowLossOf losses i) low;
       lowMost = between-high 10000 20000 (lowLossOf losses i) low;
     }
 

@@ -1,6 +1,6 @@
 -- The readings and loss factors of class examples 9 and 10 of document 01: three distributors, sector 0 alone present,
 -- all of it billed at high voltage, loss factors 10,000. Assumes nothing.
-use mathlib.Core.List.{List, [], _∷_, _++_}
+use mathlib.Core.List.{List, _∷_, _++_}
 use Prim.Native.Nat.{ℕ}
 use lib.ListN.{replicate}
 

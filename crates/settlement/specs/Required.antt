@@ -18,9 +18,7 @@ pub record BillingLists (n : ℕ) (readings losses : List ℕ) : Type 0 where
 
 pub record BillingFacts (readings losses : List ℕ) (i : ℕ) : Type 0 where
   pub reading : (s k : ℕ) → s < sectorCount → k < 4 → readingOf readings i s k ≤ mostReading
-  pub highLeast : 10000 ≤ highLossOf losses i
   pub highMost : highLossOf losses i ≤ 20000
-  pub lowLeast : 10000 ≤ lowLossOf losses i
   pub lowMost : lowLossOf losses i ≤ 20000
 
 pub record BilledReadings (n : ℕ) (readings losses : List ℕ) : Type 0 where

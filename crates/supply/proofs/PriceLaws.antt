@@ -1,7 +1,7 @@
 -- Bounds of every number on the way from a line's base price to its reference, so that nothing leaves 64 bits; and
 -- what a line that passes has: indexed and purchase in 1 to 1,000,000, reference in 1,000 to 2,000,000.
 -- Assumes nothing.
-use mathlib.Core.Path.{_≡_, refl, _∙_, ap, ap₂}
+use mathlib.Core.Path.{_≡_, refl, ap}
 use mathlib.Core.Bool.{Bool, true, false, cond, _&&_}
 use mathlib.Core.List.{List, [], _∷_}
 use mathlib.Core.Option.{Option, none, some}

@@ -1,6 +1,6 @@
 -- What a line that passes the test of its ranges has: each word within its bounds, as plain facts. Callers cite these
 -- and not the test. Assumes nothing.
-use mathlib.Core.Path.{_≡_, refl}
+use mathlib.Core.Path.{_≡_}
 use mathlib.Core.Bool.{Bool, true, false, cond, _&&_}
 use mathlib.Core.List.{List}
 use Prim.Native.Nat.{ℕ, _≤_, _<_}
@@ -129,9 +129,7 @@ numbers-facts numbers h =
     and-three (between 1 200000 (numbers .dollar)) (between 5000 20000 (numbers .«reference_factor»))
     (leb (numbers .«first_month») lastMonth) h in
     record {
-      dollarLeast = between-low 1 200000 _ (p .0);
       dollarMost = between-high 1 200000 _ (p .0);
-      factorLeast = between-low 5000 20000 _ (p .1);
       factorMost = between-high 5000 20000 _ (p .1);
       start = leb-true _ _ (p .2);
     }

@@ -11,7 +11,7 @@ use Rattle.numbers.specs.declared.refusal.Verdict.the-variants.{Passed, Refused
 use Rattle.numbers.specs.declared.units.PesoPrice.{PesoPrice}
 use Rattle.numbers.proofs.CheckLaws.{FirstPass, AllTold, refused-first, passed-alone, all-passed, verdict-from, judged}
 use Rattle.supply.specs.Months.{lacksMonth, firstMissing, monthCheck}
-use Rattle.supply.specs.Price.{termMean, firstBeyond, boundsCheck, referenceList, refusedReferences, referencesBy}
+use Rattle.supply.specs.Price.{termMean, firstBeyond, referenceList, refusedReferences, referencesBy}
 use Rattle.supply.specs.Price.{boundedReferences}
 use Rattle.supply.specs.Price.{tableChecks, linesReferences, ReferencesPromise}
 use Rattle.supply.specs.declared.market.FixingNumbers.{FixingNumbers}

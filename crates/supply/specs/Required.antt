@@ -36,8 +36,6 @@ pub record CheckedLines (lines : List ℕ) : Type 0 where
   pub facts : (j : ℕ) → j < lineCount lines → LineFacts (lineOf lines j)
 
 pub record NumbersFacts (numbers : FixingNumbers) : Type 0 where
-  pub dollarLeast : 1 ≤ numbers .dollar
   pub dollarMost : numbers .dollar ≤ 200000
-  pub factorLeast : 5000 ≤ numbers .«reference_factor»
   pub factorMost : numbers .«reference_factor» ≤ 20000
   pub start : numbers .«first_month» ≤ lastMonth

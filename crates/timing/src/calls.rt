@@ -1,21 +1,29 @@
 // The calls that are timed: each is given the same ledger and the same lent lists every time.
 ghost use Prim.Native.Nat.{_≤_};
 use crate::arguments::Task;
+use crate::load::LINES;
+use crate::load::LOSSES;
 use crate::load::Load;
-use ledger::fix::FixingAnswer;
+use crate::load::READINGS;
+use crate::report::PRICES;
+use ledger::fix::FixingOutcome;
 use ledger::fix::fix;
 use ledger::fix::fixing_number;
 use ledger::ledger::Ledger;
 use ledger::open::open;
+use ledger::settle::SettlementOutcome;
 use ledger::settle::settle;
 use numbers::refusal::verdict_number;
 use numbers::sizes::MOST_DISTRIBUTORS;
+use numbers::sizes::PLACES;
+use series::table::WORDS;
+use supply::market::FixingNumbers;
 
-// How many calls were accepted, the last fixing's answer and the ledger of the last settlement.
+// How many calls were accepted, the last fixing and the ledger of the last settlement.
 pub(crate) struct Results {
     pub fixings: u64,
     pub settlements: u64,
-    pub answer: FixingAnswer,
+    pub fixing: FixingOutcome,
     pub settled: Ledger,
 }
 
@@ -26,21 +34,43 @@ fn accepted(number: u64) -> u64
     if number == 0 { 1 } else { 0 }
 }
 
+// The fixing of the load.
+fn fix_load(
+    ledger: Ledger,
+    numbers: FixingNumbers,
+    series: &[u64; WORDS],
+    lines: &[u64; LINES],
+    sectors: &[u64; PLACES],
+    prices: &mut [i64; PRICES],
+) -> FixingOutcome {
+    fix(ledger, numbers, series, lines, sectors, prices)
+}
+
+// The settlement of the load; the two lists have one lifetime, so that both are lent out of one struct.
+fn settle_load<'a>(
+    ledger: Ledger,
+    month: u64,
+    readings: &'a [u64; READINGS],
+    losses: &'a [u64; LOSSES],
+    transfers: &mut [i64; MOST_DISTRIBUTORS],
+) -> SettlementOutcome {
+    settle(ledger, month, readings, losses, transfers)
+}
+
 // Makes one fixing that is not counted, for the ledger of the settlements, then the calls.
 pub(crate) fn make_calls(
     load: Load,
     task: Task,
-    prices: &mut [i64],
-    transfers: &mut [i64],
+    prices: &mut [i64; PRICES],
+    transfers: &mut [i64; MOST_DISTRIBUTORS],
 ) -> Results {
     let opened = open(MOST_DISTRIBUTORS).ledger;
     let numbers = load.numbers;
+    let month = numbers.month;
     let series = load.series;
     let lines = load.lines;
     let sectors = load.sectors;
-    let readings = load.readings;
-    let losses = load.losses;
-    let mut fixing = fix(opened, numbers, &series, &lines, &sectors, prices);
+    let mut fixing = fix_load(opened, numbers, &series, &lines, &sectors, prices);
     let fixed = fixing.ledger;
     let mut settled = fixed;
     let mut fixings: u64 = 0;
@@ -48,23 +78,22 @@ pub(crate) fn make_calls(
     let mut run: u64 = 0;
     while run < task.count {
         if task.fixings {
-            fixing = fix(opened, numbers, &series, &lines, &sectors, prices);
+            fixing = fix_load(opened, numbers, &series, &lines, &sectors, prices);
             let answer = fixing.answer;
             fixings += accepted(fixing_number(answer));
         }
         if task.settlements {
-            let settlement = settle(fixed, numbers.month, &readings, &losses, transfers);
+            let settlement = settle_load(fixed, month, &load.readings, &load.losses, transfers);
             let verdict = settlement.verdict;
             settled = settlement.ledger;
             settlements += accepted(verdict_number(verdict));
         }
         run += 1;
     }
-    let answer = fixing.answer;
     Results {
         fixings,
         settlements,
-        answer,
+        fixing,
         settled,
     }
 }

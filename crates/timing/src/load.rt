@@ -1,19 +1,29 @@
 // The two loads, word by word as bench/plain.rs makes them: 40 distributors and 256 lines. The even one has words alike
 // and no charges; the mixed one has words of every size, absent sectors, two rounds and transfers.
-ghost use Prim.Native.Nat.{_<_, _≤_};
+ghost use Prim.Native.Nat.{_*_, _<_, _≤_};
 ghost use lib.ListN.{length};
+ghost use Rattle.supply.specs.Line.{lineWords, mostLines};
 use numbers::sizes::MOST_DISTRIBUTORS;
 use numbers::sizes::PLACES;
+use series::table::MONTHS;
 use series::table::WORDS;
 use supply::line::LINE_WORDS;
 use supply::line::MOST_LINES;
 use supply::market::FixingNumbers;
 
-const LINES: usize = MOST_LINES * LINE_WORDS;
+// The lengths of the lists that have no name elsewhere: four readings a sector, two loss factors a distributor.
+pub(crate) const LINES: usize = MOST_LINES * LINE_WORDS;
 
-const READINGS: usize = PLACES * 4;
+pub(crate) const READINGS: usize = PLACES * 4;
 
-const LOSSES: usize = MOST_DISTRIBUTORS * 2;
+pub(crate) const LOSSES: usize = MOST_DISTRIBUTORS * 2;
+
+// Sizes as words are worked with.
+const DISTRIBUTORS: u64 = MOST_DISTRIBUTORS as u64;
+
+const WORDS_OF_LINE: u64 = LINE_WORDS as u64;
+
+const SERIES_MONTHS: u64 = MONTHS as u64;
 
 // The lists that the calls are lent, and the fixing's numbers.
 pub(crate) struct Load {
@@ -33,12 +43,12 @@ enum List {
     Losses,
 }
 
-// A word of an even line: base price and energy rise from line to line.
+// A word of an even line's own: base price and energy rise from line to line.
 fn even_head(line: u64, word: u64) -> u64
-    requires { ⌜ line < 256 ⌝ }
+    requires { ⌜ line < mostLines ⌝ }
 {
     match word {
-        0 => line % 40,
+        0 => line % DISTRIBUTORS,
         1 => 50000 + 390 * line,
         4 => 1000 + line,
         5 => 4,
@@ -57,11 +67,12 @@ fn even_term(term: u64, word: u64) -> u64 {
     }
 }
 
+// A word of a mixed line's own.
 fn mixed_head(line: u64, word: u64) -> u64
-    requires { ⌜ line < 256 ⌝ }
+    requires { ⌜ line < mostLines ⌝ }
 {
     match word {
-        0 => 7 * line % 40,
+        0 => 7 * line % DISTRIBUTORS,
         1 => 40000 + 977 * line % 60001,
         2 => 9000 + 131 * line % 2001,
         3 => 9500 + 57 * line % 1001,
@@ -91,7 +102,7 @@ fn window(place: u64) -> u64 {
 
 // A word of a term of a mixed line, 0 past the line's last term.
 fn mixed_term(line: u64, term: u64, word: u64) -> u64
-    requires { ⌜ line < 256 ⌝ ∗ ⌜ term < 4 ⌝ }
+    requires { ⌜ line < mostLines ⌝ ∗ ⌜ term < 4 ⌝ }
 {
     let terms = line % 5;
     if terms <= term {
@@ -108,7 +119,7 @@ fn mixed_term(line: u64, term: u64, word: u64) -> u64
 
 // A word of a line: six of its own, then five for each of four terms.
 fn line_word(mixed: bool, line: u64, word: u64) -> u64
-    requires { ⌜ line < 256 ⌝ ∗ ⌜ word < 26 ⌝ }
+    requires { ⌜ line < mostLines ⌝ ∗ ⌜ word < lineWords ⌝ }
 {
     if word < 6 {
         return if mixed {
@@ -127,14 +138,15 @@ fn line_word(mixed: bool, line: u64, word: u64) -> u64
 }
 
 fn mixed_series(place: u64) -> u64
-    requires { ⌜ place < 6656 ⌝ }
+    requires { ⌜ place < mostLines * lineWords ⌝ }
 {
-    let column = place % 48;
-    9500 + (1000 * (place / 48) + 13 * column * column) % 1001
+    let series = place / SERIES_MONTHS;
+    let column = place % SERIES_MONTHS;
+    9500 + (1000 * series + 13 * column * column) % 1001
 }
 
 fn mixed_sector(place: u64) -> u64
-    requires { ⌜ place < 6656 ⌝ }
+    requires { ⌜ place < mostLines * lineWords ⌝ }
 {
     if place % 4 == 3 {
         0
@@ -145,7 +157,7 @@ fn mixed_sector(place: u64) -> u64
 
 // An absent sector has no readings.
 fn mixed_reading(place: u64) -> u64
-    requires { ⌜ place < 6656 ⌝ }
+    requires { ⌜ place < mostLines * lineWords ⌝ }
 {
     if mixed_sector(place / 4) == 0 {
         0
@@ -155,11 +167,11 @@ fn mixed_reading(place: u64) -> u64
 }
 
 fn even_word(list: List, place: u64) -> u64
-    requires { ⌜ place < 6656 ⌝ }
+    requires { ⌜ place < mostLines * lineWords ⌝ }
 {
     match list {
         List::Series => 10000,
-        List::Lines => line_word(false, place / 26, place % 26),
+        List::Lines => line_word(false, place / WORDS_OF_LINE, place % WORDS_OF_LINE),
         List::Sectors => 10000,
         List::Readings => 1000,
         List::Losses => 10500,
@@ -167,11 +179,11 @@ fn even_word(list: List, place: u64) -> u64
 }
 
 fn mixed_word(list: List, place: u64) -> u64
-    requires { ⌜ place < 6656 ⌝ }
+    requires { ⌜ place < mostLines * lineWords ⌝ }
 {
     match list {
         List::Series => mixed_series(place),
-        List::Lines => line_word(true, place / 26, place % 26),
+        List::Lines => line_word(true, place / WORDS_OF_LINE, place % WORDS_OF_LINE),
         List::Sectors => mixed_sector(place),
         List::Readings => mixed_reading(place),
         List::Losses => 10000 + 97 * place % 1501,
@@ -180,7 +192,7 @@ fn mixed_word(list: List, place: u64) -> u64
 
 // Fills a list with its words.
 fn fill(mixed: bool, list: List, words: &mut [u64])
-    requires { ⌜ length (now words) ≤ 6656 ⌝ }
+    requires { ⌜ length (now words) ≤ mostLines * lineWords ⌝ }
 {
     let mut at: usize = 0;
     while at < words.len() {

@@ -1,5 +1,5 @@
-// The calls of the benchmark (bench/README.md): `timing LOAD CALL COUNT` builds a load once, makes its calls COUNT times
-// and prints what bench/plain.rs prints of the same arguments, so that the two can be compared and timed.
+// The Rattle half of the benchmark (bench/README.md): `timing LOAD CALL COUNT` builds a load once, makes the calls
+// COUNT times and prints what bench/plain.rs prints for the same arguments, so that the two can be compared and timed.
 mod arguments;
 mod calls;
 mod load;

@@ -93,7 +93,8 @@ pub(crate) fn print_results(
 ) {
     print_counts(results.fixings, results.settlements);
     if results.fixings != 0 {
-        let answer = results.answer;
+        let fixing = results.fixing;
+        let answer = fixing.answer;
         print_answer(answer);
         print_prices(prices);
     }

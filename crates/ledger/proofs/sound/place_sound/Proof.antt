@@ -1,11 +1,7 @@
 -- The two tests are the definition's.
-use mathlib.Core.Path.{_≡_, _∙_, ap₂}
-use Prim.Native.Nat.{_≤_}
 use native.Mathlib.Omega.{arith}
-use lib.IntN.{ℤ}
 use mir.Facts.{toZ-ofZ}
 use borrow.Author.Needs.{needs}
-use Rattle.numbers.specs.Signed.{withinSize}
 use Rattle.settlement.specs.Amount.{mostCharge}
 use Rattle.ledger.specs.Sound.{mostChargeOf, placeTest}
 use Rattle.ledger.proofs.SoundFacts.{pick-most}

@@ -1,11 +1,11 @@
 -- What is saved is loaded as the same ledger.
-use mathlib.Core.Path.{_≡_, sym, _∙_, ap}
+use mathlib.Core.Path.{_≡_, sym, _∙_}
 use Prim.Native.Nat.{_*_, _≤_}
 use native.Mathlib.Omega.{arith}
-use lib.ListN.{length, take}
+use lib.ListN.{length}
 use lib.Seq.{length-take-le}
 use Rattle.ledger.specs.declared.ledger.Ledger.{Ledger}
-use Rattle.store.specs.Store.{presentWords, chargeWords, balanceWords, loadedLedger}
+use Rattle.store.specs.Store.{presentWords, chargeWords, balanceWords}
 use Rattle.numbers.proofs.ListLaws.{Front}
 use Rattle.store.proofs.StoreLaws.{mapped, saved-few, present-first, charges-first, balances-first, saved-back}
 use borrow.Author.Needs.{needs}

@@ -1,11 +1,11 @@
 -- Where no mean is 0 nothing is missing. The walk's invariants: nothing is missing in the lines passed, nor in the
 -- terms passed of the line at hand.
 use mathlib.Core.Path.{_≡_, refl, sym, _∙_, ap}
-use mathlib.Core.Option.{none, some}
+use mathlib.Core.Option.{none}
 use Prim.Native.Nat.{ℕ, _≤_, _<_, _-_}
 use native.Mathlib.Omega.{arith}
 use lib.Dec.{eqb}
-use borrow.Author.Tests.{eq-eqb, ne-eqb, not-true}
+use borrow.Author.Tests.{eq-eqb, ne-eqb}
 use borrow.Author.Needs.{needs}
 use Rattle.numbers.specs.Bounded.{firstBelow}
 use Rattle.numbers.specs.Checks.{verdictOf}

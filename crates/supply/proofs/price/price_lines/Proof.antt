@@ -3,7 +3,6 @@ use mathlib.Core.Path.{_≡_, sym, _∙_, ap}
 use mathlib.Core.List.{[], _∷_}
 use borrow.Author.Needs.{needs}
 use Rattle.numbers.specs.Checks.{verdictOf}
-use Rattle.numbers.specs.declared.refusal.Verdict.the-variants.{Passed}
 use Rattle.series.proofs.MeanLaws.{means-within}
 use Rattle.supply.specs.Listed.{listedMean, listedLacks}
 use Rattle.supply.specs.Months.{lacksMonth, monthCheck}
