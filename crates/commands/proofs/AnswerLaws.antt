@@ -25,9 +25,8 @@ use Rattle.text.proofs.SizeLaws.{choice-size}
 use Rattle.answers.proofs.SizeLaws.{opening-size, loading-size, fixing-size, settlement-size, saving-size}
 use Rattle.commands.specs.Replay.{unwritten, fixingCall, settlementCall, commandNext, commandLedger, stepOf}
 use Rattle.commands.specs.Replay.{stepAfter, fixingPrinted, settlementPrinted, commandAnswer, answerOf}
-use Rattle.commands.specs.Replay.{answerAfter, longestAnswer, unansweredBy, CallMade, CommandMade}
+use Rattle.commands.specs.Replay.{answerAfter, longestAnswer, unansweredBy, CommandMade}
 use Rattle.commands.specs.Replay.{CommandAnswered}
-use Rattle.commands.specs.declared.call.Made.{Made}
 use Rattle.commands.specs.declared.run.CommandOutcome.{CommandOutcome}
 use Rattle.commands.proofs.ReplayLaws.{stepBy, step-broken, step-made, step-read}
 
@@ -75,15 +74,6 @@ module _ (command : Command) (text : List ℕ) (cursor : Cursor) (ledger : Ledge
   unfolding answerOf
   command-made b after h count found left w =
       record { stepped = step-made command text cursor ledger next e b after h; answered = rw (← e, b) w }
-
-  pub call-made : next .broken ≡ false → (made : Made) (after : Ledger) (answer found left : List ℕ) →
-      CallMade made after answer found left → after ≡ commandLedger command text cursor ledger →
-      answer ≡ commandAnswer command text cursor ledger →
-      CommandMade (answeredBy (made .ledger) next (made .count)) (stepOf command text cursor ledger)
-      (answerOf command text cursor ledger) found left
-  call-made b made after answer found left m h k =
-      command-made b (made .ledger) (m .booked ∙ h) (made .count) found left
-      (m .answered ∙ ap (λ text. written text (bufferOf found 0)) k)
 
   -- one that leaves the ledger and answers nothing, broken or not
   pub nothing-made : commandLedger command text cursor ledger ≡ ledger → commandAnswer command text cursor ledger ≡ [] →

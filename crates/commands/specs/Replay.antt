@@ -30,7 +30,6 @@ use Rattle.store.specs.Store.{loadedLedger}
 use Rattle.store.specs.declared.load.LedgerNumbers.{LedgerNumbers}
 use Rattle.text.specs.Buffer.{bufferOf, written}
 use Rattle.answers.specs.Answer.{openingText, loadingText, fixingText, settlementText, savingText}
-use Rattle.commands.specs.declared.call.Made.{Made}
 use Rattle.commands.specs.declared.run.CommandOutcome.{CommandOutcome}
 use Rattle.commands.specs.declared.run.Step.{Step}
 
@@ -168,11 +167,6 @@ longestAnswer = 262144
 -- a command that cannot be read
 abbrev pub unansweredBy : Ledger → Cursor → CommandOutcome
 unansweredBy ledger next = record { step = record { ledger = ledger; next = next }; count = 0 }
-
--- a call that was made: its ledger, and its answer at the start of a buffer
-pub record CallMade (made : Made) (ledger : Ledger) (answer found left : List ℕ) : Type 0 where
-  pub booked : made .ledger ≡ ledger
-  pub answered : bufferOf left (made .count) ≡ written answer (bufferOf found 0)
 
 -- a command that was read, and made where it is whole
 pub record CommandMade (made : CommandOutcome) (step : Step) (answer found left : List ℕ) : Type 0 where

@@ -11,7 +11,9 @@ use crate::call::make_settlement;
 use answers::outcome::write_error;
 use answers::outcome::write_loading;
 use answers::outcome::write_opening;
+use answers::prices::write_fixing;
 use answers::saving::write_saving;
+use answers::transfers::write_settlement;
 use journal::command::Command;
 use journal::command::MOST_WORD;
 use journal::command::next_command;
@@ -109,21 +111,19 @@ fn run_fix(text: &[u8], cursor: Cursor, ledger: Ledger, buffer: &mut [u8]) -> Co
         reference_factor: read.factor,
         first_month: read.first,
     };
-    let made = make_fixing(
+    let outcome = make_fixing(
         ledger,
         numbers,
         &series[..values],
         &lines[..line_words],
         &sectors[..factors],
         &mut prices[..lent],
-        buffer,
     );
-    let ledger = made.ledger;
+    let answer = outcome.answer;
+    let ledger = outcome.ledger;
+    let count = write_fixing(buffer, 0, answer, &prices[..lent]);
     let step = Step { ledger, next };
-    CommandOutcome {
-        step,
-        count: made.count,
-    }
+    CommandOutcome { step, count }
 }
 
 fn run_settle(text: &[u8], cursor: Cursor, ledger: Ledger, buffer: &mut [u8]) -> CommandOutcome
@@ -142,20 +142,19 @@ fn run_settle(text: &[u8], cursor: Cursor, ledger: Ledger, buffer: &mut [u8]) ->
     let counted = read.readings;
     let factors = read.losses;
     let lent = read.transfers;
-    let made = make_settlement(
+    let outcome = make_settlement(
         ledger,
         read.month,
         &readings[..counted],
         &losses[..factors],
         &mut transfers[..lent],
-        buffer,
     );
-    let ledger = made.ledger;
+    let verdict = outcome.verdict;
+    let ledger = outcome.ledger;
+    let balances = ledger.balances;
+    let count = write_settlement(buffer, 0, verdict, &transfers[..lent], balances);
     let step = Step { ledger, next };
-    CommandOutcome {
-        step,
-        count: made.count,
-    }
+    CommandOutcome { step, count }
 }
 
 fn run_load(text: &[u8], cursor: Cursor, ledger: Ledger, buffer: &mut [u8]) -> CommandOutcome
