@@ -42,7 +42,7 @@ use Rattle.ledger.specs.Ledger.{noBalances, emptyLedger, anySettled, nextMonth,
 use Rattle.ledger.specs.Ledger.{settledLedger, openingChecks, openingVerdict, openingLedger}
 use Rattle.ledger.specs.Settle.{settlementLengths, positionsOf, settlementChecks, settlementVerdict, settlementLedger}
 use Rattle.ledger.specs.Settle.{settlementList}
-use Rattle.ledger.specs.Sound.{mostChargeOf, placeTest, placeSound, forceSound, nothingPresent, unsetZero}
+use Rattle.ledger.specs.Sound.{placesHeld, placeTest, placeSound, forceSound, unsetZero}
 use Rattle.ledger.specs.Sound.{monthsSound, mostBalanceOf, balanceTest, balanceSound, eachBalance, balancesSound}
 use Rattle.ledger.specs.Sound.{sound}
 use Rattle.ledger.specs.Turn.{fixingTurn, settlementTurn}
@@ -70,7 +70,7 @@ unfolding sumBelow allBelow anyBelow firstBelow listBelow filledBelow verdictOf 
     firstLedger linesWhole fixingLengths fixingChecks fixingVerdict acceptedAnswer fixingAnswer fixingLedger priceWord
     priceList fixingList noBalances emptyLedger anySettled nextMonth billedUnder fixedLedger settledLedger
     openingChecks openingVerdict openingLedger settlementLengths positionsOf settlementChecks settlementVerdict
-    settlementLedger settlementList mostChargeOf placeTest placeSound forceSound nothingPresent unsetZero monthsSound
+    settlementLedger settlementList placesHeld placeTest placeSound forceSound unsetZero monthsSound
     mostBalanceOf balanceTest balanceSound eachBalance balancesSound sound fixingTurn settlementTurn monthValue
     rowOf lentWords indexedNumbers indexedLine plainNumber pair printAnswered settledNumber firstMoney classExamples
     sameNumber sameNumbers holdFrom whole

@@ -38,7 +38,7 @@ use Rattle.ledger.specs.Fix.{linesWhole, fixingLengths, fixingChecks, fi
 use Rattle.ledger.specs.Ledger.{noBalances, emptyLedger, anySettled, nextMonth, billedUnder, fixedLedger}
 use Rattle.ledger.specs.Ledger.{openingChecks, openingVerdict, openingLedger}
 use Rattle.ledger.specs.Settle.{settlementLengths, positionsOf, settlementChecks, settlementVerdict}
-use Rattle.ledger.specs.Sound.{mostChargeOf, placeTest, placeSound, forceSound, nothingPresent, unsetZero}
+use Rattle.ledger.specs.Sound.{placesHeld, placeTest, placeSound, forceSound, unsetZero}
 use Rattle.ledger.specs.Sound.{monthsSound, mostBalanceOf, balanceTest, balanceSound, eachBalance}
 use Rattle.ledger.specs.Sound.{balancesSound, sound}
 use Rattle.ledger.specs.Turn.{fixingTurn, settlementTurn}
@@ -66,7 +66,7 @@ unfolding sumBelow allBelow anyBelow firstBelow listBelow filledBelow verdictOf 
     positionsInRange oneSign plainLine plainNumbers plainCall printCall printLedger firstBilling linesWhole
     fixingLengths fixingChecks fixingVerdict fixingLedger noBalances emptyLedger anySettled nextMonth billedUnder
     fixedLedger openingChecks openingVerdict openingLedger settlementLengths positionsOf settlementChecks
-    settlementVerdict mostChargeOf placeTest placeSound forceSound nothingPresent unsetZero monthsSound mostBalanceOf
+    settlementVerdict placesHeld placeTest placeSound forceSound unsetZero monthsSound mostBalanceOf
     balanceTest balanceSound eachBalance balancesSound sound fixingTurn settlementTurn
 example-settled = refl
 

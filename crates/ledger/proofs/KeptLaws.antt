@@ -36,7 +36,7 @@ use Rattle.settlement.proofs.SettlementLaws.{balances-sign, balances-total}
 use Rattle.settlement.proofs.MonthLaws.{money-at, positions-within, balances-within}
 use Rattle.ledger.specs.Ledger.{anySettled, nextMonth, billedUnder, noBalances, emptyLedger, fixedLedger}
 use Rattle.ledger.specs.Ledger.{settledLedger}
-use Rattle.ledger.specs.Sound.{presentIn, chargeIn, sound}
+use Rattle.ledger.specs.Sound.{presentIn, chargeIn, placesHeld, sound}
 use Rattle.ledger.specs.Turn.{fixingTurn, settlementTurn}
 use Rattle.ledger.specs.Fix.{FixingCall, fixingVerdict, fixingLedger}
 use Rattle.ledger.specs.Settle.{SettlementCall, settlementVerdict, settlementLedger, positionsOf}
@@ -69,8 +69,8 @@ module _ (k : ℕ) (charge : ℕ → ℤ) (sectors : List ℕ) (j : ℕ) (p : j 
       filled-past sectorPlaces (pos 0) (λ i. sectorCharge (charge (i / sectorCount)) (factorAt sectors i)) k j q p
 
 -- a place with nothing in it is sound
-empty-place : (n : ℕ) (present : Bool) (z : ℤ) (k : ℕ) → present ≡ false → z ≡ pos 0 → PlaceFacts n present z k
-empty-place n present z k e h = record { past = λ p. e; absent = λ p. h; within = rw h (omega arith) }
+empty-place : (held : ℕ) (present : Bool) (z : ℤ) (k : ℕ) → present ≡ false → z ≡ pos 0 → PlaceFacts held present z k
+empty-place held present z k e h = record { past = λ p. e; absent = λ p. h; within = rw h (omega arith) }
 
 empty-balance : (n : ℕ) (settled : Bool) (z : ℤ) (i : ℕ) → z ≡ pos 0 → BalanceFacts n settled z i
 empty-balance n settled z i h = record { past = λ p. h; till = λ p. h; within = rw h (omega arith) }
@@ -90,8 +90,8 @@ opened-sound n p q =
     (record {
       some = p;
       few = q;
-      place = λ k r. empty-place n _ _ k (nothing-at k r .0) (nothing-at k r .1);
-      unset = record { unfixed = λ e. refl; nobody = λ e k r. nothing-at k r .0; unsettled = λ e. refl };
+      place = λ k r. empty-place (placesHeld n false) _ _ k (nothing-at k r .0) (nothing-at k r .1);
+      unset = record { unfixed = λ e. refl; unsettled = λ e. refl };
       month =
           record {
             lastMost = omega arith;
@@ -115,15 +115,16 @@ sector-none z f e =
 charged-place : (n : ℕ) (d : Distributors) (sectors : List ℕ) → n ≤ mostDistributors →
     ((i : ℕ) → i < n → natAbs (charge d i) ≤ 2000000) →
     ((k : ℕ) → k < n * sectorCount → factorAt sectors k ≤ mostFactor) → (k : ℕ) → k < sectorPlaces →
-    PlaceFacts n (presentIn (sectorCharges n (charge d) sectors) k) (chargeIn (sectorCharges n (charge d) sectors) k) k
-unfolding sectorCharges sectorPresent
+    PlaceFacts (placesHeld n true) (presentIn (sectorCharges n (charge d) sectors) k)
+    (chargeIn (sectorCharges n (charge d) sectors) k) k
+unfolding placesHeld sectorCharges sectorPresent
 charged-place n d sectors few size factor k p = go (decLt k (n * sectorCount))
   where
     go : Dec (k < n * sectorCount) →
-        PlaceFacts n (presentIn (sectorCharges n (charge d) sectors) k)
+        PlaceFacts (n * sectorCount) (presentIn (sectorCharges n (charge d) sectors) k)
         (chargeIn (sectorCharges n (charge d) sectors) k) k
     go (no q) =
-        empty-place n _ _ k
+        empty-place (n * sectorCount) _ _ k
         (present-past (n * sectorCount) (charge d) sectors k p (omega arith))
         (charge-past (n * sectorCount) (charge d) sectors k p (omega arith))
     go (yes q) =
@@ -182,7 +183,6 @@ fixing-keeps ledger call h = go (isPassed (fixingVerdict ledger call)) refl
           unset =
               record {
                 unfixed = λ t. absurd (true≢false t);
-                nobody = λ t k p. absurd (true≢false t);
                 unsettled = g .unset .unsettled;
               };
           month =
@@ -292,7 +292,6 @@ settlement-keeps ledger call h = go (isPassed (settlementVerdict ledger call)) r
           unset =
               record {
                 unfixed = g .unset .unfixed;
-                nobody = g .unset .nobody;
                 unsettled = λ e. absurd (true≢false (sym (month-settled ledger _ _) ∙ e));
               };
           month =

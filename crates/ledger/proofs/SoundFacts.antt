@@ -1,6 +1,6 @@
 -- What soundness says, as plain facts, and the way back from them. Assumes nothing.
-use mathlib.Core.Path.{_≡_, refl, ap}
-use mathlib.Core.Bool.{Bool, true, false, cond, not, _&&_, _||_}
+use mathlib.Core.Path.{_≡_, refl, sym, _∙_, ap}
+use mathlib.Core.Bool.{Bool, true, false, cond, not, _&&_, _||_, true≢false}
 use Prim.Native.Nat.{ℕ, _+_, _*_, _≤_, _<_}
 use native.Mathlib.Omega.{arith}
 use lib.Dec.{leb, ltb, eqb}
@@ -19,8 +19,7 @@ use Rattle.settlement.specs.Amount.{mostCharge}
 use Rattle.settlement.specs.Settlement.{mostPosition, oneSign}
 use Rattle.settlement.specs.Month.{moneyAt}
 use Rattle.ledger.specs.Ledger.{anySettled}
-use Rattle.ledger.specs.Sound.{presentIn, chargeIn, mostChargeOf, placeTest, placeSound, forceSound}
-use Rattle.ledger.specs.Sound.{nothingPresent, unsetZero}
+use Rattle.ledger.specs.Sound.{presentIn, chargeIn, placesHeld, placeTest, placeSound, forceSound, unsetZero}
 use Rattle.ledger.specs.Sound.{monthsSound, mostBalanceOf, balanceTest, balanceSound, eachBalance, balancesSound}
 use Rattle.ledger.specs.Sound.{sound}
 use Rattle.ledger.specs.declared.ledger.Ledger.{Ledger}
@@ -47,66 +46,59 @@ module _ (b : Bool) (most : ℕ) (z : ℤ) where
       go false e = rw (zero e)
 
 -- one sector's place
-pub record PlaceFacts (n : ℕ) (present : Bool) (charge : ℤ) (k : ℕ) : Type 0 where
-  pub past : n * sectorCount ≤ k → present ≡ false
+pub record PlaceFacts (held : ℕ) (present : Bool) (charge : ℤ) (k : ℕ) : Type 0 where
+  pub past : held ≤ k → present ≡ false
   pub absent : present ≡ false → charge ≡ pos 0
   pub within : natAbs charge ≤ mostCharge
 
-module _ (n : ℕ) (present : Bool) (charge : ℤ) (k : ℕ) where
-  abbrev own : Bool
-  own = ltb k (n * sectorCount) || not present
-
-  pub place-facts : placeTest n present charge k ≡ true → PlaceFacts n present charge k
-  unfolding placeTest mostChargeOf
-  place-facts h =
-      let small = and-right own (withinSize (mostChargeOf present) charge) h in
+module _ (held : ℕ) (charge : ℤ) (k : ℕ) where
+  pub place-facts : (present : Bool) → placeTest held present charge k ≡ true → PlaceFacts held present charge k
+  unfolding placeTest withinSize
+  place-facts true h =
       record {
-        past =
-            λ p. not-true present (or-else (ltb k (n * sectorCount)) (not present)
-            (and-left own (withinSize (mostChargeOf present) charge) h) (le-ltb k (n * sectorCount) p));
-        absent = λ e. within-zero present mostCharge charge e small;
-        within = within-most present mostCharge charge small;
+        past = λ p. absurd (true≢false (sym (and-left (ltb k held) (withinSize mostCharge charge) h) ∙ le-ltb k held p));
+        absent = λ e. absurd (true≢false e);
+        within = leb-true (natAbs charge) mostCharge (and-right (ltb k held) (withinSize mostCharge charge) h);
       }
+  place-facts false h =
+      let none : charge ≡ pos 0 = within-none charge h in
+      record { past = λ p. refl; absent = λ e. none; within = rw none (omega arith) }
 
-  pub place-test : PlaceFacts n present charge k → placeTest n present charge k ≡ true
-  unfolding placeTest mostChargeOf
-  place-test f =
-      and-both own (withinSize (mostChargeOf present) charge)
-      (or-of (ltb k (n * sectorCount)) (not present) (λ e. not-of present (f .past (ltb-false k (n * sectorCount) e))))
-      (within-of present mostCharge charge (f .within) (f .absent))
+  pub place-test : (present : Bool) → PlaceFacts held present charge k → placeTest held present charge k ≡ true
+  unfolding placeTest withinSize
+  place-test true f =
+      and-both (ltb k held) (withinSize mostCharge charge) (go (ltb k held) refl)
+      (le-leb (natAbs charge) mostCharge (f .within))
+    where
+      go : (b : Bool) → ltb k held ≡ b → b ≡ true
+      go true e = refl
+      go false e = absurd (true≢false (f .past (ltb-false k held e)))
+  place-test false f = rw (f .absent refl)
 
 -- what is not set is zero
-pub record UnsetFacts (settled : Bool) (last : ℕ) (fixed : Bool) (month : ℕ) (force : SectorCharges) : Type 0 where
+pub record UnsetFacts (settled : Bool) (last : ℕ) (fixed : Bool) (month : ℕ) : Type 0 where
   pub unfixed : fixed ≡ false → month ≡ 0
-  pub nobody : fixed ≡ false → (k : ℕ) → k < sectorPlaces → presentIn force k ≡ false
   pub unsettled : settled ≡ false → last ≡ 0
 
-module _ (settled : Bool) (last : ℕ) (fixed : Bool) (month : ℕ) (force : SectorCharges) where
-  abbrev none : Bool
-  none = eqb month 0 && nothingPresent force
+module _ (settled : Bool) (last : ℕ) (fixed : Bool) (month : ℕ) where
+  abbrev begun : Bool
+  begun = fixed || eqb month 0
 
-  pub unset-facts : unsetZero settled last fixed month force ≡ true → UnsetFacts settled last fixed month force
-  unfolding unsetZero nothingPresent
+  abbrev ended : Bool
+  ended = settled || eqb last 0
+
+  pub unset-facts : unsetZero settled last fixed month ≡ true → UnsetFacts settled last fixed month
+  unfolding unsetZero
   unset-facts h =
-      let held : fixed ≡ false → none ≡ true = or-else fixed none
-      (and-left (fixed || none) (settled || eqb last 0) h) in
       record {
-        unfixed = λ e. eqb-true month 0 (and-left (eqb month 0) (nothingPresent force) (held e));
-        nobody = λ e k p.
-            not-true (presentIn force k)
-            (all-at sectorPlaces (λ j. not (presentIn force j))
-            (and-right (eqb month 0) (nothingPresent force) (held e)) k p);
-        unsettled =
-            λ e. eqb-true last 0 (or-else settled (eqb last 0) (and-right (fixed || none) (settled || eqb last 0) h) e);
+        unfixed = λ e. eqb-true month 0 (or-else fixed (eqb month 0) (and-left begun ended h) e);
+        unsettled = λ e. eqb-true last 0 (or-else settled (eqb last 0) (and-right begun ended h) e);
       }
 
-  pub unset-test : UnsetFacts settled last fixed month force → unsetZero settled last fixed month force ≡ true
-  unfolding unsetZero nothingPresent
+  pub unset-test : UnsetFacts settled last fixed month → unsetZero settled last fixed month ≡ true
+  unfolding unsetZero
   unset-test f =
-      and-both (fixed || none) (settled || eqb last 0)
-      (or-of fixed none
-      (λ e. and-both (eqb month 0) (nothingPresent force) (eq-eqb month 0 (f .unfixed e))
-      (all-of sectorPlaces (λ j. not (presentIn force j)) (λ k p. not-of (presentIn force k) (f .nobody e k p)))))
+      and-both begun ended (or-of fixed (eqb month 0) (λ e. eq-eqb month 0 (f .unfixed e)))
       (or-of settled (eqb last 0) (λ e. eq-eqb last 0 (f .unsettled e)))
 
 -- the months
@@ -186,8 +178,8 @@ pub record SoundFacts (ledger : Ledger) : Type 0 where
   pub some : 1 ≤ ledger .n
   pub few : ledger .n ≤ mostDistributors
   pub place : (k : ℕ) → k < sectorPlaces →
-      PlaceFacts (ledger .n) (presentIn (ledger .force) k) (chargeIn (ledger .force) k) k
-  pub unset : UnsetFacts (anySettled ledger) (ledger .last) (ledger .fixed) (ledger .month) (ledger .force)
+      PlaceFacts (placesHeld (ledger .n) (ledger .fixed)) (presentIn (ledger .force) k) (chargeIn (ledger .force) k) k
+  pub unset : UnsetFacts (anySettled ledger) (ledger .last) (ledger .fixed) (ledger .month)
   pub month : MonthFacts (anySettled ledger) (ledger .months) (ledger .last) (ledger .fixed) (ledger .month)
   pub balance : (i : ℕ) → i < mostDistributors →
       BalanceFacts (ledger .n) (anySettled ledger) (moneyAt (ledger .balances) i) i
@@ -200,11 +192,14 @@ module _ (ledger : Ledger) where
   abbrev range : Bool
   range = between 1 mostDistributors (ledger .n)
 
+  abbrev held : ℕ
+  held = placesHeld (ledger .n) (ledger .fixed)
+
   abbrev places : Bool
-  places = forceSound (ledger .n) (ledger .force)
+  places = forceSound held (ledger .force)
 
   abbrev unset : Bool
-  unset = unsetZero settled (ledger .last) (ledger .fixed) (ledger .month) (ledger .force)
+  unset = unsetZero settled (ledger .last) (ledger .fixed) (ledger .month)
 
   abbrev dates : Bool
   dates = monthsSound settled (ledger .months) (ledger .last) (ledger .fixed) (ledger .month)
@@ -223,9 +218,9 @@ module _ (ledger : Ledger) where
         some = between-low 1 mostDistributors (ledger .n) (p .0);
         few = between-high 1 mostDistributors (ledger .n) (p .0);
         place = λ k q.
-            place-facts (ledger .n) (presentIn (ledger .force) k) (chargeIn (ledger .force) k) k
-            (all-at sectorPlaces (placeSound (ledger .n) (ledger .force)) (p .1) k q);
-        unset = unset-facts settled (ledger .last) (ledger .fixed) (ledger .month) (ledger .force) (p .2);
+            place-facts held (chargeIn (ledger .force) k) k (presentIn (ledger .force) k)
+            (all-at sectorPlaces (placeSound held (ledger .force)) (p .1) k q);
+        unset = unset-facts settled (ledger .last) (ledger .fixed) (ledger .month) (p .2);
         month = month-facts settled (ledger .months) (ledger .last) (ledger .fixed) (ledger .month) (p .3);
         balance = λ i q.
             balance-facts (ledger .n) settled (moneyAt (ledger .balances) i) i
@@ -238,10 +233,10 @@ module _ (ledger : Ledger) where
   unfolding sound forceSound placeSound balancesSound eachBalance balanceSound
   sound-test f =
       let one = and-both range places (between-yes 1 mostDistributors (ledger .n) (f .some) (f .few))
-      (all-of sectorPlaces (placeSound (ledger .n) (ledger .force))
-      (λ k q. place-test (ledger .n) (presentIn (ledger .force) k) (chargeIn (ledger .force) k) k (f .place k q))) in
+      (all-of sectorPlaces (placeSound held (ledger .force))
+      (λ k q. place-test held (chargeIn (ledger .force) k) k (presentIn (ledger .force) k) (f .place k q))) in
       let two = and-both (range && places) unset one
-      (unset-test settled (ledger .last) (ledger .fixed) (ledger .month) (ledger .force) (f .unset)) in
+      (unset-test settled (ledger .last) (ledger .fixed) (ledger .month) (f .unset)) in
       let three = and-both (range && places && unset) dates two
       (month-test settled (ledger .months) (ledger .last) (ledger .fixed) (ledger .month) (f .month)) in
       and-both (range && places && unset && dates) (money && signs) three

@@ -25,27 +25,24 @@ presentIn force k = getD (force .present) k false
 abbrev pub chargeIn : SectorCharges → ℕ → ℤ
 chargeIn force k = getD (force .charges) k (pos 0)
 
--- one sector's place: "entries past n .. are zero"; "charges within ±10,500,000", "charges of absent sectors .. are
--- zero", and a charge past n is that of an absent sector
-unfoldable pub mostChargeOf : Bool → ℕ
-mostChargeOf present = cond present mostCharge 0
+-- the places where a sector may be present: "entries past n .. and everything unset are zero", so that without a fixing
+-- there are none
+unfoldable pub placesHeld : ℕ → Bool → ℕ
+placesHeld n fixed = cond fixed (n * sectorCount) 0
 
+-- one sector's place, of so many held: "charges within ±10,500,000", "charges of absent sectors .. are zero"
 unfoldable pub placeTest : ℕ → Bool → ℤ → ℕ → Bool
-placeTest n present charge k = (ltb k (n * sectorCount) || not present) && withinSize (mostChargeOf present) charge
+placeTest held present charge k = cond present (ltb k held && withinSize mostCharge charge) (withinSize 0 charge)
 
 unfoldable pub placeSound : ℕ → SectorCharges → ℕ → Bool
-placeSound n force k = placeTest n (presentIn force k) (chargeIn force k) k
+placeSound held force k = placeTest held (presentIn force k) (chargeIn force k) k
 
 unfoldable pub forceSound : ℕ → SectorCharges → Bool
-forceSound n force = allBelow sectorPlaces (placeSound n force)
+forceSound held force = allBelow sectorPlaces (placeSound held force)
 
--- "everything unset [is] zero": no fixing has no month and no sector present; no settled month has no last month
-unfoldable pub nothingPresent : SectorCharges → Bool
-nothingPresent force = allBelow sectorPlaces (λ k. not (presentIn force k))
-
-unfoldable pub unsetZero : Bool → ℕ → Bool → ℕ → SectorCharges → Bool
-unsetZero settled last fixed month force =
-    (fixed || (eqb month 0 && nothingPresent force)) && (settled || eqb last 0)
+-- "everything unset [is] zero": no fixing has no month, no settled month is the last
+unfoldable pub unsetZero : Bool → ℕ → Bool → ℕ → Bool
+unsetZero settled last fixed month = (fixed || eqb month 0) && (settled || eqb last 0)
 
 -- "month numbers are at most 1,199"; "once a month is settled, the count of months and the fixing's month are at most
 -- last+1"; "nothing is settled without a fixing"
@@ -76,7 +73,7 @@ balancesSound n settled balances = eachBalance n settled balances && oneSign mos
 unfoldable pub sound : Ledger → Bool
 sound ledger =
     between 1 mostDistributors (ledger .n)
-    && forceSound (ledger .n) (ledger .force)
-    && unsetZero (anySettled ledger) (ledger .last) (ledger .fixed) (ledger .month) (ledger .force)
+    && forceSound (placesHeld (ledger .n) (ledger .fixed)) (ledger .force)
+    && unsetZero (anySettled ledger) (ledger .last) (ledger .fixed) (ledger .month)
     && monthsSound (anySettled ledger) (ledger .months) (ledger .last) (ledger .fixed) (ledger .month)
     && balancesSound (ledger .n) (anySettled ledger) (ledger .balances)

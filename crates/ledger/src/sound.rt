@@ -5,7 +5,7 @@ ghost use Prim.Native.Nat.{_≤_};
 ghost use Rattle.numbers.specs.Sizes.{mostDistributors};
 ghost use Rattle.settlement.specs.Settlement.{oneSign};
 ghost use Rattle.settlement.specs.Month.{moneyAt};
-ghost use Rattle.ledger.specs.Sound.{mostChargeOf, placeTest, forceSound, nothingPresent, unsetZero, monthsSound};
+ghost use Rattle.ledger.specs.Sound.{placesHeld, placeTest, forceSound, unsetZero, monthsSound};
 ghost use Rattle.ledger.specs.Sound.{mostBalanceOf, balanceTest, eachBalance, sound};
 use crate::ledger::Ledger;
 use fixing::sector::SectorCharges;
@@ -21,31 +21,35 @@ const MOST_CHARGE: u64 = 10500000;
 
 const MOST_BALANCE: u64 = 1000000000000000;
 
-// The greatest size of a sector's charge: none where it is absent.
-fn most_charge(present: bool) -> u64
-    ensures { λ r. ⌜ r ≡ mostChargeOf present ⌝ }
+// The places where a sector may be present: those of n distributors, none without a fixing.
+fn places_held(n: usize, fixed: bool) -> usize
+    requires { ⌜ n ≤ mostDistributors ⌝ }
+    ensures { λ r. ⌜ r ≡ placesHeld n fixed ⌝ }
 {
-    if present { MOST_CHARGE } else { 0 }
+    if fixed { n * SECTORS } else { 0 }
 }
 
-// One sector's place: empty past n, no charge where the sector is absent, a charge within its bounds.
-fn place_sound(n: usize, present: bool, charge: i64, k: usize) -> bool
-    requires { ⌜ n ≤ mostDistributors ⌝ }
-    ensures { λ r. ⌜ r ≡ placeTest n present charge k ⌝ }
+// One sector's place: a sector that is present is at a place held and has a charge within its bounds, an absent one
+// has none.
+fn place_sound(held: usize, present: bool, charge: i64, k: usize) -> bool
+    ensures { λ r. ⌜ r ≡ placeTest held present charge k ⌝ }
 {
-    ((k < n * SECTORS) | !present) & within_size(charge, most_charge(present))
+    if present {
+        (k < held) & within_size(charge, MOST_CHARGE)
+    } else {
+        within_size(charge, 0)
+    }
 }
 
 // All places of what is in force.
-fn force_sound(n: usize, force: SectorCharges) -> bool
-    requires { ⌜ n ≤ mostDistributors ⌝ }
-    ensures { λ r. ⌜ r ≡ forceSound n force ⌝ }
+fn force_sound(held: usize, force: SectorCharges) -> bool
+    ensures { λ r. ⌜ r ≡ forceSound held force ⌝ }
 {
     let mut k: usize = 0;
     while k < PLACES {
         let present = force.present[k];
         let charge = force.charges[k];
-        if !place_sound(n, present, charge, k) {
+        if !place_sound(held, present, charge, k) {
             return false;
         }
         k += 1;
@@ -53,25 +57,11 @@ fn force_sound(n: usize, force: SectorCharges) -> bool
     true
 }
 
-// Whether no sector is present.
-fn nothing_present(force: SectorCharges) -> bool
-    ensures { λ r. ⌜ r ≡ nothingPresent force ⌝ }
+// What is unset is zero: without a fixing its month, without a settled month the last month.
+fn unset_zero(settled: bool, last: u64, fixed: bool, month: u64) -> bool
+    ensures { λ r. ⌜ r ≡ unsetZero settled last fixed month ⌝ }
 {
-    let mut k: usize = 0;
-    while k < PLACES {
-        if force.present[k] {
-            return false;
-        }
-        k += 1;
-    }
-    true
-}
-
-// What is unset is zero: without a fixing its month and presences, without a settled month the last month.
-fn unset_zero(settled: bool, last: u64, fixed: bool, month: u64, force: SectorCharges) -> bool
-    ensures { λ r. ⌜ r ≡ unsetZero settled last fixed month force ⌝ }
-{
-    (fixed || (month == 0 && nothing_present(force))) && (settled || last == 0)
+    (fixed | (month == 0)) & (settled | (last == 0))
 }
 
 // Month numbers and the count of months are in their ranges, and nothing is settled without a fixing.
@@ -144,8 +134,8 @@ pub(crate) fn is_sound(ledger: Ledger) -> bool
     let month = ledger.month;
     let force = ledger.force;
     let balances = ledger.balances;
-    force_sound(n, force)
-        & unset_zero(settled, last, fixed, month, force)
+    force_sound(places_held(n, fixed), force)
+        & unset_zero(settled, last, fixed, month)
         & months_sound(settled, ledger.months, last, fixed, month)
         & (each_balance_sound(n, settled, balances) & one_sign(balances))
 }

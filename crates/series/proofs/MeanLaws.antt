@@ -12,7 +12,7 @@ use borrow.Author.Tests.{eqb-true, ne-eqb}
 use Rattle.numbers.specs.Bounded.{listBelow}
 use Rattle.numbers.proofs.ListLaws.{list-at, list-length}
 use Rattle.series.specs.Series.{mostValue, seriesCount, windowAllowed, windowMissing, windowMean}
-use Rattle.series.specs.Means.{meanCount, windowOf, meanPlace, meanOrZero, meanList, meanAt}
+use Rattle.series.specs.Means.{meanCount, windowOf, meanPlace, meanOrZero, meanWorked, meanList, meanAt}
 use Rattle.series.specs.Required.{ValuesWithin, TableInRange}
 use Rattle.series.proofs.SeriesLaws.{window-size, mean-least, mean-most}
 
@@ -59,11 +59,11 @@ mean-within row ok first t lag window some = go (windowMissing row first t lag w
     go false = mean-most row ok first t lag window some
 
 pub means-within : (table : List (List ℕ)) → TableInRange table → (first t : ℕ) → ValuesWithin (meanList table first t)
-unfolding meanList
+unfolding meanList meanWorked
 means-within table ok first t = record { most = λ p. go p (decLt p meanCount) }
   where
     means : ℕ → ℕ
-    means q = meanOrZero (getD table (q / 36) []) first t (q / 3 % 12 + 1) (windowOf (q % 3))
+    means = meanWorked table first t
 
     go : (p : ℕ) → Dec (p < meanCount) → getD (listBelow meanCount means) p 0 ≤ mostValue
     go p (yes q) =
@@ -73,6 +73,17 @@ means-within table ok first t = record { most = λ p. go p (decLt p meanCount) }
     go p (no q) =
         rw (List·getD-eq-default (listBelow meanCount means) 0 {n = p} (omega (arith, list-length means meanCount)))
         (omega arith)
+
+-- the means of a series and lag stand together, in the order of the windows
+pub worked-at : (table : List (List ℕ)) (first t turn window place : ℕ) → window < 3 → place ≡ turn * 3 + window →
+    meanOrZero (getD table (turn / 12) []) first t (turn % 12 + 1) (windowOf window) ≡ meanWorked table first t place
+unfolding meanWorked
+worked-at table first t turn window place h e =
+    let a : turn / 12 ≡ place / 36 = omega arith in
+    let b : turn % 12 + 1 ≡ place / 3 % 12 + 1 = omega arith in
+    let d : window ≡ place % 3 = omega arith in
+    ap (λ x. meanOrZero (getD table x []) first t (turn % 12 + 1) (windowOf window)) a
+    ∙ ap₂ (meanOrZero (getD table (place / 36) []) first t) b (ap windowOf d)
 
 -- a window stands at its quarter
 place-window : (w : ℕ) → windowAllowed w ≡ true → windowOf (w / 4) ≡ w
@@ -95,14 +106,13 @@ module _ (s lag window : ℕ) (known : s < seriesCount) (some : 1 ≤ lag) (few 
   -- what stands at the place of a series, lag and window is their mean
   pub mean-listed : (table : List (List ℕ)) (first t : ℕ) →
       meanAt (meanList table first t) s lag window ≡ meanOrZero (getD table s []) first t lag window
-  unfolding meanAt meanList meanPlace
+  unfolding meanAt meanList meanWorked meanPlace
   mean-listed table first t =
       let p = s * 36 + (lag - 1) * 3 + window / 4 in
       let small : window ≤ 9 = window-size window ok .1 in
       let a : p / 36 ≡ s = omega arith in
       let b : p / 3 % 12 + 1 ≡ lag = omega arith in
       let d : p % 3 ≡ window / 4 = omega arith in
-      list-at (λ q. meanOrZero (getD table (q / 36) []) first t (q / 3 % 12 + 1) (windowOf (q % 3))) meanCount 0 p
-      place-below
+      list-at (meanWorked table first t) meanCount 0 p place-below
       ∙ ap (λ x. meanOrZero (getD table x []) first t (p / 3 % 12 + 1) (windowOf (p % 3))) a
       ∙ ap₂ (meanOrZero (getD table s []) first t) b (ap windowOf d ∙ place-window window ok)

@@ -24,9 +24,13 @@ meanPlace s lag window = s * 36 + (lag - 1) * 3 + window / 4
 unfoldable pub meanOrZero : List ℕ → ℕ → ℕ → ℕ → ℕ → ℕ
 meanOrZero row first t lag window = cond (windowMissing row first t lag window) 0 (windowMean row first t lag window)
 
+-- the mean at a place of the list, and the list
+unfoldable pub meanWorked : List (List ℕ) → ℕ → ℕ → ℕ → ℕ
+meanWorked table first t place =
+    meanOrZero (getD table (place / 36) []) first t (place / 3 % 12 + 1) (windowOf (place % 3))
+
 unfoldable pub meanList : List (List ℕ) → ℕ → ℕ → List ℕ
-meanList table first t =
-    listBelow meanCount (λ p. meanOrZero (getD table (p / 36) []) first t (p / 3 % 12 + 1) (windowOf (p % 3)))
+meanList table first t = listBelow meanCount (meanWorked table first t)
 
 -- what stands in the list for a series, lag and window
 unfoldable pub meanAt : List ℕ → ℕ → ℕ → ℕ → ℕ

@@ -3,7 +3,7 @@
 ghost use mathlib.Core.Path.{_≡_};
 ghost use Prim.Native.Nat.{_<_, _≤_};
 ghost use Rattle.series.specs.Series.{seriesCount, lastMonth, windowAllowed};
-ghost use Rattle.series.specs.Means.{windowOf, meanPlace, meanOrZero, meanList};
+ghost use Rattle.series.specs.Means.{meanPlace, meanOrZero, meanList};
 ghost use Rattle.series.specs.Required.{ValuesWithin, TableInRange, WindowInRange};
 use crate::table::MONTHS;
 use crate::table::SERIES;
@@ -23,19 +23,6 @@ pub fn window_allowed(window: u64) -> bool
     ensures { λ r. ⌜ r ≡ windowAllowed window ⌝ }
 {
     (window == 1) | ((window == 6) | (window == 9))
-}
-
-// The window at a place of three: 1, 6 and 9 are told apart by their quarters.
-fn window_of(place: usize) -> u64
-    ensures { λ r. ⌜ r ≡ windowOf place ⌝ }
-{
-    if place == 0 {
-        1
-    } else if place == 1 {
-        6
-    } else {
-        9
-    }
 }
 
 // Where the mean of a series, lag and window stands in the list.
@@ -72,19 +59,22 @@ fn mean(row: &[u64; MONTHS], first: u64, month: u64, lag: u64, window: u64) -> u
     half_up(sum, window)
 }
 
-// The means of every series, lag and window, worked in a month, from the table and its first month.
+// The means of every series, lag and window, worked in a month, from the table and its first month. A turn works those
+// of a series and lag, each window a constant, so that the compiler divides by none of them.
 pub fn means(table: [[u64; MONTHS]; SERIES], first: u64, month: u64) -> [u64; MEANS]
     requires { ⌜ TableInRange table ⌝ ∗ ⌜ first ≤ lastMonth ⌝ }
     ensures { λ r. ⌜ r ≡ meanList table first month ⌝ }
 {
     let mut means = [0u64; MEANS];
-    let mut place: usize = 0;
-    while place < MEANS {
-        let series = place / SERIES_MEANS;
-        let lag = (place / WINDOWS % LAGS + 1) as u64;
-        let window = window_of(place % WINDOWS);
-        means[place] = mean(&table[series], first, month, lag, window);
-        place += 1;
+    let mut turn: usize = 0;
+    while turn < SERIES * LAGS {
+        let series = turn / LAGS;
+        let lag = (turn % LAGS + 1) as u64;
+        let place = turn * WINDOWS;
+        means[place] = mean(&table[series], first, month, lag, 1);
+        means[place + 1] = mean(&table[series], first, month, lag, 6);
+        means[place + 2] = mean(&table[series], first, month, lag, 9);
+        turn += 1;
     }
     means
 }

@@ -10,10 +10,10 @@ use Rattle.ledger.proofs.sound.force_sound.Statement.{statement}
 use Rattle.ledger.proofs.sound.force_sound.Tie as tie
 
 abbrev Inv-loop : tie.InvT-loop
-Inv-loop n force k₀ k = Tested 320 (placeSound n force) k
+Inv-loop held force k₀ k = Tested 320 (placeSound held force) k
 
 abbrev μ-loop : tie.MeasureT-loop
-μ-loop n force k₀ k = 320 - k
+μ-loop held force k₀ k = 320 - k
 
 loop-holds : tie.Need-loop-holds Inv-loop μ-loop
 loop-holds c = tested-none _ _

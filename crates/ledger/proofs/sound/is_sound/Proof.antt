@@ -17,16 +17,17 @@ returns : tie.Need-returns
 unfolding sound
 returns c = rw (sym (c .before .is-between .ensures) ∙ not-true _ (c .if1 .taken))
 
-force-sound-requires : tie.Need-force-sound-requires
-force-sound-requires c κs = between-high 1 mostDistributors _ (counted (c .before .before .before))
+places-held-requires : tie.Need-places-held-requires
+places-held-requires c κs = between-high 1 mostDistributors _ (counted (c .before .before .before))
 
 returns-2 : tie.Need-returns-2
 unfolding sound balancesSound
 returns-2 c =
-    let settled = c .before .before .before .before .before .before .before in
+    let settled = c .before .before .before .before .before .before .before .before in
     rw (
       counted (settled .before),
       c .before .before .before .before .force-sound .ensures,
+      c .before .before .before .before .before .places-held .ensures,
       c .before .before .before .unset-zero .ensures,
       c .before .before .months-sound .ensures,
       c .before .each-balance-sound .ensures,
@@ -41,6 +42,6 @@ is-sound-spec =
     (λ c κs. search needs)
     returns
     (λ c κs. search needs)
-    force-sound-requires
-    (λ c κs. search needs) (λ c κs. search needs) (λ c κs. search needs) (λ c κs. search needs)
+    places-held-requires
+    (λ c κs. search needs) (λ c κs. search needs) (λ c κs. search needs) (λ c κs. search needs) (λ c κs. search needs)
     returns-2)
