@@ -10,3 +10,4 @@ pub mod SectorLaws
 pub mod InputLaws
 pub mod FixingLaws
 pub mod VerdictLaws
+pub mod Computed

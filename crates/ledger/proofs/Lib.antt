@@ -8,3 +8,4 @@ pub mod SoundFacts
 pub mod MoneyLaws
 pub mod CallLaws
 pub mod KeptLaws
+pub mod Computed

@@ -1,20 +1,19 @@
 -- What soundness says, as plain facts, and the way back from them. Assumes nothing.
 use mathlib.Core.Path.{_≡_, refl, sym, _∙_, ap}
 use mathlib.Core.Bool.{Bool, true, false, cond, not, _&&_, _||_, true≢false}
-use Prim.Native.Nat.{ℕ, _+_, _*_, _≤_, _<_}
+use Prim.Native.Nat.{ℕ, _+_, _≤_, _<_}
 use native.Mathlib.Omega.{arith}
 use lib.Dec.{leb, ltb, eqb}
 use lib.IntN.{ℤ, pos, natAbs}
-use borrow.Author.Tests.{ltb-false, leb-true, eqb-true, not-true, not-false, le-ltb, le-leb, eq-eqb}
+use borrow.Author.Tests.{ltb-false, leb-true, eqb-true, not-false, le-ltb, le-leb, eq-eqb}
 use Rattle.numbers.specs.Signed.{withinSize}
 use Rattle.numbers.specs.Units.{between}
-use Rattle.numbers.specs.Sizes.{mostDistributors, sectorCount, sectorPlaces}
-use Rattle.numbers.proofs.BoolLaws.{and-left, and-right, and-three, and-five, and-both, or-else, or-of, not-of}
+use Rattle.numbers.specs.Sizes.{mostDistributors, sectorPlaces}
+use Rattle.numbers.proofs.BoolLaws.{and-left, and-right, and-three, and-five, and-both, or-else, or-of}
 use Rattle.numbers.proofs.TestLaws.{all-at, all-of}
 use Rattle.numbers.proofs.SignedLaws.{within-none}
 use Rattle.numbers.proofs.UnitLaws.{between-low, between-high, between-yes}
 use Rattle.series.specs.Series.{lastMonth}
-use Rattle.fixing.specs.declared.sector.SectorCharges.{SectorCharges}
 use Rattle.settlement.specs.Amount.{mostCharge}
 use Rattle.settlement.specs.Settlement.{mostPosition, oneSign}
 use Rattle.settlement.specs.Month.{moneyAt}

@@ -35,9 +35,6 @@ pub or-of : (a b : Bool) → (a ≡ false → b ≡ true) → (a || b) ≡ true
 or-of true b h = refl
 or-of false b h = h refl
 
-pub not-of : (a : Bool) → a ≡ false → not a ≡ true
-not-of a e = rw e
-
 pub not-both : (a b : Bool) → not (a && b) ≡ true → a ≡ true → b ≡ false
 not-both true true h e = absurd (false≢true h)
 not-both true false h e = refl

@@ -9,3 +9,4 @@ pub mod SignedLaws
 pub mod UnitLaws
 mod Digits
 pub mod SearchLaws
+pub mod Computed

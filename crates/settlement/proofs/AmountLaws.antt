@@ -9,7 +9,6 @@ use native.Mathlib.Nat.{mul-le-mul, mul-le-mul-right}
 use lib.ListN.{getD}
 use lib.IntN.{ℤ, pos, subℕ, natAbs, _+ℤ_, _*ℤ_}
 use borrow.Author.Tests.{leb-true}
-use Rattle.numbers.specs.Bounded.{allBelow}
 use Rattle.numbers.specs.Rounding.{halfUp}
 use Rattle.numbers.specs.Signed.{signedSumBelow}
 use Rattle.numbers.specs.Units.{between}
@@ -23,13 +22,13 @@ use Rattle.settlement.specs.Amount.{mostReading, readingOf, presentAt, c
 use Rattle.settlement.specs.Amount.{mostReadingOf, readingAllowed, sectorAllowed, readingsAllowed, lossesAllowed}
 use Rattle.settlement.specs.Amount.{billingInRange, highNet, lowNet, energyWithLosses, collectedAmount}
 use Rattle.settlement.specs.Required.{BillingFacts}
-use Rattle.settlement.specs.Example.{inSectorZero, billed, billedReadings, evenLosses}
+use Rattle.settlement.specs.Example.{inSectorZero, billedReadings, evenLosses}
+use Rattle.settlement.proofs.Computed.{settlementComputed}
 
 -- the readings and loss factors of class example 9 pass cause 12, by computation
 pub example-billed : billingInRange 3 (inSectorZero false true true true) (billedReadings 1000 1000 1000)
     evenLosses ≡ true
-unfolding allBelow between mostReadingOf readingAllowed sectorAllowed readingsAllowed lossesAllowed billingInRange
-    inSectorZero billed billedReadings evenLosses
+unfolding settlementComputed
 example-billed = refl
 
 -- the loss factor at high voltage is the first of its pair

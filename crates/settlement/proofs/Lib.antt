@@ -2,3 +2,4 @@ pub mod AmountLaws
 pub mod ShareLaws
 pub mod SettlementLaws
 pub mod MonthLaws
+pub mod Computed

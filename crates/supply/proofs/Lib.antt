@@ -3,3 +3,4 @@ pub mod MonthLaws
 pub mod PriceLaws
 pub mod ListedLaws
 pub mod ReferenceLaws
+pub mod Computed

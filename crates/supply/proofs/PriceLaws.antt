@@ -3,37 +3,37 @@
 -- Assumes nothing.
 use mathlib.Core.Path.{_≡_, refl, ap}
 use mathlib.Core.Bool.{Bool, true, false, cond, _&&_}
-use mathlib.Core.List.{List, [], _∷_}
+use mathlib.Core.List.{List}
 use mathlib.Core.Option.{Option, none, some}
 use Prim.Native.Nat.{ℕ, _*_, _≤_, _<_}
 use native.Mathlib.Omega.{arith}
 use native.Mathlib.Nat.{mul-le-mul}
 use lib.Dec.{leb, ltb, eqb}
-use borrow.Author.Tests.{ltb-true}
+use lib.ListN.{getD}
+use borrow.Author.Tests.{ltb-true, ne-eqb}
 use Rattle.numbers.specs.Rounding.{halfUp}
-use Rattle.numbers.specs.Checks.{Promised, acceptedWhere}
 use Rattle.numbers.specs.Units.{between, leastPrice, mostPrice, checkedPrice}
 use Rattle.numbers.specs.declared.units.PesoPrice.{PesoPrice}
 use Rattle.numbers.specs.declared.units.CheckedPrice.{CheckedPrice}
 use Rattle.numbers.specs.declared.units.CheckedPrice.the-variants.{Within, OutsideBounds}
 use Rattle.numbers.proofs.BoolLaws.{and-right}
 use Rattle.numbers.proofs.FirstLaws.{first-none}
-use Rattle.numbers.proofs.CheckLaws.{Told, none-told, met-told, promised, picked}
+use Rattle.numbers.proofs.ListLaws.{filled-at}
+use Rattle.numbers.proofs.CheckLaws.{Told, none-told, met-told}
 use Rattle.numbers.proofs.UnitLaws.{between-low, between-high}
 use Rattle.numbers.proofs.SumLaws.{sum-same}
 use Rattle.numbers.proofs.RoundingLaws.{half-up-self}
 use Rattle.series.specs.Series.{mostValue}
-use Rattle.supply.specs.Line.{mostTerms, lineCount, lineOf, termOf}
+use Rattle.supply.specs.Line.{mostLines, mostTerms, lineCount, lineOf, termOf}
 use Rattle.supply.specs.Price.{ratioOf, termRatio, weightedRatio, indexFactor, indexedOf, lineIndexed, priceTaken}
-use Rattle.supply.specs.Price.{linePurchase, lineReference, indexedAllowed, indexedAnswer, indexedAnswered}
-use Rattle.supply.specs.Price.{referenceAnswer, fromIndexed, priceAnswer, beyondAt, beyondIn, firstBeyond}
-use Rattle.supply.specs.Price.{outOfBoundsAt, boundsCheck, priceOr, referencePrice}
+use Rattle.supply.specs.Price.{linePurchase, lineReference, indexedAllowed, referenceAnswer, priceAnswer}
+use Rattle.supply.specs.Price.{beyondAt, beyondIn, firstBeyond, outOfBoundsAt, boundsCheck, priceOr}
+use Rattle.supply.specs.Price.{referencePrice}
+use Rattle.supply.specs.Listed.{indexedOrZero, indexedList, indexedReference}
 use Rattle.supply.specs.Required.{TermFacts}
 use Rattle.supply.specs.declared.line.Term.{Term}
 use Rattle.supply.specs.declared.line.Line.{Line}
 use Rattle.supply.specs.declared.market.FixingNumbers.{FixingNumbers}
-use Rattle.supply.specs.declared.price.IndexedPrice.{IndexedPrice}
-use Rattle.supply.specs.declared.price.IndexedPrice.the-variants.{Indexed, Beyond}
 
 module _ (mean : Term → ℕ) (term : Term) (small : mean term ≤ mostValue) where
   -- a ratio: at most the mean in millionths, since the base value is at least 1
@@ -48,30 +48,41 @@ module _ (mean : Term → ℕ) (term : Term) (small : mean term ≤ mostValue) w
   weighted-most false f = omega arith
 
 module _ (mean : Term → ℕ) (line : Line) where
-  -- an indexed price that is given lies in its bounds
-  pub indexed-bounds : (i : ℕ) → indexedAnswer mean line ≡ Indexed i → (1 ≤ i) × (i ≤ 1000000)
-  unfolding indexedAnswer indexedAllowed
-  indexed-bounds i h = go (indexedAllowed mean line) refl h
+  -- an indexed price that is allowed lies in its bounds
+  pub indexed-bounds : indexedAllowed mean line ≡ true → (1 ≤ lineIndexed mean line) × (lineIndexed mean line ≤ 1000000)
+  unfolding indexedAllowed
+  indexed-bounds h =
+      let b = and-right (leb (indexFactor mean line) 100000000) (between 1 1000000 (lineIndexed mean line)) h in
+      (between-low 1 1000000 (lineIndexed mean line) b, between-high 1 1000000 (lineIndexed mean line) b)
+
+  -- its word is that price or 0
+  pub indexed-most : indexedOrZero mean line ≤ 1000000
+  unfolding indexedOrZero
+  indexed-most = go (indexedAllowed mean line) refl
     where
-      bounds : (x : ℕ) → x ≡ i → between 1 1000000 x ≡ true → (1 ≤ i) × (i ≤ 1000000)
-      bounds x e b = (omega (arith, between-low 1 1000000 x b), omega (arith, between-high 1 1000000 x b))
+      go : (b : Bool) → indexedAllowed mean line ≡ b → cond b (lineIndexed mean line) 0 ≤ 1000000
+      go true e = indexed-bounds e .1
+      go false e = omega arith
 
-      go : (b : Bool) → indexedAllowed mean line ≡ b → cond b (Indexed (lineIndexed mean line)) Beyond ≡ Indexed i →
-          (1 ≤ i) × (i ≤ 1000000)
-      go true e q =
-          bounds (lineIndexed mean line) (let r : lineIndexed mean line ≡ i = cc in r)
-          (and-right (leb (indexFactor mean line) 100000000) (between 1 1000000 (lineIndexed mean line)) e)
-      go false e q = absurd (let z : _≡_ {A = ℕ} 0 1 = cc in omega arith)
+  -- the word says by a 0 that factor or price is out of bounds, and nothing else: a price is at least 1
+  pub indexed-reference : (numbers : FixingNumbers) →
+      indexedReference numbers line (indexedOrZero mean line) ≡ priceAnswer mean numbers line
+  unfolding indexedReference indexedOrZero priceAnswer
+  indexed-reference numbers = go (indexedAllowed mean line) refl
+    where
+      go : (b : Bool) → indexedAllowed mean line ≡ b →
+          cond (eqb (cond b (lineIndexed mean line) 0) 0) OutsideBounds
+          (referenceAnswer numbers line (priceTaken (cond b (lineIndexed mean line) 0)))
+          ≡ cond b (referenceAnswer numbers line (priceTaken (lineIndexed mean line))) OutsideBounds
+      go true e = rw (ne-eqb (lineIndexed mean line) 0 (λ z. omega (arith, indexed-bounds e .0)))
+      go false e = refl
 
-  -- its number and values
-  pub indexed-promised : (x : IndexedPrice) → x ≡ indexedAnswer mean line →
-      Promised indexedAnswered x (indexedAnswer mean line)
-      (acceptedWhere (indexedAllowed mean line) (lineIndexed mean line ∷ []) 11)
-  unfolding indexedAnswer
-  indexed-promised x e =
-      promised indexedAnswered x _ _ e
-      (picked indexedAnswered (indexedAllowed mean line) (Indexed (lineIndexed mean line)) Beyond
-      (lineIndexed mean line ∷ []) 11 refl refl)
+-- the word of a line stands at its place
+pub indexed-at : (mean : Term → ℕ) (lines : List ℕ) (j : ℕ) → j < lineCount lines → lineCount lines ≤ mostLines →
+    getD (indexedList mean lines) j 0 ≡ indexedOrZero mean (lineOf lines j)
+unfolding indexedList
+indexed-at mean lines j p few =
+    filled-at mostLines 0 (λ i. indexedOrZero mean (lineOf lines i)) (lineCount lines) j p (omega arith)
 
 -- the price taken keeps the bounds of an indexed price
 pub taken-most : (indexed : ℕ) → indexed ≤ 1000000 → priceTaken indexed ≤ 1000000
@@ -111,11 +122,13 @@ pub price-bounds : (mean : Term → ℕ) (numbers : FixingNumbers) (line : Line)
     priceAnswer mean numbers line ≡ Within p →
     (leastPrice ≤ p .0) × (p .0 ≤ mostPrice)
 unfolding priceAnswer
-price-bounds mean numbers line p h = go (indexedAnswer mean line) h
+price-bounds mean numbers line p h = go (indexedAllowed mean line) h
   where
-    go : (x : IndexedPrice) → fromIndexed numbers line x ≡ Within p → (leastPrice ≤ p .0) × (p .0 ≤ mostPrice)
-    go (Indexed i) q = reference-bounds numbers line (priceTaken i) p q
-    go Beyond q = absurd (let z : _≡_ {A = ℕ} 0 1 = cc in omega arith)
+    go : (b : Bool) →
+        cond b (referenceAnswer numbers line (priceTaken (lineIndexed mean line))) OutsideBounds ≡ Within p →
+        (leastPrice ≤ p .0) × (p .0 ≤ mostPrice)
+    go true q = reference-bounds numbers line (priceTaken (lineIndexed mean line)) p q
+    go false q = absurd (let z : _≡_ {A = ℕ} 0 1 = cc in omega arith)
 
 module _ (mean : Term → ℕ) (numbers : FixingNumbers) (lines : List ℕ) where
   -- where the search for a line out of bounds finds none, every line has a reference within the bounds
@@ -182,9 +195,8 @@ module _ (one other : Term → ℕ) (line : Line)
       go k false e = refl
 
   pub price-same : (numbers : FixingNumbers) → priceAnswer one numbers line ≡ priceAnswer other numbers line
-  unfolding priceAnswer indexedAnswer indexedAllowed lineIndexed
+  unfolding priceAnswer indexedAllowed lineIndexed
   price-same numbers =
-      ap (λ f. fromIndexed numbers line
-      (cond (leb f 100000000 && between 1 1000000 (indexedOf (line .«base_price») f))
-      (Indexed (indexedOf (line .«base_price») f)) Beyond))
+      ap (λ f. cond (leb f 100000000 && between 1 1000000 (indexedOf (line .«base_price») f))
+      (referenceAnswer numbers line (priceTaken (indexedOf (line .«base_price») f))) OutsideBounds)
       factor-same

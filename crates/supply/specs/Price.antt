@@ -9,7 +9,6 @@ use lib.Dec.{leb, ltb, eqb}
 use lib.ListN.{getD}
 use Rattle.numbers.specs.Bounded.{sumBelow, firstBelow, filledBelow}
 use Rattle.numbers.specs.Rounding.{halfUp}
-use Rattle.numbers.specs.Refusal.{Answered, accepted, withoutValues}
 use Rattle.numbers.specs.Checks.{Met, Check, verdictOf, Judged}
 use Rattle.numbers.specs.declared.refusal.Refusal.{Refusal}
 use Rattle.numbers.specs.declared.refusal.Refusal.the-variants.{OutOfBounds}
@@ -26,8 +25,6 @@ use Rattle.supply.specs.declared.line.Term.{Term}
 use Rattle.supply.specs.declared.line.Line.{Line}
 use Rattle.supply.specs.declared.market.FixingNumbers.{FixingNumbers}
 use Rattle.supply.specs.declared.price.References.{References}
-use Rattle.supply.specs.declared.price.IndexedPrice.{IndexedPrice}
-use Rattle.supply.specs.declared.price.IndexedPrice.the-variants.{Indexed, Beyond}
 
 -- "ratio = mean * 1,000,000 / base value"
 unfoldable pub ratioOf : ℕ → ℕ → ℕ
@@ -77,14 +74,6 @@ lineIndexed mean line = indexedOf (line .«base_price») (indexFactor mean line)
 unfoldable pub indexedAllowed : (Term → ℕ) → Line → Bool
 indexedAllowed mean line = leb (indexFactor mean line) 100000000 && between 1 1000000 (lineIndexed mean line)
 
-unfoldable pub indexedAnswer : (Term → ℕ) → Line → IndexedPrice
-indexedAnswer mean line = cond (indexedAllowed mean line) (Indexed (lineIndexed mean line)) Beyond
-
--- 01's number for an indexed price (0: accepted), and the values returned with it
-abbrev pub indexedAnswered : IndexedPrice → Answered
-indexedAnswered (Indexed price) = accepted (price ∷ [])
-indexedAnswered Beyond = withoutValues 11
-
 -- the price that a line takes: its new indexed price
 unfoldable pub priceTaken : ℕ → ℕ
 priceTaken indexed = indexed
@@ -103,13 +92,10 @@ unfoldable pub referenceAnswer : FixingNumbers → Line → ℕ → CheckedPrice
 referenceAnswer numbers line taken =
     cond (between 1 1000000 (linePurchase line taken)) (checkedPrice (lineReference numbers line taken)) OutsideBounds
 
-abbrev pub fromIndexed : FixingNumbers → Line → IndexedPrice → CheckedPrice
-fromIndexed numbers line (Indexed indexed) = referenceAnswer numbers line (priceTaken indexed)
-fromIndexed numbers line Beyond = OutsideBounds
-
 -- the line's reference, or that its index factor or a price of it is out of bounds
 unfoldable pub priceAnswer : (Term → ℕ) → FixingNumbers → Line → CheckedPrice
-priceAnswer mean numbers line = fromIndexed numbers line (indexedAnswer mean line)
+priceAnswer mean numbers line =
+    cond (indexedAllowed mean line) (referenceAnswer numbers line (priceTaken (lineIndexed mean line))) OutsideBounds
 
 -- the "first such line" of cause 11
 abbrev pub beyondAt : ℕ → CheckedPrice → Option ℕ

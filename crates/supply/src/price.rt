@@ -1,18 +1,15 @@
 // The steps from a line's base price to its reference, and the first line out of bounds (cause 11).
 ghost use mathlib.Core.Path.{_≡_};
 ghost use mathlib.Core.Bool.{true};
-ghost use mathlib.Core.List.{[], _∷_};
 ghost use Prim.Native.Nat.{_≤_};
 ghost use lib.ListN.{replicate};
-ghost use Rattle.numbers.specs.Checks.{Promised, acceptedWhere};
 ghost use Rattle.numbers.specs.Units.{noPrice};
 ghost use Rattle.series.specs.Required.{ValuesWithin, TableInRange};
 ghost use Rattle.supply.specs.Line.{mostLines};
-ghost use Rattle.supply.specs.Price.{pesoOf, priceTaken, termRatio, weightedRatio, indexFactor, indexedAnswer};
+ghost use Rattle.supply.specs.Price.{pesoOf, priceTaken, termRatio, weightedRatio, indexFactor};
 ghost use Rattle.supply.specs.Price.{referenceAnswer};
-ghost use Rattle.supply.specs.Price.{priceAnswer, lineIndexed, indexedAllowed, indexedAnswered};
 ghost use Rattle.supply.specs.Price.{refusedReferences, boundedReferences, ReferencesPromise};
-ghost use Rattle.supply.specs.Listed.{listedMean};
+ghost use Rattle.supply.specs.Listed.{listedMean, indexedOrZero, indexedList, indexedReference};
 ghost use Rattle.supply.specs.Required.{TermFacts, LineFacts, CheckedLines, NumbersFacts};
 use crate::line::Line;
 use crate::line::MOST_LINES;
@@ -33,12 +30,6 @@ use series::mean::MEANS;
 use series::mean::means;
 use series::table::MONTHS;
 use series::table::SERIES;
-
-// A line's indexed price, in 0.001 US$/MWh, or that its index factor or the price is out of bounds.
-enum IndexedPrice {
-    Indexed(u64),
-    Beyond,
-}
 
 // The peso step: a purchase price in 0.001 US$/MWh at the dollar, in hundredths of $. It has no bounds of its own.
 pub fn peso_price(purchase: u64, dollar: u64) -> PesoPrice
@@ -87,23 +78,38 @@ fn index_factor(means: &[u64; MEANS], line: Line) -> u64
     half_up(sum, 10000)
 }
 
-// The indexed price of a line. The index factor is tested before it is multiplied.
-fn indexed_price(means: &[u64; MEANS], line: Line) -> IndexedPrice
+// The new indexed price of a line, in 0.001 US$/MWh, or 0 where the index factor or the price is out of bounds: a price
+// within them is at least 1. The factor is tested before it is multiplied.
+fn indexed_price(means: &[u64; MEANS], line: Line) -> u64
     requires { ⌜ ValuesWithin (now means) ⌝ ∗ ⌜ LineFacts line ⌝ }
-    ensures { λ r. ⌜ Promised indexedAnswered r (indexedAnswer (listedMean (now (means .entry))) line)
-        (acceptedWhere (indexedAllowed (listedMean (now (means .entry))) line)
-        (lineIndexed (listedMean (now (means .entry))) line ∷ []) 11) ⌝ }
+    ensures { λ r. ⌜ r ≡ indexedOrZero (listedMean (now (means .entry))) line ⌝ }
 {
     let factor = index_factor(means, line);
     if factor > 100000000 {
-        return IndexedPrice::Beyond;
+        return 0;
     }
     let indexed = half_up(line.base_price * factor, 1000000);
     if is_between(1, 1000000, indexed) {
-        IndexedPrice::Indexed(indexed)
+        indexed
     } else {
-        IndexedPrice::Beyond
+        0
     }
+}
+
+// The new indexed prices of all lines. They have a pass of their own: the divisions of the later steps then need not
+// wait for those of the terms.
+fn indexed_prices(means: &[u64; MEANS], lines: &[u64]) -> [u64; MOST_LINES]
+    requires { ⌜ ValuesWithin (now means) ⌝ ∗ ⌜ CheckedLines (now lines) ⌝ }
+    ensures { λ r. ⌜ r ≡ indexedList (listedMean (now (means .entry))) (now (lines .entry)) ⌝ }
+{
+    let count = line_count(lines);
+    let mut indexed = [0u64; MOST_LINES];
+    let mut j: usize = 0;
+    while j < count {
+        indexed[j] = indexed_price(means, line_at(lines, j));
+        j += 1;
+    }
+    indexed
 }
 
 // The price that a line takes: its new indexed price.
@@ -128,15 +134,15 @@ fn reference_price(numbers: FixingNumbers, line: Line, taken: u64) -> CheckedPri
     PesoPrice::checked(reference)
 }
 
-// The reference of a line, or that its index factor or a price of it is out of bounds.
-fn price_line(means: &[u64; MEANS], numbers: FixingNumbers, line: Line) -> CheckedPrice
-    requires { ⌜ ValuesWithin (now means) ⌝ ∗ ⌜ NumbersFacts numbers ⌝ ∗ ⌜ LineFacts line ⌝ }
-    ensures { λ r. ⌜ r ≡ priceAnswer (listedMean (now (means .entry))) numbers line ⌝ }
+// The reference of a line from its indexed price, or that its index factor or a price of it is out of bounds.
+fn price_line(numbers: FixingNumbers, line: Line, indexed: u64) -> CheckedPrice
+    requires { ⌜ NumbersFacts numbers ⌝ ∗ ⌜ LineFacts line ⌝ ∗ ⌜ indexed ≤ 1000000 ⌝ }
+    ensures { λ r. ⌜ r ≡ indexedReference numbers line indexed ⌝ }
 {
-    match indexed_price(means, line) {
-        IndexedPrice::Indexed(indexed) => reference_price(numbers, line, price_taken(indexed)),
-        IndexedPrice::Beyond => CheckedPrice::OutsideBounds,
+    if indexed == 0 {
+        return CheckedPrice::OutsideBounds;
     }
+    reference_price(numbers, line, price_taken(indexed))
 }
 
 // The references of all lines, or why there are none.
@@ -169,10 +175,11 @@ fn reference_prices(means: &[u64; MEANS], numbers: FixingNumbers, lines: &[u64])
     ensures { λ r. ⌜ r ≡ boundedReferences (listedMean (now (means .entry))) numbers (now (lines .entry)) ⌝ }
 {
     let count = line_count(lines);
+    let indexed = indexed_prices(means, lines);
     let mut prices = no_references();
     let mut j: usize = 0;
     while j < count {
-        match price_line(means, numbers, line_at(lines, j)) {
+        match price_line(numbers, line_at(lines, j), indexed[j]) {
             CheckedPrice::Within(price) => {
                 prices[j] = price;
             }

@@ -1,12 +1,10 @@
 -- The invariant: the places of the turns made hold their means.
 use mathlib.Core.Path.{_≡_, refl, _∙_}
-use mathlib.Core.List.{List, []}
-use Prim.Native.Nat.{ℕ, _-_, _+_, _*_, _/_, _%_, _≤_, _<_}
+use Prim.Native.Nat.{ℕ, _-_, _+_, _*_, _/_, _%_, _≤_}
 use native.Mathlib.Omega.{arith}
-use lib.ListN.{getD}
 use Rattle.numbers.proofs.ListLaws.{Written, written-none, written-more, written-all}
 use Rattle.series.specs.Series.{lastMonth}
-use Rattle.series.specs.Means.{windowOf, meanOrZero, meanList, meanWorked}
+use Rattle.series.specs.Means.{windowOf, meanList, meanWorked}
 use Rattle.series.specs.Required.{WindowInRange}
 use Rattle.series.proofs.MeanLaws.{worked-at}
 use Rattle.series.proofs.mean.means.Statement.{statement}

@@ -6,9 +6,8 @@ use native.Mathlib.Omega.{arith}
 use borrow.Author.Tests.{lt-leb, le-leb}
 use borrow.Author.Needs.{needs}
 use Rattle.numbers.specs.Rounding.{halfUp}
-use Rattle.supply.specs.Listed.{listedMean}
-use Rattle.supply.specs.Price.{indexedOf, lineIndexed, indexedAllowed, indexedAnswer}
-use Rattle.supply.proofs.PriceLaws.{indexed-promised}
+use Rattle.supply.specs.Listed.{listedMean, indexedOrZero}
+use Rattle.supply.specs.Price.{indexedOf, lineIndexed, indexedAllowed}
 use Rattle.supply.proofs.price.indexed_price.Statement.{statement}
 use Rattle.supply.proofs.price.indexed_price.Tie as tie
 
@@ -27,11 +26,8 @@ indexed c =
     (c .before .before .before .index-factor .ensures)
 
 returns : tie.Need-returns
-unfolding indexedAnswer indexedAllowed
-returns c =
-    let s = c .before .before in
-    indexed-promised (listedMean (s .args .means .now)) (s .args .line) _
-    (rw (← c .before .index-factor .ensures, lt-leb _ _ (c .if1 .taken)))
+unfolding indexedOrZero indexedAllowed
+returns c = rw (← c .before .index-factor .ensures, lt-leb _ _ (c .if1 .taken))
 
 mul-half-up : tie.Need-mul-half-up
 mul-half-up c = omega (arith, product (c .before))
@@ -40,32 +36,28 @@ half-up-requires : tie.Need-half-up-requires
 half-up-requires c κs = omega (arith, product (c .before))
 
 returns-2 : tie.Need-returns-2
-unfolding indexedAnswer indexedAllowed
+unfolding indexedOrZero indexedAllowed
 returns-2 c =
     let h = c .before .before in
-    let s = h .before .before .before .before in
-    indexed-promised (listedMean (s .args .means .now)) (s .args .line) _
-    (rw (
+    rw (
       ← indexed h,
       ← h .before .before .before .index-factor .ensures,
       le-leb _ _ (h .before .before .if1 .left),
       ← c .before .is-between .ensures,
       c .if2 .taken,
-    ))
+    )
 
 returns-3 : tie.Need-returns-3
-unfolding indexedAnswer indexedAllowed
+unfolding indexedOrZero indexedAllowed
 returns-3 c =
     let h = c .before .before in
-    let s = h .before .before .before .before in
-    indexed-promised (listedMean (s .args .means .now)) (s .args .line) _
-    (rw (
+    rw (
       ← indexed h,
       ← h .before .before .before .index-factor .ensures,
       le-leb _ _ (h .before .before .if1 .left),
       ← c .before .is-between .ensures,
       c .if2 .left,
-    ))
+    )
 
 pub indexed-price-spec : {M : Type 1} → statement M
 indexed-price-spec =

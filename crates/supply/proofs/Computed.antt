@@ -1,0 +1,20 @@
+-- One name that opens the definitions of this crate and of those below it, for examples that hold by computation:
+-- a new definition that they compute with is named here. Assumes nothing.
+use Prim.Native.Nat.{ℕ}
+use Rattle.series.proofs.Computed.{seriesComputed}
+use Rattle.supply.specs.Line.{termFrom, lineOf}
+use Rattle.supply.specs.Months.{lacksMonth, missingTerm, missingInLine, firstMissing, monthCheck}
+use Rattle.supply.specs.Price.{ratioOf, indexedOf, purchaseOf, pesoOf, referenceOf, termMean, termRatio}
+use Rattle.supply.specs.Price.{weightedRatio, indexFactor, lineIndexed, indexedAllowed}
+use Rattle.supply.specs.Price.{priceTaken, linePurchase, lineReference, referenceAnswer, priceAnswer, beyondIn}
+use Rattle.supply.specs.Price.{firstBeyond, boundsCheck, referencePrice, referenceList, tableChecks}
+use Rattle.supply.specs.Range.{headInRange, termInRange, termUnused, termAllowed, termsAllowed, weightTotal}
+use Rattle.supply.specs.Range.{weightsAllowed, lineInRange, linesInRange, numbersInRange, inputInRange}
+
+unfoldable pub supplyComputed : ℕ
+unfolding seriesComputed termFrom lineOf lacksMonth missingTerm missingInLine firstMissing monthCheck ratioOf
+    indexedOf purchaseOf pesoOf referenceOf termMean termRatio weightedRatio indexFactor lineIndexed indexedAllowed
+    priceTaken linePurchase lineReference referenceAnswer priceAnswer beyondIn firstBeyond boundsCheck
+    referencePrice referenceList tableChecks headInRange termInRange termUnused termAllowed termsAllowed weightTotal
+    weightsAllowed lineInRange linesInRange numbersInRange inputInRange
+supplyComputed = 0
