@@ -30,7 +30,8 @@ chargeIn force k = getD (force .charges) k (pos 0)
 unfoldable pub placesHeld : ℕ → Bool → ℕ
 placesHeld n fixed = cond fixed (n * sectorCount) 0
 
--- one sector's place, of so many held: "charges within ±10,500,000", "charges of absent sectors .. are zero"
+-- one sector's place, a sector being present at the first `held` alone: "charges within ±10,500,000", "charges of absent
+-- sectors .. are zero"
 unfoldable pub placeTest : ℕ → Bool → ℤ → ℕ → Bool
 placeTest held present charge k = cond present (ltb k held && withinSize mostCharge charge) (withinSize 0 charge)
 
@@ -40,7 +41,7 @@ placeSound held force k = placeTest held (presentIn force k) (chargeIn force k) 
 unfoldable pub forceSound : ℕ → SectorCharges → Bool
 forceSound held force = allBelow sectorPlaces (placeSound held force)
 
--- "everything unset [is] zero": no fixing has no month, no settled month is the last
+-- "everything unset [is] zero": without a fixing its month, without a settled month the last one
 unfoldable pub unsetZero : Bool → ℕ → Bool → ℕ → Bool
 unsetZero settled last fixed month = (fixed || eqb month 0) && (settled || eqb last 0)
 
