@@ -110,7 +110,7 @@ pub settlement-size : (verdict : Verdict) (transfers : List ℤ) (balances : Lis
 unfolding settlementText transferRows
 settlement-size verdict transfers balances =
     let count = min (length transfers) mostDistributors in
-    let few : count ≤ 40 = omega arith in
+    let few : count ≤ mostDistributors = omega arith in
     let rows : length (textBelow count (transferRow transfers balances)) ≤ 2600 =
     omega (arith, texts-size count 65 (transferRow transfers balances) (transfer-row-size transfers balances), few) in
     let under = choice-size (isPassed verdict) (textBelow count (transferRow transfers balances))
@@ -158,7 +158,7 @@ pub saving-size : (ledger : Ledger) → length (savingText ledger) ≤ 262144
 unfolding savingText presentWords chargeWords balanceWords
 saving-size ledger =
     let places = keptCount ledger * sectorCount in
-    let few : keptCount ledger ≤ 40 = kept-most ledger in
+    let few : keptCount ledger ≤ mostDistributors = kept-most ledger in
     rw (length-append, length-append, length-append)
     (omega (
       arith,

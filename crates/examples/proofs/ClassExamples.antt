@@ -8,5 +8,6 @@ use Rattle.examples.specs.ClassExamples.{pair, printAnswered, settledNum
 use Rattle.examples.specs.Table.{sameNumber, sameNumbers, holdFrom, whole}
 
 pub class-examples : holdFrom 1 classExamples ≡ true
-unfolding ledgerComputed monthValue rowOf lentWords indexedNumbers indexedLine plainNumber pair printAnswered settledNumber firstMoney classExamples sameNumber sameNumbers holdFrom whole
+unfolding ledgerComputed monthValue rowOf lentWords indexedNumbers indexedLine plainNumber pair printAnswered
+    settledNumber firstMoney classExamples sameNumber sameNumbers holdFrom whole
 class-examples = refl

@@ -5,6 +5,7 @@ use mathlib.Core.List.{List}
 use Prim.Native.Nat.{ℕ, _+_, _-_, _*_, _/_, _≤_, _<_, min}
 use native.Mathlib.Omega.{arith}
 use lib.ListN.{getD}
+use Rattle.numbers.specs.Sizes.{mostDistributors}
 use Rattle.numbers.specs.Bounded.{filledBelow}
 use Rattle.numbers.specs.Units.{noPrice}
 use Rattle.numbers.specs.declared.units.PesoPrice.{PesoPrice}
@@ -34,7 +35,7 @@ module _ (n : ℕ) (averages : List PesoPrice) (energies : List Energy) (r : InR
     d = distributors n averages energies
 
     module _ (top : ℕ) (topped : top ≡ limit d) (last : LastRound) (made : last ≡ lastRound d) (finals : List PesoPrice)
-        (stored : finals ≡ filledBelow 40 noPrice n
+        (stored : finals ≡ filledBelow mostDistributors noPrice n
         (λ i. record { 0 = min top (getD averages i noPrice .0 + last .surcharge .0) })) where
       surcharge-is : last .surcharge .0 ≡ surcharge d
       surcharge-is = ap (λ (x : LastRound). x .surcharge .0) made
@@ -46,14 +47,14 @@ module _ (n : ℕ) (averages : List PesoPrice) (energies : List Energy) (r : InR
       unfolding finalPrices
       finals-are =
           stored
-          ∙ filled-same 40 noPrice n _ _
+          ∙ filled-same mostDistributors noPrice n _ _
           (λ i p. ap (λ (m : ℕ). record { 0 = m }) (omega (arith, final-min d r i p, topped, surcharge-is)))
 
       final-at : (i : ℕ) → i < n → getD finals i noPrice .0 ≡ finalPrice d i
       unfolding finalPrices
       final-at i p =
           ap (λ (l : List PesoPrice). getD l i noPrice .0) finals-are
-          ∙ ap (λ (x : PesoPrice). x .0) (filled-at 40 noPrice _ n i p (omega (arith, r .few)))
+          ∙ ap (λ (x : PesoPrice). x .0) (filled-at mostDistributors noPrice _ n i p (omega (arith, r .few)))
 
       -- the final prices are in range too, so that what they collect is worked as the contract total is
       pub finals-range : InRange (distributors n finals energies)

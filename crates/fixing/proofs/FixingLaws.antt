@@ -8,7 +8,7 @@ use lib.ListN.{getD, length}
 use lib.IntN.{ℤ, pos, subℕ}
 use Rattle.numbers.specs.Bounded.{filledBelow}
 use Rattle.numbers.specs.Units.{noPrice, mostPrice}
-use Rattle.numbers.specs.Sizes.{sectorCount}
+use Rattle.numbers.specs.Sizes.{mostDistributors, sectorCount}
 use Rattle.numbers.specs.declared.units.PesoPrice.{PesoPrice}
 use Rattle.numbers.specs.declared.units.Energy.{Energy}
 use Rattle.numbers.proofs.ListLaws.{filled-at, filled-same}
@@ -32,14 +32,16 @@ module _ (n : ℕ) (averages : List PesoPrice) (energies : List Energy) (r : InR
         (distributors n averages energies) i
     unfolding fixedPrices finalPrices
     final-at i p =
-        ap (λ x. x .0) (filled-at 40 noPrice (λ k. record { 0 = finalPrice (distributors n averages energies) k }) n i p
+        ap (λ x. x .0)
+        (filled-at mostDistributors noPrice (λ k. record { 0 = finalPrice (distributors n averages energies) k }) n i p
         (omega (arith, r .few)))
 
     -- what stands at i of the charges
     pub charge-at : (i : ℕ) → i < n →
         getD (chargeList (distributors n averages energies)) i (pos 0) ≡ charge (distributors n averages energies) i
     unfolding chargeList
-    charge-at i p = filled-at 40 (pos 0) (charge (distributors n averages energies)) n i p (omega (arith, r .few))
+    charge-at i p =
+        filled-at mostDistributors (pos 0) (charge (distributors n averages energies)) n i p (omega (arith, r .few))
 
     pub finals-most : (answer : FixedPrices) → answer ≡ fixedPrices (distributors n averages energies) → (i : ℕ) →
         i < n →
@@ -49,13 +51,13 @@ module _ (n : ℕ) (averages : List PesoPrice) (energies : List Energy) (r : InR
 
     -- final prices less averages are the charges of the definition
     module _ (answer : FixedPrices) (e : answer ≡ fixedPrices (distributors n averages energies)) (list : List ℤ)
-        (l : list ≡ filledBelow 40 (pos 0) n
+        (l : list ≡ filledBelow mostDistributors (pos 0) n
         (λ i. subℕ (getD (answer .finals) i noPrice .0) (getD averages i noPrice .0))) where
       charges-are : list ≡ chargeList (distributors n averages energies)
       unfolding chargeList charge
       charges-are =
           l
-          ∙ filled-same 40 (pos 0) n _ _
+          ∙ filled-same mostDistributors (pos 0) n _ _
           (λ i p. ap (λ x. subℕ x (getD averages i noPrice .0))
           (ap (λ (a : FixedPrices). getD (a .finals) i noPrice .0) e ∙ final-at i p))
 

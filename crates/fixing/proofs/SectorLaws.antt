@@ -10,7 +10,7 @@ use lib.ListN.{set}
 use lib.IntN.{ℤ, pos}
 use borrow.Author.Tests.{leb-true}
 use Rattle.numbers.specs.Bounded.{allBelow, filledBelow}
-use Rattle.numbers.specs.Sizes.{sectorCount}
+use Rattle.numbers.specs.Sizes.{sectorPlaces, sectorCount}
 use Rattle.numbers.proofs.BoolLaws.{and-left}
 use Rattle.numbers.proofs.TestLaws.{all-at}
 use Rattle.numbers.proofs.ListLaws.{filled-none, filled-more, filled-same}
@@ -24,11 +24,11 @@ module _ (charge : ℕ → ℤ) (sectors : List ℕ) where
   unfolding noCharges chargedPlaces
   places-none =
       ap₂ {C = SectorCharges} (λ p q. record { present = p; charges = q })
-      (sym (filled-none 320 false _) ∙ filled-none 320 false _)
-      (sym (filled-none 320 (pos 0) _) ∙ filled-none 320 (pos 0) _)
+      (sym (filled-none sectorPlaces false _) ∙ filled-none sectorPlaces false _)
+      (sym (filled-none sectorPlaces (pos 0) _) ∙ filled-none sectorPlaces (pos 0) _)
 
   -- one place more, with its presence and its charge
-  pub places-more : (k : ℕ) (force : SectorCharges) (p : Bool) (z : ℤ) → k < 320 →
+  pub places-more : (k : ℕ) (force : SectorCharges) (p : Bool) (z : ℤ) → k < sectorPlaces →
       force ≡ chargedPlaces k charge sectors → p ≡ sectorPresent sectors k →
       z ≡ sectorCharge (charge (k / sectorCount)) (factorAt sectors k) →
       _≡_ {A = SectorCharges} (record { present = set (force .present) k p; charges = set (force .charges) k z })
@@ -36,8 +36,9 @@ module _ (charge : ℕ → ℤ) (sectors : List ℕ) where
   unfolding chargedPlaces
   places-more k force p z few e f g =
       ap₂ {C = SectorCharges} (λ x y. record { present = x; charges = y })
-      (rw (e, f) (filled-more 320 false (sectorPresent sectors) k few))
-      (rw (e, g) (filled-more 320 (pos 0) (λ i. sectorCharge (charge (i / sectorCount)) (factorAt sectors i)) k few))
+      (rw (e, f) (filled-more sectorPlaces false (sectorPresent sectors) k few))
+      (rw (e, g)
+      (filled-more sectorPlaces (pos 0) (λ i. sectorCharge (charge (i / sectorCount)) (factorAt sectors i)) k few))
 
 pub allowed-factor : (n : ℕ) (sectors : List ℕ) → sectorsAllowed n sectors ≡ true → (k : ℕ) → k < n * sectorCount →
     factorAt sectors k ≤ mostFactor
@@ -55,6 +56,6 @@ pub sectors-same : (n : ℕ) (f g : ℕ → ℤ) (sectors : List ℕ) → ((i : 
 unfolding sectorCharges chargedPlaces
 sectors-same n f g sectors h =
     ap {B = SectorCharges} (λ q. record
-    { present = filledBelow 320 false (n * sectorCount) (sectorPresent sectors); charges = q })
-    (filled-same 320 (pos 0) (n * sectorCount) _ _
+    { present = filledBelow sectorPlaces false (n * sectorCount) (sectorPresent sectors); charges = q })
+    (filled-same sectorPlaces (pos 0) (n * sectorCount) _ _
     (λ k p. ap (λ z. sectorCharge z (factorAt sectors k)) (h (k / sectorCount) (omega arith))))

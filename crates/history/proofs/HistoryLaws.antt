@@ -123,7 +123,7 @@ carry (call ∷ calls) plain h =
     }
 
 -- the opened ledger is the image of the plain one
-module _ (n : ℕ) (p : 1 ≤ n) (q : n ≤ 40) where
+module _ (n : ℕ) (p : 1 ≤ n) (q : n ≤ mostDistributors) where
   none-same : moneyBelow 0 (λ i. pos 0) ≡ moneyBelow n (λ i. pos 0)
   unfolding moneyBelow
   none-same =
@@ -131,7 +131,7 @@ module _ (n : ℕ) (p : 1 ≤ n) (q : n ≤ 40) where
 
   opened-is : opened n ≡ emptyLedger n
   unfolding opened openingLedger openingVerdict openingChecks verdictOf
-  opened-is = rw (between-yes 1 40 n p q, opened)
+  opened-is = rw (between-yes 1 mostDistributors n p q, opened)
 
   opened-same : opened n ≡ image (plainOpened n)
   unfolding emptyLedger noBalances image plainOpened
@@ -157,7 +157,7 @@ module _ (n : ℕ) (p : 1 ≤ n) (q : n ≤ 40) where
   unfolding image plainOpened
   run-count calls = ap (λ (b : Ledger). b .n) (run-same calls) ∙ start calls .counted
 
-pub history : (n : ℕ) → 1 ≤ n → n ≤ 40 → (calls : List Call) → History n calls
+pub history : (n : ℕ) → 1 ≤ n → n ≤ mostDistributors → (calls : List Call) → History n calls
 history n p q calls =
     record {
       same = run-same n p q calls;

@@ -1,6 +1,7 @@
 // Demand 3 of document 01: the one statement over every list of calls from an opened ledger.
 ghost use mathlib.Core.List.{List};
 ghost use Prim.Native.Nat.{ℕ, _≤_};
+ghost use Rattle.numbers.specs.Sizes.{mostDistributors};
 ghost use Rattle.history.specs.Run.{Call};
 ghost use Rattle.history.specs.History.{History};
 
@@ -9,5 +10,5 @@ ghost use Rattle.history.specs.History.{History};
 // they are never of both signs, and each accepted fixing wrote the paper's prices. The function does nothing; its
 // ensures is the statement.
 pub fn history_holds()
-    ensures { λ r. ⌜ ((n : ℕ) → 1 ≤ n → n ≤ 40 → (calls : List Call) → History n calls) ⌝ }
+    ensures { λ r. ⌜ ((n : ℕ) → 1 ≤ n → n ≤ mostDistributors → (calls : List Call) → History n calls) ⌝ }
 {}

@@ -5,6 +5,7 @@ use Prim.Native.Nat.{ℕ, _^_, _≤_, _<_}
 use native.Mathlib.Omega.{arith}
 use native.Mathlib.Decide.{decLt}
 use lib.ListN.{getD, List·getD-eq-default}
+use Rattle.numbers.specs.Sizes.{mostDistributors}
 use Rattle.numbers.specs.Bounded.{filledBelow}
 use Rattle.numbers.specs.Units.{noPrice, mostPrice}
 use Rattle.numbers.specs.declared.units.PesoPrice.{PesoPrice}
@@ -23,19 +24,21 @@ use Rattle.ledger.specs.Required.{PricesSmall}
 
 -- prices that are at most so much where they are filled in are so at every place
 filled-most : (k : ℕ) (f : ℕ → PesoPrice) →
-    ((i : ℕ) → i < k → getD (filledBelow 40 noPrice k f) i noPrice .0 ≤ mostPrice) → (i : ℕ) →
-    getD (filledBelow 40 noPrice k f) i noPrice .0 < 2 ^ 62
-filled-most k f h i = go (decLt i k) (decLt i 40)
+    ((i : ℕ) → i < k → getD (filledBelow mostDistributors noPrice k f) i noPrice .0 ≤ mostPrice) → (i : ℕ) →
+    getD (filledBelow mostDistributors noPrice k f) i noPrice .0 < 2 ^ 62
+filled-most k f h i = go (decLt i k) (decLt i mostDistributors)
   where
-    go : Dec (i < k) → Dec (i < 40) → getD (filledBelow 40 noPrice k f) i noPrice .0 < 2 ^ 62
+    go : Dec (i < k) → Dec (i < mostDistributors) →
+        getD (filledBelow mostDistributors noPrice k f) i noPrice .0 < 2 ^ 62
     go (yes p) q = omega (arith, h i p)
-    go (no p) (yes q) = omega (arith, ap (λ (x : PesoPrice). x .0) (filled-past 40 noPrice f k i (omega arith) q))
+    go (no p) (yes q) =
+        omega (arith, ap (λ (x : PesoPrice). x .0) (filled-past mostDistributors noPrice f k i (omega arith) q))
     go (no p) (no q) =
         omega (
           arith,
           ap (λ (x : PesoPrice). x .0)
-              (List·getD-eq-default (filledBelow 40 noPrice k f) noPrice {n = i}
-              (omega (arith, filled-length 40 noPrice f k))),
+              (List·getD-eq-default (filledBelow mostDistributors noPrice k f) noPrice {n = i}
+              (omega (arith, filled-length mostDistributors noPrice f k))),
         )
 
 module _ (n : ℕ) (input : FixingInput) (right : RightLengths n input) (passed : inputVerdict n input ≡ Passed) where

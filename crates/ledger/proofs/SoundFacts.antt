@@ -55,7 +55,8 @@ module _ (held : ℕ) (charge : ℤ) (k : ℕ) where
   unfolding placeTest withinSize
   place-facts true h =
       record {
-        past = λ p. absurd (true≢false (sym (and-left (ltb k held) (withinSize mostCharge charge) h) ∙ le-ltb k held p));
+        past =
+            λ p. absurd (true≢false (sym (and-left (ltb k held) (withinSize mostCharge charge) h) ∙ le-ltb k held p));
         absent = λ e. absurd (true≢false e);
         within = leb-true (natAbs charge) mostCharge (and-right (ltb k held) (withinSize mostCharge charge) h);
       }

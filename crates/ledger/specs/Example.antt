@@ -4,6 +4,7 @@ use mathlib.Core.List.{List, [], _∷_, _++_}
 use Prim.Native.Nat.{ℕ}
 use lib.ListN.{replicate}
 use lib.IntN.{pos}
+use Rattle.series.specs.Series.{wordCount}
 use Rattle.supply.specs.declared.market.FixingNumbers.{FixingNumbers}
 use Rattle.settlement.specs.Example.{inSectorZero, billedReadings, evenLosses}
 use Rattle.ledger.specs.Ledger.{openingLedger}
@@ -22,7 +23,7 @@ plainNumbers = record { month = 0; dollar = 100000; «reference_factor» = 10000
 -- are lent for the prices
 unfoldable pub plainCall : ℕ → List ℕ → List ℕ → FixingCall
 plainCall words lines sectors =
-    fixingCallOf plainNumbers (replicate 240 0) lines sectors (replicate words (pos 0))
+    fixingCallOf plainNumbers (replicate wordCount 0) lines sectors (replicate words (pos 0))
 
 -- "the print": base prices 100,000, 83,000, 60,000 and energies 10, 10, 11, sector 0 alone present
 unfoldable pub printCall : FixingCall

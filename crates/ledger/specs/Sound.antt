@@ -30,8 +30,8 @@ chargeIn force k = getD (force .charges) k (pos 0)
 unfoldable pub placesHeld : ℕ → Bool → ℕ
 placesHeld n fixed = cond fixed (n * sectorCount) 0
 
--- one sector's place, a sector being present at the first `held` alone: "charges within ±10,500,000", "charges of absent
--- sectors .. are zero"
+-- one sector's place, a sector being present at the first `held` alone: "charges within ±10,500,000", "charges of
+-- absent sectors .. are zero"
 unfoldable pub placeTest : ℕ → Bool → ℤ → ℕ → Bool
 placeTest held present charge k = cond present (ltb k held && withinSize mostCharge charge) (withinSize 0 charge)
 

@@ -16,10 +16,9 @@ use numbers::sizes::SECTORS;
 use numbers::units::Pesos;
 use numbers::units::is_between;
 use series::table::LAST_MONTH;
+use settlement::month::MOST_POSITION;
 
 const MOST_CHARGE: u64 = 10500000;
-
-const MOST_BALANCE: u64 = 1000000000000000;
 
 // The places where a sector may be present: those of n distributors, none without a fixing.
 fn places_held(n: usize, fixed: bool) -> usize
@@ -79,7 +78,7 @@ fn months_sound(settled: bool, months: u64, last: u64, fixed: bool, month: u64) 
 fn most_balance(held: bool) -> u64
     ensures { λ r. ⌜ r ≡ mostBalanceOf held ⌝ }
 {
-    if held { MOST_BALANCE } else { 0 }
+    if held { MOST_POSITION } else { 0 }
 }
 
 // One balance.

@@ -11,6 +11,7 @@ use native.Mathlib.Decide.{decLt}
 use lib.ListN.{getD, List·getD-eq-default}
 use lib.Dec.{leb, ltb, eqb}
 use borrow.Author.Tests.{leb-true, eqb-true, eqb-false, eq-eqb, le-leb, lt-leb, lt-ltb, le-ltb}
+use Rattle.series.specs.Series.{wordCount}
 use Rattle.numbers.specs.Bounded.{sumBelow}
 use Rattle.numbers.proofs.SumLaws.{sum-le, sum-ge}
 use Rattle.numbers.proofs.TestLaws.{all-at, any-none, any-holds}
@@ -38,27 +39,28 @@ pick-most true x m h = h
 pick-most false x m h = omega arith
 
 -- what stands in the table that the words fill, at every place
-at-row : (words : List ℕ) (s k : ℕ) → Dec (k < 48) → valuesInRange words ≡ true → s < 5 →
+at-row : (words : List ℕ) (s k : ℕ) → Dec (k < monthCount) → valuesInRange words ≡ true → s < seriesCount →
     getD (seriesRow words s) k 0 ≤ mostValue
 unfolding seriesRow valuesInRange
 at-row words s k (yes p) h q =
     rw (list-at (λ i. getD words (s * monthCount + i) 0) monthCount 0 k p)
-    (leb-true _ _ (all-at 240 (λ j. leb (getD words j 0) mostValue) h (s * 48 + k) (omega arith)))
+    (leb-true _ _ (all-at wordCount (λ j. leb (getD words j 0) mostValue) h (s * monthCount + k) (omega arith)))
 at-row words s k (no p) h q =
     rw (List·getD-eq-default (seriesRow words s) 0 {n = k}
-    (omega (arith, list-length (λ i. getD words (s * monthCount + i) 0) 48)))
+    (omega (arith, list-length (λ i. getD words (s * monthCount + i) 0) monthCount)))
     (omega arith)
 
-at-table : (words : List ℕ) (s k : ℕ) → Dec (s < 5) → valuesInRange words ≡ true →
+at-table : (words : List ℕ) (s k : ℕ) → Dec (s < seriesCount) → valuesInRange words ≡ true →
     getD (getD (seriesTable words) s []) k 0 ≤ mostValue
 unfolding seriesTable
-at-table words s k (yes p) h = rw (list-at (seriesRow words) seriesCount [] s p) (at-row words s k (decLt k 48) h p)
+at-table words s k (yes p) h =
+    rw (list-at (seriesRow words) seriesCount [] s p) (at-row words s k (decLt k monthCount) h p)
 at-table words s k (no p) h =
-    rw (List·getD-eq-default (seriesTable words) [] {n = s} (omega (arith, list-length (seriesRow words) 5)))
+    rw (List·getD-eq-default (seriesTable words) [] {n = s} (omega (arith, list-length (seriesRow words) seriesCount)))
     (omega arith)
 
 pub table-in-range : (words : List ℕ) → valuesInRange words ≡ true → TableInRange (seriesTable words)
-table-in-range words h = record { row = λ s. record { most = λ k. at-table words s k (decLt s 5) h } }
+table-in-range words h = record { row = λ s. record { most = λ k. at-table words s k (decLt s seriesCount) h } }
 
 -- the value of a term in one month, by where the month lies: below 0, before the table, in it, past it
 module _ (row : List ℕ) (first t lag k : ℕ) where

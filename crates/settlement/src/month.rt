@@ -17,7 +17,7 @@ use numbers::sizes::PLACES;
 use numbers::units::Pesos;
 
 // Balances and positions lie within 10^15 of zero.
-const MOST_POSITION: u64 = 1000000000000000;
+pub const MOST_POSITION: u64 = 1000000000000000;
 
 // A month's outcome: new balances and transfers, paid negative, received positive.
 pub struct SettledMonth {

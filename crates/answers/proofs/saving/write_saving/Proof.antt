@@ -3,6 +3,7 @@ use mathlib.Core.Path.{sym}
 use Prim.Native.Nat.{_≤_, _*_}
 use native.Mathlib.Omega.{arith}
 use lib.Seq.{length-take-le}
+use Rattle.numbers.specs.Sizes.{mostDistributors}
 use Rattle.numbers.proofs.ListLaws.{Front}
 use Rattle.ledger.specs.declared.ledger.Ledger.{Ledger}
 use Rattle.store.specs.Store.{presentWords, chargeWords, balanceWords}
@@ -27,7 +28,7 @@ module _ (d : tie.After-save) where
   balances : Front (d .save .result) (balanceWords (ledger .balances) (d .save .result)) (d .save .last .1 .1 .1 .0)
   balances = balances-first _ _ _ _ _ _ _ _ (d .save .ensures)
 
-  few : d .save .result ≤ 40
+  few : d .save .result ≤ mostDistributors
   few = saved-few _ _ _ _ _ _ _ _ (d .save .ensures)
 
 mul-places : tie.Need-mul-places

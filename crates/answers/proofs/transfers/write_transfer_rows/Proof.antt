@@ -4,6 +4,7 @@ use Prim.Native.Nat.{_≤_, _-_, min}
 use native.Mathlib.Omega.{arith}
 use lib.ListN.{length}
 use borrow.Author.Tests.{ltb-true, ltb-false}
+use Rattle.numbers.specs.Sizes.{mostDistributors}
 use Rattle.text.specs.Buffer.{bufferOf, written}
 use Rattle.text.specs.Text.{textBelow}
 use Rattle.text.proofs.BufferLaws.{texts-none, texts-more}
@@ -14,7 +15,7 @@ use Rattle.answers.proofs.transfers.write_transfer_rows.Tie as tie
 
 abbrev Inv-loop : tie.InvT-loop
 Inv-loop buffer₀ count transfers balances end₀ i₀ buffer end i =
-    (i ≤ length transfers) × (i ≤ 40) × (length buffer ≡ length buffer₀) ×
+    (i ≤ length transfers) × (i ≤ mostDistributors) × (length buffer ≡ length buffer₀) ×
     (bufferOf buffer end ≡ written (textBelow i (transferRow transfers balances)) (bufferOf buffer₀ count))
 
 abbrev μ-loop : tie.MeasureT-loop
@@ -39,7 +40,7 @@ loop-again c =
     let l = b .before .before .before .before in
     let s = l .before .before in (
       omega arith,
-      omega (arith, ltb-true (l .loop .i) 40 (b .before .before .if1 .taken)),
+      omega (arith, ltb-true (l .loop .i) mostDistributors (b .before .before .if1 .taken)),
       search needs,
       texts-more (transferRow (s .args .transfers .now) (s .args .balances))
           (bufferOf (s .args .buffer .now) (s .args .count)) (l .loop .i) _ _ (l .loop .inv .3)
@@ -55,7 +56,7 @@ returns c =
     let l = c .before .before in
     let s = l .before .before in
     let e : l .loop .i ≡ min (length (s .args .transfers .now))
-    40 = omega (arith, ltb-false (l .loop .i) 40 (c .if1 .left)) in
+    mostDistributors = omega (arith, ltb-false (l .loop .i) mostDistributors (c .if1 .left)) in
     rw e at (l .loop .inv .3)
 
 same-length-2 : tie.Need-same-length-2 Inv-loop μ-loop
@@ -66,7 +67,7 @@ unfolding transferRows
 returns-2 c =
     let l = c .before in
     let s = l .before .before in
-    let e : l .loop .i ≡ min (length (s .args .transfers .now)) 40 = omega arith in
+    let e : l .loop .i ≡ min (length (s .args .transfers .now)) mostDistributors = omega arith in
     rw e at (l .loop .inv .3)
 
 pub write-transfer-rows-spec : {M : Type 1} → statement M

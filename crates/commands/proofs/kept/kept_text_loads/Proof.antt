@@ -7,6 +7,7 @@ use lib.IntN.{ℤ, pos}
 use lib.ListN.{length, getD}
 use mir.Syntax.{w64}
 use mir.Val.{SFits, Val}
+use Rattle.numbers.specs.Sizes.{mostDistributors, sectorPlaces}
 use Rattle.numbers.specs.Units.{noMoney}
 use Rattle.numbers.specs.declared.units.Pesos.{Pesos}
 use Rattle.numbers.proofs.units.Pesos as amount
@@ -45,16 +46,16 @@ pesos-fits D f g (x ∷ xs) (u ∷ us) s tells zero p = tells x (u ∷ []) (s .0
 pesos-fits D f g (x ∷ xs) (u ∷ us) s tells (suc i) p = pesos-fits D f g xs us (s .1) tells i (omega arith)
 
 module _ (c : tie.Start) where
-  all-balances : length (c .args .ledger .balances) ≡ 40
+  all-balances : length (c .args .ledger .balances) ≡ mostDistributors
   all-balances = search (needs, mapped)
 
-  all-charges : length (c .args .ledger .force .charges) ≡ 320
+  all-charges : length (c .args .ledger .force .charges) ≡ sectorPlaces
   all-charges = search needs
 
-  charge-fits : (k : ℕ) → k < 320 → SFits w64 (chargeIn (c .args .ledger .force) k)
+  charge-fits : (k : ℕ) → k < sectorPlaces → SFits w64 (chargeIn (c .args .ledger .force) k)
   charge-fits k p = search (needs, signed-field-fits, all-charges)
 
-  balance-fits : (i : ℕ) → i < 40 → SFits w64 (moneyAt (c .args .ledger .balances) i)
+  balance-fits : (i : ℕ) → i < mostDistributors → SFits w64 (moneyAt (c .args .ledger .balances) i)
   balance-fits i p =
       pesos-fits (amount.the-field .row .Denot) (amount.the-field .row .own) _ (c .args .ledger .balances) _
       (c .good .0 .1 .1 .1 .1 .1 .1 .1 .1 .0 .1 .1) (λ x vs s. record { sfits = s .1 .1 .0 .1 }) i

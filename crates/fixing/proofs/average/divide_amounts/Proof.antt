@@ -5,6 +5,7 @@ use Prim.Native.Nat.{ℕ, _-_, _≤_}
 use native.Mathlib.Omega.{arith}
 use lib.ListN.{getD}
 use borrow.Author.Needs.{needs}
+use Rattle.numbers.specs.Sizes.{mostDistributors}
 use Rattle.numbers.specs.Bounded.{filledBelow}
 use Rattle.numbers.specs.Rounding.{halfUp}
 use Rattle.numbers.specs.Units.{noPrice, noEnergy, noTotal}
@@ -20,7 +21,7 @@ averageIn amounts energies i = record { 0 = halfUp (getD amounts i noTotal .0) (
 
 abbrev Inv-loop : tie.InvT-loop
 Inv-loop n amounts energies averages₀ i₀ averages i =
-    (i ≤ n) × (averages ≡ filledBelow 40 noPrice i (averageIn amounts energies))
+    (i ≤ n) × (averages ≡ filledBelow mostDistributors noPrice i (averageIn amounts energies))
 
 abbrev μ-loop : tie.MeasureT-loop
 μ-loop n amounts energies averages₀ i₀ averages i = n - i
@@ -29,7 +30,7 @@ loop-holds : tie.Need-loop-holds Inv-loop μ-loop
 loop-holds c =
     let s = c .before in (
       omega arith,
-      c .no-prices .ensures ∙ filled-none 40 noPrice
+      c .no-prices .ensures ∙ filled-none mostDistributors noPrice
           (averageIn (s .args .t2) (s .args .t3)),
     )
 
@@ -46,7 +47,7 @@ loop-again c =
     let l = c .before .before in
     let s = l .before .before in (
       omega arith,
-      filled-next 40 noPrice (l .loop .i) (averageIn (s .args .t2) (s .args .t3)) (l .loop .averages) _
+      filled-next mostDistributors noPrice (l .loop .i) (averageIn (s .args .t2) (s .args .t3)) (l .loop .averages) _
           (omega (arith, s .pre .few)) (l .loop .inv .1)
           (ap {B = PesoPrice} (λ x. record { 0 = x }) (c .half-up .ensures)),
     )

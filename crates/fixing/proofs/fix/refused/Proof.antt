@@ -1,6 +1,7 @@
 -- Every part is empty.
 use mathlib.Core.Path.{_∙_}
 use lib.IntN.{pos}
+use Rattle.numbers.specs.Sizes.{mostDistributors}
 use Rattle.numbers.specs.Units.{noPrice}
 use Rattle.numbers.proofs.ListLaws.{filled-none}
 use Rattle.fixing.specs.Fixing.{noPrices, refusedFixing}
@@ -12,8 +13,8 @@ returns : tie.Need-returns
 unfolding refusedFixing noPrices
 returns c =
     rw (
-      c .before .before .no-prices .ensures ∙ filled-none 40 noPrice (λ i. noPrice),
-      c .before .no-charge-list .ensures ∙ filled-none 40 (pos 0) (λ i. pos 0),
+      c .before .before .no-prices .ensures ∙ filled-none mostDistributors noPrice (λ i. noPrice),
+      c .before .no-charge-list .ensures ∙ filled-none mostDistributors (pos 0) (λ i. pos 0),
       c .no-charges .ensures,
     )
 

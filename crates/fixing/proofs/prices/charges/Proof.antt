@@ -6,6 +6,7 @@ use lib.ListN.{getD}
 use lib.IntN.{ℤ, pos, subℕ}
 use mir.Facts.{toZ-ofZ}
 use borrow.Author.Needs.{sfits-of}
+use Rattle.numbers.specs.Sizes.{mostDistributors}
 use Rattle.numbers.specs.Bounded.{filledBelow}
 use Rattle.numbers.specs.Units.{noPrice}
 use Rattle.numbers.specs.declared.units.PesoPrice.{PesoPrice}
@@ -20,7 +21,7 @@ chargeOf averages finals j = subℕ (getD finals j noPrice .0) (getD averages j 
 
 abbrev Inv-loop : tie.InvT-loop
 Inv-loop n averages finals charges₀ i₀ charges i =
-    (i ≤ n) × (charges ≡ filledBelow 40 (pos 0) i (chargeOf averages finals))
+    (i ≤ n) × (charges ≡ filledBelow mostDistributors (pos 0) i (chargeOf averages finals))
 
 abbrev μ-loop : tie.MeasureT-loop
 μ-loop n averages finals charges₀ i₀ charges i = n - i
@@ -29,7 +30,7 @@ no-charge-list-requires : tie.Need-no-charge-list-requires Inv-loop μ-loop
 no-charge-list-requires c κs = tt
 
 loop-holds : tie.Need-loop-holds Inv-loop μ-loop
-loop-holds c = (omega arith, c .no-charge-list .ensures ∙ filled-none 40 (pos 0) _)
+loop-holds c = (omega arith, c .no-charge-list .ensures ∙ filled-none mostDistributors (pos 0) _)
 
 difference-requires : tie.Need-difference-requires Inv-loop μ-loop
 difference-requires c κs =
@@ -42,8 +43,8 @@ loop-again c =
     let l = c .before .before in
     let s = l .before .before in (
       omega arith,
-      filled-next 40 (pos 0) (l .loop .i) (chargeOf (s .args .t2) (s .args .t3)) _ _ (omega arith) (l .loop .inv .1)
-          (toZ-ofZ (sfits-of (c .difference .ok)) ∙ c .difference .ensures),
+      filled-next mostDistributors (pos 0) (l .loop .i) (chargeOf (s .args .t2) (s .args .t3)) _ _ (omega arith)
+          (l .loop .inv .1) (toZ-ofZ (sfits-of (c .difference .ok)) ∙ c .difference .ensures),
     )
 
 returns : tie.Need-returns Inv-loop μ-loop

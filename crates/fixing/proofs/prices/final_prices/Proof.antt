@@ -3,6 +3,7 @@ use mathlib.Core.Path.{_≡_, _∙_}
 use mathlib.Core.List.{List}
 use Prim.Native.Nat.{ℕ, _≤_, _-_, _+_, min}
 use lib.ListN.{getD}
+use Rattle.numbers.specs.Sizes.{mostDistributors}
 use Rattle.numbers.specs.Bounded.{filledBelow}
 use Rattle.numbers.specs.Units.{noPrice}
 use Rattle.numbers.specs.declared.units.PesoPrice.{PesoPrice}
@@ -17,7 +18,7 @@ final averages limit surcharge j = record { 0 = min limit (getD averages j noPri
 
 abbrev Inv-loop : tie.InvT-loop
 Inv-loop n limit surcharge averages finals₀ i₀ finals i =
-    (i ≤ n) × (finals ≡ filledBelow 40 noPrice i (final averages (limit .0) (surcharge .0)))
+    (i ≤ n) × (finals ≡ filledBelow mostDistributors noPrice i (final averages (limit .0) (surcharge .0)))
 
 abbrev μ-loop : tie.MeasureT-loop
 μ-loop n limit surcharge averages finals₀ i₀ finals i = n - i
@@ -26,7 +27,7 @@ no-prices-requires : tie.Need-no-prices-requires Inv-loop μ-loop
 no-prices-requires c κs = tt
 
 loop-holds : tie.Need-loop-holds Inv-loop μ-loop
-loop-holds c = (omega arith, c .no-prices .ensures ∙ filled-none 40 noPrice _)
+loop-holds c = (omega arith, c .no-prices .ensures ∙ filled-none mostDistributors noPrice _)
 
 final-price-requires : tie.Need-final-price-requires Inv-loop μ-loop
 final-price-requires c κs =
@@ -39,8 +40,9 @@ loop-again c =
     let l = c .before .before .before in
     let s = l .before .before in (
       omega arith,
-      filled-next 40 noPrice (l .loop .i) (final (s .args .t2) (s .args .limit .0) (s .args .surcharge .0)) _ _
-          (omega arith) (l .loop .inv .1) (c .final-price .ensures),
+      filled-next mostDistributors noPrice (l .loop .i)
+          (final (s .args .t2) (s .args .limit .0) (s .args .surcharge .0)) _ _ (omega arith)
+          (l .loop .inv .1) (c .final-price .ensures),
     )
 
 returns : tie.Need-returns Inv-loop μ-loop

@@ -3,6 +3,7 @@ use mir.Syntax.{w64}
 use mir.Val.{toZ, ofZ}
 use mir.Facts.{toZ-ofZ}
 use borrow.Author.Needs.{sfits-of}
+use Rattle.numbers.specs.Sizes.{sectorPlaces}
 use Rattle.numbers.proofs.SignedLaws.{size-fits}
 use Rattle.fixing.proofs.SectorLaws.{places-none, places-more}
 use mathlib.Core.Path.{_≡_, refl, _∙_, ap}
@@ -33,7 +34,7 @@ module _ (l : tie.At-loop Inv-loop μ-loop) where
   start = l .before .before .before
 
   module _ (p : l .loop .k < length (start .args .sectors .now)) where
-    few : l .loop .k < 320
+    few : l .loop .k < sectorPlaces
     few = omega (arith, start .pre .lent, start .pre .few)
 
     own : l .loop .k / 8 < start .args .n

@@ -2,6 +2,7 @@
 use Prim.Native.Nat.{_-_}
 use native.Mathlib.Omega.{arith}
 use borrow.Author.Needs.{needs}
+use Rattle.numbers.specs.Sizes.{mostDistributors}
 use Rattle.numbers.proofs.BoolLaws.{told-true, told-false}
 use Rattle.numbers.proofs.TestLaws.{Tested, tested-none, tested-more, tested-fails, tested-all}
 use Rattle.ledger.specs.Sound.{balanceSound, eachBalance}
@@ -9,10 +10,10 @@ use Rattle.ledger.proofs.sound.each_balance_sound.Statement.{statement}
 use Rattle.ledger.proofs.sound.each_balance_sound.Tie as tie
 
 abbrev Inv-loop : tie.InvT-loop
-Inv-loop n settled balances i₀ i = Tested 40 (balanceSound n settled balances) i
+Inv-loop n settled balances i₀ i = Tested mostDistributors (balanceSound n settled balances) i
 
 abbrev μ-loop : tie.MeasureT-loop
-μ-loop n settled balances i₀ i = 40 - i
+μ-loop n settled balances i₀ i = mostDistributors - i
 
 loop-holds : tie.Need-loop-holds Inv-loop μ-loop
 loop-holds c = tested-none _ _

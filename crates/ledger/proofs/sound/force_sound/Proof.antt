@@ -3,6 +3,7 @@ use Prim.Native.Nat.{_-_}
 use native.Mathlib.Omega.{arith}
 use mir.Facts.{toZ-ofZ}
 use borrow.Author.Needs.{needs, sfits-of}
+use Rattle.numbers.specs.Sizes.{sectorPlaces}
 use Rattle.numbers.proofs.BoolLaws.{told-true, told-false}
 use Rattle.numbers.proofs.TestLaws.{Tested, tested-none, tested-more, tested-fails, tested-all}
 use Rattle.ledger.specs.Sound.{placeSound, forceSound}
@@ -10,10 +11,10 @@ use Rattle.ledger.proofs.sound.force_sound.Statement.{statement}
 use Rattle.ledger.proofs.sound.force_sound.Tie as tie
 
 abbrev Inv-loop : tie.InvT-loop
-Inv-loop held force k₀ k = Tested 320 (placeSound held force) k
+Inv-loop held force k₀ k = Tested sectorPlaces (placeSound held force) k
 
 abbrev μ-loop : tie.MeasureT-loop
-μ-loop held force k₀ k = 320 - k
+μ-loop held force k₀ k = sectorPlaces - k
 
 loop-holds : tie.Need-loop-holds Inv-loop μ-loop
 loop-holds c = tested-none _ _

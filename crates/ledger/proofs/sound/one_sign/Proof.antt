@@ -10,6 +10,7 @@ use mir.Syntax.{w64}
 use mir.Val.{toZ, ofZ}
 use mir.Facts.{toZ-ofZ}
 use borrow.Author.Needs.{sfits-of}
+use Rattle.numbers.specs.Sizes.{mostDistributors}
 use Rattle.numbers.specs.Bounded.{anyBelow}
 use Rattle.numbers.specs.Signed.{isNegative}
 use Rattle.numbers.specs.declared.units.Pesos.{Pesos}
@@ -28,10 +29,10 @@ isBelow balances i = isNegative (moneyAt balances i)
 
 abbrev Inv-loop : tie.InvT-loop
 Inv-loop balances above₀ below₀ i₀ above below i =
-    (i ≤ 40) × (above ≡ anyBelow i (isAbove balances)) × (below ≡ anyBelow i (isBelow balances))
+    (i ≤ mostDistributors) × (above ≡ anyBelow i (isAbove balances)) × (below ≡ anyBelow i (isBelow balances))
 
 abbrev μ-loop : tie.MeasureT-loop
-μ-loop balances above₀ below₀ i₀ above below i = 40 - i
+μ-loop balances above₀ below₀ i₀ above below i = mostDistributors - i
 
 loop-holds : tie.Need-loop-holds Inv-loop μ-loop
 unfolding anyBelow
@@ -54,7 +55,7 @@ returns : tie.Need-returns Inv-loop μ-loop
 unfolding oneSign
 returns c =
     let l = c .before in
-    let e : l .loop .i ≡ 40 = omega arith in
+    let e : l .loop .i ≡ mostDistributors = omega arith in
     ap not (ap₂ _&&_ (rw e at (l .loop .inv .1)) (rw e at (l .loop .inv .2)))
 
 pub one-sign-spec : {M : Type 1} → statement M

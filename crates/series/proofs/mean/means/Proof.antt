@@ -4,14 +4,14 @@ use Prim.Native.Nat.{ℕ, _-_, _+_, _*_, _/_, _%_, _≤_}
 use native.Mathlib.Omega.{arith}
 use Rattle.numbers.proofs.ListLaws.{Written, written-none, written-more, written-all}
 use Rattle.series.specs.Series.{lastMonth}
-use Rattle.series.specs.Means.{windowOf, meanList, meanWorked}
+use Rattle.series.specs.Means.{meanCount, windowOf, meanList, meanWorked}
 use Rattle.series.specs.Required.{WindowInRange}
 use Rattle.series.proofs.MeanLaws.{worked-at}
 use Rattle.series.proofs.mean.means.Statement.{statement}
 use Rattle.series.proofs.mean.means.Tie as tie
 
 abbrev Inv-loop : tie.InvT-loop
-Inv-loop first month table means₀ turn₀ means turn = Written (meanWorked table first month) 180 means (turn * 3)
+Inv-loop first month table means₀ turn₀ means turn = Written (meanWorked table first month) meanCount means (turn * 3)
 
 abbrev μ-loop : tie.MeasureT-loop
 μ-loop first month table means₀ turn₀ means turn = 60 - turn

@@ -4,15 +4,15 @@ use Prim.Native.Nat.{_-_, _+_, _*_}
 use lib.ListN.{getD}
 use native.Mathlib.Omega.{arith}
 use Rattle.numbers.proofs.ListLaws.{Written, written-none, written-more, written-all}
-use Rattle.series.specs.Series.{seriesRow}
+use Rattle.series.specs.Series.{monthCount, seriesRow}
 use Rattle.series.proofs.table.row.Statement.{statement}
 use Rattle.series.proofs.table.row.Tie as tie
 
 abbrev Inv-loop : tie.InvT-loop
-Inv-loop words series row₀ k₀ row k = Written (λ j. getD words (series * 48 + j) 0) 48 row k
+Inv-loop words series row₀ k₀ row k = Written (λ j. getD words (series * monthCount + j) 0) monthCount row k
 
 abbrev μ-loop : tie.MeasureT-loop
-μ-loop words series row₀ k₀ row k = 48 - k
+μ-loop words series row₀ k₀ row k = monthCount - k
 
 loop-holds : tie.Need-loop-holds Inv-loop μ-loop
 loop-holds c = written-none _ _ _ refl

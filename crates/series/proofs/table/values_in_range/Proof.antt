@@ -5,15 +5,15 @@ use lib.ListN.{getD}
 use native.Mathlib.Omega.{arith}
 use borrow.Author.Tests.{le-leb, lt-leb}
 use Rattle.numbers.proofs.TestLaws.{Tested, tested-none, tested-more, tested-fails, tested-all}
-use Rattle.series.specs.Series.{mostValue, valuesInRange}
+use Rattle.series.specs.Series.{wordCount, mostValue, valuesInRange}
 use Rattle.series.proofs.table.values_in_range.Statement.{statement}
 use Rattle.series.proofs.table.values_in_range.Tie as tie
 
 abbrev Inv-loop : tie.InvT-loop
-Inv-loop words j₀ j = Tested 240 (λ i. leb (getD words i 0) mostValue) j
+Inv-loop words j₀ j = Tested wordCount (λ i. leb (getD words i 0) mostValue) j
 
 abbrev μ-loop : tie.MeasureT-loop
-μ-loop words j₀ j = 240 - j
+μ-loop words j₀ j = wordCount - j
 
 loop-holds : tie.Need-loop-holds Inv-loop μ-loop
 loop-holds c = tested-none _ _

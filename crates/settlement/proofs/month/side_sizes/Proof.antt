@@ -7,6 +7,7 @@ use lib.IntN.{ℤ, natAbs}
 use mir.Syntax.{w64}
 use mir.Val.{toZ, ofZ}
 use mir.Facts.{toZ-ofZ}
+use Rattle.numbers.specs.Sizes.{mostDistributors}
 use Rattle.numbers.specs.Signed.{isNegative}
 use Rattle.numbers.proofs.ListLaws.{filled-none, filled-next, filled-skip}
 use Rattle.settlement.specs.Settlement.{owing, owed, sideSize}
@@ -46,7 +47,7 @@ module _ (c : tie.After-is-negative Inv-loop μ-loop) where
 
 loop-holds : tie.Need-loop-holds Inv-loop μ-loop
 unfolding sizesBelow
-loop-holds c = (omega arith, filled-none 40 0 _)
+loop-holds c = (omega arith, filled-none mostDistributors 0 _)
 
 magnitude-requires : tie.Need-magnitude-requires Inv-loop μ-loop
 magnitude-requires c κs =
@@ -64,11 +65,12 @@ loop-again c =
       ⊎-elim
           (λ w.
           w .3
-          ∙ filled-next 40 0 (l .loop .i) (size b) (l .loop .sizes) _ (omega arith) (l .loop .inv .1)
+          ∙ filled-next mostDistributors 0 (l .loop .i) (size b) (l .loop .sizes) _ (omega arith) (l .loop .inv .1)
           (w .2 .ensures ∙ ap natAbs (unread b) ∙ part-size (s .args .negative) (position b) (tested b ∙ w .0 .taken)))
           (λ w.
           w .1 ∙ l .loop .inv .1
-          ∙ filled-skip 40 0 (l .loop .i) (size b) (part-none (s .args .negative) (position b) (tested b ∙ w .0 .left)))
+          ∙ filled-skip mostDistributors 0 (l .loop .i) (size b)
+          (part-none (s .args .negative) (position b) (tested b ∙ w .0 .left)))
           (c .if1 .came),
     )
 

@@ -3,6 +3,7 @@
 use mathlib.Core.Path.{_≡_, refl, sym, _∙_, ap, ap₂}
 use Prim.Native.Nat.{ℕ, _≤_, _-_, _+_, _*_, _/_}
 use lib.ListN.{getD}
+use Rattle.numbers.specs.Sizes.{mostDistributors}
 use Rattle.numbers.specs.Bounded.{sumBelow, filledBelow}
 use Rattle.numbers.specs.declared.division.Division.{Division}
 use Rattle.numbers.proofs.SumLaws.{sum-step}
@@ -17,7 +18,7 @@ use native.Mathlib.Omega.{arith}
 
 abbrev Inv-loop : tie.InvT-loop
 Inv-loop n sizes transferred total shares₀ running₀ before₀ i₀ shares running before i =
-    (i ≤ n) × (shares ≡ filledBelow 40 0 i (share n (λ j. getD sizes j 0) transferred)) ×
+    (i ≤ n) × (shares ≡ filledBelow mostDistributors 0 i (share n (λ j. getD sizes j 0) transferred)) ×
     (running ≡ sumBelow i (λ j. getD sizes j 0)) × (before ≡ sharedBefore n (λ j. getD sizes j 0) transferred i)
 
 abbrev μ-loop : tie.MeasureT-loop
@@ -78,7 +79,7 @@ loop-holds c =
     let s = c .before .before in
     let size : ℕ → ℕ = λ j. getD (s .args .sizes .now) j 0 in (
       omega arith,
-      filled-none 40 0 (share (s .args .n) size (s .args .transferred)),
+      filled-none mostDistributors 0 (share (s .args .n) size (s .args .transferred)),
       refl,
       sym (before-none (s .args .n) size (s .args .transferred) (s .pre .1)),
     )
@@ -97,8 +98,8 @@ unfolding share
 loop-again c =
     let r = c .before in (
       omega arith,
-      filled-next 40 0 (l r .loop .i) (share (s r .args .n) (size r) (s r .args .transferred)) (l r .loop .shares) _
-          (omega arith)
+      filled-next mostDistributors 0 (l r .loop .i) (share (s r .args .n) (size r) (s r .args .transferred))
+          (l r .loop .shares) _ (omega arith)
           (l r .loop .inv .1) (ap₂ (λ x y. x - y) (shared c) (l r .loop .inv .3)),
       running r,
       shared c,

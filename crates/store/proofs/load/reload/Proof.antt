@@ -4,6 +4,7 @@ use Prim.Native.Nat.{_*_, _≤_}
 use native.Mathlib.Omega.{arith}
 use lib.ListN.{length}
 use lib.Seq.{length-take-le}
+use Rattle.numbers.specs.Sizes.{mostDistributors, sectorPlaces}
 use Rattle.ledger.specs.declared.ledger.Ledger.{Ledger}
 use Rattle.store.specs.Store.{presentWords, chargeWords, balanceWords}
 use Rattle.numbers.proofs.ListLaws.{Front}
@@ -14,17 +15,17 @@ use Rattle.store.proofs.load.reload.Tie as tie
 
 -- a ledger's lists have their lengths
 module _ (c : tie.Start) where
-  all-present : length (c .args .ledger .force .present) ≡ 320
+  all-present : length (c .args .ledger .force .present) ≡ sectorPlaces
   all-present = search needs
 
-  all-charges : length (c .args .ledger .force .charges) ≡ 320
+  all-charges : length (c .args .ledger .force .charges) ≡ sectorPlaces
   all-charges = search needs
 
-  all-balances : length (c .args .ledger .balances) ≡ 40
+  all-balances : length (c .args .ledger .balances) ≡ mostDistributors
   all-balances = search (needs, mapped)
 
 module _ (c : tie.After-save) where
-  few : c .save .result ≤ 40
+  few : c .save .result ≤ mostDistributors
   few = saved-few _ _ _ _ _ _ _ _ (c .save .ensures)
 
   abbrev ledger : Ledger

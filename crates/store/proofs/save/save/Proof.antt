@@ -5,6 +5,7 @@ use Prim.Native.Nat.{_*_, _≤_}
 use native.Mathlib.Omega.{arith}
 use lib.ListN.{drop}
 use lib.Seq.{length-take-le}
+use Rattle.numbers.specs.Sizes.{mostDistributors}
 use Rattle.store.specs.Store.{presentWords, chargeWords, balanceWords}
 use Rattle.store.proofs.StoreLaws.{kept-most}
 use borrow.Author.Needs.{needs}
@@ -12,7 +13,7 @@ use Rattle.store.proofs.save.save.Statement.{statement}
 use Rattle.store.proofs.save.save.Tie as tie
 
 -- at most forty distributors' words are kept
-few : (c : tie.After-kept-count) → c .kept-count .result ≤ 40
+few : (c : tie.After-kept-count) → c .kept-count .result ≤ mostDistributors
 few c = rw (c .kept-count .ensures) (kept-most _)
 
 mul-places : tie.Need-mul-places

@@ -6,16 +6,17 @@ use native.Mathlib.Omega.{arith}
 use lib.Dec.{eqb}
 use lib.ListN.{getD}
 use borrow.Author.Tests.{eq-eqb, ne-eqb}
+use Rattle.series.specs.Means.{meanCount}
 use Rattle.numbers.specs.Bounded.{anyBelow}
 use Rattle.numbers.proofs.TestLaws.{any-more, any-holds}
 use Rattle.supply.proofs.months.any_missing.Statement.{statement}
 use Rattle.supply.proofs.months.any_missing.Tie as tie
 
 abbrev Inv-loop : tie.InvT-loop
-Inv-loop means k₀ k = (k ≤ 180) × (anyBelow k (λ i. eqb (getD means i 0) 0) ≡ false)
+Inv-loop means k₀ k = (k ≤ meanCount) × (anyBelow k (λ i. eqb (getD means i 0) 0) ≡ false)
 
 abbrev μ-loop : tie.MeasureT-loop
-μ-loop means k₀ k = 180 - k
+μ-loop means k₀ k = meanCount - k
 
 loop-holds : tie.Need-loop-holds Inv-loop μ-loop
 unfolding anyBelow
@@ -24,7 +25,7 @@ loop-holds c = (omega arith, refl)
 returns : tie.Need-returns Inv-loop μ-loop
 returns c =
     let l = c .before .before .before in
-    sym (any-holds 180 (λ i. eqb (getD (l .before .args .means .now) i 0) 0) (l .loop .k) (omega arith)
+    sym (any-holds meanCount (λ i. eqb (getD (l .before .args .means .now) i 0) 0) (l .loop .k) (omega arith)
     (eq-eqb _ _ (c .if1 .taken)))
 
 loop-again : tie.Need-loop-again Inv-loop μ-loop
@@ -38,7 +39,7 @@ loop-again c =
 returns-2 : tie.Need-returns-2 Inv-loop μ-loop
 returns-2 c =
     let l = c .before in
-    let e : l .loop .k ≡ 180 = omega arith in
+    let e : l .loop .k ≡ meanCount = omega arith in
     sym (rw e at (l .loop .inv .1))
 
 pub any-missing-spec : {M : Type 1} → statement M

@@ -5,20 +5,21 @@ use native.Mathlib.Omega.{arith}
 use borrow.Author.Needs.{needs}
 use Rattle.numbers.specs.Bounded.{filledBelow}
 use Rattle.numbers.proofs.ListLaws.{filled-none, filled-next}
-use Rattle.supply.specs.Line.{lineCount, lineOf}
+use Rattle.supply.specs.Line.{mostLines, lineCount, lineOf}
 use Rattle.supply.specs.Listed.{listedMean, indexedOrZero, indexedList}
 use Rattle.supply.proofs.price.indexed_prices.Statement.{statement}
 use Rattle.supply.proofs.price.indexed_prices.Tie as tie
 
 abbrev Inv-loop : tie.InvT-loop
 Inv-loop means lines count indexed₀ j₀ indexed j =
-    (j ≤ lineCount lines) × (indexed ≡ filledBelow 256 0 j (λ i. indexedOrZero (listedMean means) (lineOf lines i)))
+    (j ≤ lineCount lines)
+    × (indexed ≡ filledBelow mostLines 0 j (λ i. indexedOrZero (listedMean means) (lineOf lines i)))
 
 abbrev μ-loop : tie.MeasureT-loop
 μ-loop means lines count indexed₀ j₀ indexed j = count - j
 
 loop-holds : tie.Need-loop-holds Inv-loop μ-loop
-loop-holds c = (omega arith, filled-none 256 0 _)
+loop-holds c = (omega arith, filled-none mostLines 0 _)
 
 line-at-requires : tie.Need-line-at-requires Inv-loop μ-loop
 line-at-requires c κs = omega (arith, c .before .before .line-count .ensures)
@@ -42,7 +43,7 @@ loop-again c =
     let s = l .before .before .before in
     let m = listedMean (s .args .means .now) in (
       omega (arith, l .before .line-count .ensures),
-      filled-next 256 0 (l .loop .j) (λ i. indexedOrZero m (lineOf (s .args .lines .now) i)) (l .loop .indexed) _
+      filled-next mostLines 0 (l .loop .j) (λ i. indexedOrZero m (lineOf (s .args .lines .now) i)) (l .loop .indexed) _
           (omega (arith, l .before .line-count .ensures, s .pre .1 .few)) (l .loop .inv .1)
           (c .indexed-price .ensures ∙ ap (indexedOrZero m) (c .before .line-at .ensures)),
     )

@@ -10,7 +10,7 @@ use Rattle.numbers.specs.Checks.{verdictOf}
 use Rattle.numbers.specs.Units.{noPrice}
 use Rattle.numbers.proofs.FirstLaws.{first-step, first-is}
 use Rattle.numbers.proofs.ListLaws.{filled-none, filled-more}
-use Rattle.supply.specs.Line.{lineCount, lineOf}
+use Rattle.supply.specs.Line.{mostLines, lineCount, lineOf}
 use Rattle.supply.specs.Listed.{listedMean, indexedOrZero, indexedReference}
 use Rattle.supply.specs.Price.{priceAnswer, beyondIn, firstBeyond, boundsCheck, referencePrice, referenceList}
 use Rattle.supply.specs.Price.{boundedReferences}
@@ -23,7 +23,7 @@ abbrev Inv-loop : tie.InvT-loop
 Inv-loop means numbers lines count indexed prices₀ j₀ prices j =
     (j ≤ lineCount lines)
     × (firstBelow j (beyondIn (listedMean means) numbers lines) ≡ none)
-    × (prices ≡ filledBelow 256 noPrice j (referencePrice (listedMean means) numbers lines))
+    × (prices ≡ filledBelow mostLines noPrice j (referencePrice (listedMean means) numbers lines))
 
 abbrev μ-loop : tie.MeasureT-loop
 μ-loop means numbers lines count indexed prices₀ j₀ prices j = count - j
@@ -39,7 +39,7 @@ module _ (c : tie.After-line-at Inv-loop μ-loop) where
   below : l .loop .j < lineCount (s .args .lines .now)
   below = omega (arith, l .before .before .before .line-count .ensures)
 
-  inside : l .loop .j < 256
+  inside : l .loop .j < mostLines
   inside = omega (arith, below, s .pre .1 .1 .few)
 
   word : getD (l .before .before .indexed-prices .result) (l .loop .j) 0 ≡ indexedOrZero
@@ -63,7 +63,7 @@ loop-holds c =
     let s = c .before .before .before .before in (
       omega arith,
       refl,
-      c .no-references .ensures ∙ filled-none 256 noPrice
+      c .no-references .ensures ∙ filled-none mostLines noPrice
           (referencePrice (listedMean (s .args .means .now)) (s .args .numbers) (s .args .lines .now)),
     )
 
@@ -104,7 +104,7 @@ loop-again c =
       omega (arith, below p),
       first-step (beyondIn m numbers lines) i (l p .loop .inv .1) ∙ line-within m numbers lines i _ told,
       ap₂ (λ xs x. set xs i x) (l p .loop .inv .2) (line-price m numbers lines i _ told)
-          ∙ filled-more 256 noPrice (referencePrice m numbers lines) i (inside p),
+          ∙ filled-more mostLines noPrice (referencePrice m numbers lines) i (inside p),
     )
 
 returns-2 : tie.Need-returns-2 Inv-loop μ-loop
