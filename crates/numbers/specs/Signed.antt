@@ -1,8 +1,8 @@
 -- Signed numbers: sign, the two parts, a bound on the size, sums. An i64 of the code is a ℤ of these definitions;
 -- the size of z is natAbs z, the difference of two unsigned numbers is subℕ, both of the kit. Assumes nothing.
-use mathlib.Core.Bool.{Bool, true, false}
-use Prim.Native.Nat.{ℕ, zero, suc}
-use lib.Dec.{leb}
+use mathlib.Core.Bool.{Bool, true, false, cond}
+use Prim.Native.Nat.{ℕ, zero, suc, _-_, _^_}
+use lib.Dec.{leb, ltb}
 use lib.IntN.{ℤ, pos, negsuc, natAbs, _+ℤ_}
 
 -- whether z is below zero
@@ -28,3 +28,12 @@ withinSize bound z = leb (natAbs z) bound
 unfoldable pub signedSumBelow : ℕ → (ℕ → ℤ) → ℤ
 signedSumBelow zero f = pos 0
 signedSumBelow (suc k) f = signedSumBelow k f +ℤ f k
+
+-- the word of 64 bits that holds z: z itself, or 2^64 more where it is below zero
+unfoldable pub wordOf : ℤ → ℕ
+wordOf (pos n) = n
+wordOf (negsuc n) = 2 ^ 64 - 1 - n
+
+-- the number of either sign that a word of 64 bits holds
+unfoldable pub signedOf : ℕ → ℤ
+signedOf word = cond (ltb word (2 ^ 63)) (pos word) (negsuc (2 ^ 64 - 1 - word))

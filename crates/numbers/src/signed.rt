@@ -3,7 +3,7 @@
 ghost use mathlib.Core.Path.{_≡_};
 ghost use Prim.Native.Nat.{_<_, _^_};
 ghost use lib.IntN.{natAbs, subℕ};
-ghost use Rattle.numbers.specs.Signed.{isNegative, withinSize};
+ghost use Rattle.numbers.specs.Signed.{isNegative, withinSize, wordOf, signedOf};
 
 // Whether x is below zero.
 pub fn is_negative(x: i64) -> bool
@@ -34,4 +34,30 @@ pub fn within_size(x: i64, bound: u64) -> bool
     ensures { λ r. ⌜ r ≡ withinSize bound x ⌝ }
 {
     0 - (bound as i64) <= x && x <= bound as i64
+}
+
+// The word of 64 bits that holds x.
+pub fn word_of(x: i64) -> u64
+    ensures { λ r. ⌜ r ≡ wordOf x ⌝ }
+{
+    if !within_size(x, 9223372036854775807) {
+        return 9223372036854775808;
+    }
+    if is_negative(x) {
+        return 18446744073709551615 - (magnitude(x) - 1);
+    }
+    magnitude(x)
+}
+
+// The number of either sign that a word of 64 bits holds.
+pub fn signed_of(word: u64) -> i64
+    ensures { λ r. ⌜ r ≡ signedOf word ⌝ }
+{
+    if word < 9223372036854775808 {
+        return difference(word, 0);
+    }
+    if word == 9223372036854775808 {
+        return -9223372036854775808;
+    }
+    difference(0, 18446744073709551615 - word + 1)
 }
