@@ -1,21 +1,17 @@
 -- Reading on from a place in a journal: the next word or number. Assumes nothing.
-use mathlib.Core.Bool.{true, false, cond}
+use mathlib.Core.Bool.{Bool, true, false, cond}
 use mathlib.Core.Path.{_≡_}
 use mathlib.Core.List.{List}
 use Prim.Native.Nat.{ℕ, _^_, _-_, _≤_}
 use lib.Dec.{leb}
 use lib.ListN.{length}
-use lib.IntN.{pos}
 use Rattle.journal.specs.Token.{tokenStart, tokenEnd}
 use Rattle.journal.specs.Word.{isWord}
-use Rattle.journal.specs.Number.{numberIn, signedIn}
+use Rattle.journal.specs.Number.{readingIn}
 use Rattle.journal.specs.declared.number.Reading.{Reading}
 use Rattle.journal.specs.declared.number.Reading.the-variants.{Number, Unreadable}
-use Rattle.journal.specs.declared.number.SignedReading.{SignedReading}
-use Rattle.journal.specs.declared.number.SignedReading.the-variants.{Signed, NotSigned}
 use Rattle.journal.specs.declared.cursor.Cursor.{Cursor}
 use Rattle.journal.specs.declared.cursor.NumberRead.{NumberRead}
-use Rattle.journal.specs.declared.cursor.SignedRead.{SignedRead}
 
 -- the text is read up to a place
 abbrev pub readTo : ℕ → Cursor
@@ -38,24 +34,13 @@ numberFrom (Number value) most start end =
     cond (leb value most) (record { value = value; next = readTo end }) (record { value = 0; next = brokenAt start })
 numberFrom Unreadable most start end = record { value = 0; next = brokenAt start }
 
--- the next token is a number that is not above the most
-unfoldable pub numberAfter : List ℕ → Cursor → ℕ → NumberRead
-numberAfter text cursor most =
+-- the next token is a number, signed or not, that is not above the most
+unfoldable pub numberAfter : List ℕ → Cursor → Bool → ℕ → NumberRead
+numberAfter text cursor signed most =
     let start = tokenStart text (cursor .at) in
     let end = tokenEnd text start in
-    cond (cursor .broken) (record { value = 0; next = cursor }) (numberFrom (numberIn text start end) most start end)
-
--- a token's reading as a signed number
-abbrev pub signedFrom : SignedReading → ℕ → ℕ → SignedRead
-signedFrom (Signed value) start end = record { value = value; next = readTo end }
-signedFrom NotSigned start end = record { value = pos 0; next = brokenAt start }
-
--- the next token is a signed number
-unfoldable pub signedAfter : List ℕ → Cursor → SignedRead
-signedAfter text cursor =
-    let start = tokenStart text (cursor .at) in
-    let end = tokenEnd text start in
-    cond (cursor .broken) (record { value = pos 0; next = cursor }) (signedFrom (signedIn text start end) start end)
+    cond (cursor .broken) (record { value = 0; next = cursor })
+    (numberFrom (readingIn signed text start end) most start end)
 
 -- any number that fits 64 bits
 abbrev pub mostWord : ℕ

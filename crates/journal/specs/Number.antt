@@ -4,13 +4,12 @@ use mathlib.Core.List.{List}
 use Prim.Native.Nat.{ℕ, zero, suc, _+_, _*_, _-_, _^_}
 use lib.Dec.{leb, ltb, eqb}
 use lib.IntN.{subℕ}
+use Rattle.numbers.specs.Signed.{wordOf}
 use Rattle.numbers.specs.Bounded.{allBelow}
 use Rattle.numbers.specs.Units.{between}
 use Rattle.journal.specs.Token.{byteAt}
 use Rattle.journal.specs.declared.number.Reading.{Reading}
 use Rattle.journal.specs.declared.number.Reading.the-variants.{Number, Unreadable}
-use Rattle.journal.specs.declared.number.SignedReading.{SignedReading}
-use Rattle.journal.specs.declared.number.SignedReading.the-variants.{Signed, NotSigned}
 
 unfoldable pub isDigit : ℕ → Bool
 isDigit byte = between 48 57 byte
@@ -35,16 +34,20 @@ numberIn text start end =
 unfoldable pub isMinus : List ℕ → ℕ → ℕ → Bool
 isMinus text start end = ltb start end && eqb (byteAt text start) 45
 
--- a signed number fits 64 bits with its sign
-abbrev pub aboveZero : Reading → SignedReading
-aboveZero (Number size) = cond (ltb size (2 ^ 63)) (Signed (subℕ size 0)) NotSigned
-aboveZero Unreadable = NotSigned
+-- a signed number fits 64 bits with its sign, and is read as the word that holds it
+abbrev pub aboveZero : Reading → Reading
+aboveZero (Number size) = cond (ltb size (2 ^ 63)) (Number size) Unreadable
+aboveZero Unreadable = Unreadable
 
-abbrev pub belowZero : Reading → SignedReading
-belowZero (Number size) = cond (leb size (2 ^ 63)) (Signed (subℕ 0 size)) NotSigned
-belowZero Unreadable = NotSigned
+abbrev pub belowZero : Reading → Reading
+belowZero (Number size) = cond (leb size (2 ^ 63)) (Number (wordOf (subℕ 0 size))) Unreadable
+belowZero Unreadable = Unreadable
 
 -- the reading of the bytes from start to before end as a signed number
-unfoldable pub signedIn : List ℕ → ℕ → ℕ → SignedReading
+unfoldable pub signedIn : List ℕ → ℕ → ℕ → Reading
 signedIn text start end =
     cond (isMinus text start end) (belowZero (numberIn text (start + 1) end)) (aboveZero (numberIn text start end))
+
+-- the reading of the bytes as a number, signed or not
+unfoldable pub readingIn : Bool → List ℕ → ℕ → ℕ → Reading
+readingIn signed text start end = cond signed (signedIn text start end) (numberIn text start end)

@@ -3,15 +3,14 @@
 ghost use mathlib.Core.Path.{_≡_};
 ghost use Prim.Native.Nat.{_≤_};
 ghost use lib.ListN.{length};
-ghost use Rattle.journal.specs.Cursor.{readTo, brokenAt, wordAfter, numberFrom, numberAfter, signedFrom};
-ghost use Rattle.journal.specs.Cursor.{signedAfter};
+ghost use Rattle.text.specs.Text.{nameText};
+ghost use Rattle.journal.specs.Cursor.{readTo, brokenAt, wordAfter, numberFrom, numberAfter};
 use crate::number::Reading;
-use crate::number::SignedReading;
-use crate::number::read_number;
-use crate::number::read_signed;
+use crate::number::read_token;
 use crate::token::token_end;
 use crate::token::token_start;
-use crate::word::is_word;
+use crate::word::is_name;
+use text::name::NAME;
 
 // How far the text is read; where it is broken, the byte of the token that could not be read.
 pub struct Cursor {
@@ -19,13 +18,8 @@ pub struct Cursor {
     pub broken: bool,
 }
 
-pub struct NumberRead {
+pub(crate) struct NumberRead {
     pub value: u64,
-    pub next: Cursor,
-}
-
-pub(crate) struct SignedRead {
-    pub value: i64,
     pub next: Cursor,
 }
 
@@ -43,17 +37,17 @@ pub fn broken_at(at: usize) -> Cursor
     Cursor { at, broken: true }
 }
 
-// Reads the given word.
-pub(crate) fn next_word(text: &[u8], cursor: Cursor, word: &[u8]) -> Cursor
+// Reads the given name.
+pub(crate) fn next_name(text: &[u8], cursor: Cursor, name: [u8; NAME]) -> Cursor
     requires { ⌜ cursor .at ≤ length (now text) ⌝ }
-    ensures { λ r. ⌜ r ≡ wordAfter (now (text .entry)) cursor (now (word .entry)) ⌝ }
+    ensures { λ r. ⌜ r ≡ wordAfter (now (text .entry)) cursor (nameText name) ⌝ }
 {
     if cursor.broken {
         return cursor;
     }
     let start = token_start(text, cursor.at);
     let end = token_end(text, start);
-    if is_word(text, start, end, word) {
+    if is_name(text, start, end, name) {
         return read_to(end);
     }
     broken_at(start)
@@ -79,10 +73,10 @@ fn number_from(reading: Reading, most: u64, start: usize, end: usize) -> NumberR
     }
 }
 
-// Reads a number of at most `most`.
-pub fn next_number(text: &[u8], cursor: Cursor, most: u64) -> NumberRead
+// Reads a number of at most `most`, signed or not.
+pub(crate) fn next_number(text: &[u8], cursor: Cursor, signed: bool, most: u64) -> NumberRead
     requires { ⌜ cursor .at ≤ length (now text) ⌝ }
-    ensures { λ r. ⌜ r ≡ numberAfter (now (text .entry)) cursor most ⌝ }
+    ensures { λ r. ⌜ r ≡ numberAfter (now (text .entry)) cursor signed most ⌝ }
 {
     if cursor.broken {
         return NumberRead {
@@ -92,37 +86,5 @@ pub fn next_number(text: &[u8], cursor: Cursor, most: u64) -> NumberRead
     }
     let start = token_start(text, cursor.at);
     let end = token_end(text, start);
-    number_from(read_number(text, start, end), most, start, end)
-}
-
-// A token's reading as a signed number.
-fn signed_from(reading: SignedReading, start: usize, end: usize) -> SignedRead
-    ensures { λ r. ⌜ r ≡ signedFrom reading start end ⌝ }
-{
-    match reading {
-        SignedReading::Signed(value) => {
-            let next = read_to(end);
-            SignedRead { value, next }
-        }
-        SignedReading::NotSigned => {
-            let next = broken_at(start);
-            SignedRead { value: 0, next }
-        }
-    }
-}
-
-// Reads a signed number.
-pub(crate) fn next_signed(text: &[u8], cursor: Cursor) -> SignedRead
-    requires { ⌜ cursor .at ≤ length (now text) ⌝ }
-    ensures { λ r. ⌜ r ≡ signedAfter (now (text .entry)) cursor ⌝ }
-{
-    if cursor.broken {
-        return SignedRead {
-            value: 0,
-            next: cursor,
-        };
-    }
-    let start = token_start(text, cursor.at);
-    let end = token_end(text, start);
-    signed_from(read_signed(text, start, end), start, end)
+    number_from(read_token(text, start, end, signed), most, start, end)
 }

@@ -3,18 +3,13 @@ ghost use mathlib.Core.Path.{_≡_};
 ghost use Prim.Native.Nat.{_+_, _*_, _^_, _≤_};
 ghost use lib.Dec.{ltb};
 ghost use lib.ListN.{length};
-ghost use Rattle.journal.specs.Number.{isDigit, numberIn, isMinus, aboveZero, belowZero, signedIn};
-use numbers::signed::difference;
+ghost use Rattle.journal.specs.Number.{isDigit, numberIn, isMinus, aboveZero, belowZero, signedIn, readingIn};
 use numbers::units::is_between;
 
+// A token's reading: a number, of either sign as the word of 64 bits that holds it.
 pub enum Reading {
     Number(u64),
     Unreadable,
-}
-
-pub enum SignedReading {
-    Signed(i64),
-    NotSigned,
 }
 
 // Whether a byte is a decimal digit.
@@ -33,7 +28,7 @@ fn fits_with(value: u64, digit: u64) -> bool
 }
 
 // The number in the bytes from start to before end.
-pub(crate) fn read_number(text: &[u8], start: usize, end: usize) -> Reading
+fn read_number(text: &[u8], start: usize, end: usize) -> Reading
     requires { ⌜ start ≤ end ⌝ ∗ ⌜ end ≤ length (now text) ⌝ }
     ensures { λ r. ⌜ r ≡ numberIn (now (text .entry)) start end ⌝ }
 {
@@ -67,40 +62,40 @@ fn is_minus(text: &[u8], start: usize, end: usize) -> bool
 }
 
 // A reading as a number of at least zero.
-fn above_zero(reading: Reading) -> SignedReading
+fn above_zero(reading: Reading) -> Reading
     ensures { λ r. ⌜ r ≡ aboveZero reading ⌝ }
 {
     match reading {
         Reading::Number(size) => {
             if size < 9223372036854775808 {
-                return SignedReading::Signed(difference(size, 0));
+                return Reading::Number(size);
             }
-            SignedReading::NotSigned
+            Reading::Unreadable
         }
-        Reading::Unreadable => SignedReading::NotSigned,
+        Reading::Unreadable => Reading::Unreadable,
     }
 }
 
-// A reading as the size of a number of at most zero. The least i64 has no size in an i64.
-fn below_zero(reading: Reading) -> SignedReading
+// A reading as the size of a number of at most zero.
+fn below_zero(reading: Reading) -> Reading
     ensures { λ r. ⌜ r ≡ belowZero reading ⌝ }
 {
     match reading {
         Reading::Number(size) => {
-            if size < 9223372036854775808 {
-                return SignedReading::Signed(difference(0, size));
+            if size == 0 {
+                return Reading::Number(0);
             }
-            if size == 9223372036854775808 {
-                return SignedReading::Signed(-9223372036854775808);
+            if size <= 9223372036854775808 {
+                return Reading::Number(18446744073709551615 - (size - 1));
             }
-            SignedReading::NotSigned
+            Reading::Unreadable
         }
-        Reading::Unreadable => SignedReading::NotSigned,
+        Reading::Unreadable => Reading::Unreadable,
     }
 }
 
 // The signed number in the bytes from start to before end.
-pub(crate) fn read_signed(text: &[u8], start: usize, end: usize) -> SignedReading
+fn read_signed(text: &[u8], start: usize, end: usize) -> Reading
     requires { ⌜ start ≤ end ⌝ ∗ ⌜ end ≤ length (now text) ⌝ }
     ensures { λ r. ⌜ r ≡ signedIn (now (text .entry)) start end ⌝ }
 {
@@ -108,4 +103,15 @@ pub(crate) fn read_signed(text: &[u8], start: usize, end: usize) -> SignedReadin
         return below_zero(read_number(text, start + 1, end));
     }
     above_zero(read_number(text, start, end))
+}
+
+// The number in the bytes from start to before end, signed or not.
+pub(crate) fn read_token(text: &[u8], start: usize, end: usize, signed: bool) -> Reading
+    requires { ⌜ start ≤ end ⌝ ∗ ⌜ end ≤ length (now text) ⌝ }
+    ensures { λ r. ⌜ r ≡ readingIn signed (now (text .entry)) start end ⌝ }
+{
+    if signed {
+        return read_signed(text, start, end);
+    }
+    read_number(text, start, end)
 }

@@ -1,2 +1,4 @@
 pub mod Text
 pub mod Buffer
+pub mod Line
+pub mod Row

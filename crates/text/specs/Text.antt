@@ -1,13 +1,12 @@
--- Numbers as text, byte by byte. Assumes nothing.
-use mathlib.Core.Bool.{cond}
+-- Names and numbers as text, byte by byte. Assumes nothing.
+use mathlib.Core.Bool.{Bool, cond}
 use mathlib.Core.List.{List, [], _∷_, _++_}
-use Prim.Native.Nat.{ℕ, zero, suc, _+_, _/_, _%_}
+use Prim.Native.Nat.{ℕ, zero, suc, _+_, _-_, _/_, _%_, _^_}
 use Prim.Native.Char.{code}
 use Prim.Native.String.{String}
 use Prim.Native.String.{[] as String·[], _∷_ as _String·∷_}
-use lib.Dec.{ltb}
-use lib.IntN.{ℤ, natAbs}
-use Rattle.numbers.specs.Signed.{isNegative}
+use lib.Dec.{ltb, eqb}
+use lib.ListN.{length, getD}
 
 abbrev pub blank : ℕ
 blank = 32
@@ -36,22 +35,28 @@ decimalWithin (suc k) x = cond (ltb x 10) (digit x ∷ []) (decimalWithin k (x /
 unfoldable pub decimal : ℕ → List ℕ
 decimal x = decimalWithin 20 x
 
--- a number of either sign: "decimal digits, with `-` in front where it is signed"
-unfoldable pub signedDecimal : ℤ → List ℕ
-signedDecimal x = cond (isNegative x) (minus ∷ decimal (natAbs x)) (decimal (natAbs x))
+-- a number of either sign, held as a word of 64 bits: "decimal digits, with `-` in front where it is signed"
+unfoldable pub signedDecimal : ℕ → List ℕ
+signedDecimal x = cond (ltb x (2 ^ 63)) (decimal x) (minus ∷ decimal (2 ^ 64 - x))
 
 -- a number after a blank
 unfoldable pub word : ℕ → List ℕ
 word x = blank ∷ decimal x
 
-unfoldable pub signedWord : ℤ → List ℕ
-signedWord x = blank ∷ signedDecimal x
-
--- a name, a blank and a number
-unfoldable pub named : List ℕ → ℕ → List ℕ
-named name x = name ++ word x
+-- the same, of either sign where it is signed
+unfoldable pub wordBy : Bool → ℕ → List ℕ
+wordBy signed x = cond signed (blank ∷ signedDecimal x) (word x)
 
 -- text 0, text 1, .. up to below the bound, one after another
 unfoldable pub textBelow : ℕ → (ℕ → List ℕ) → List ℕ
 textBelow zero f = []
 textBelow (suc k) f = textBelow k f ++ f k
+
+-- numbers, each after a blank
+unfoldable pub wordsBy : Bool → List ℕ → List ℕ
+wordsBy signed words = textBelow (length words) (λ k. wordBy signed (getD words k 0))
+
+-- a name is its bytes before the first blank
+unfoldable pub nameText : List ℕ → List ℕ
+nameText [] = []
+nameText (byte ∷ rest) = cond (eqb byte blank) [] (byte ∷ nameText rest)
