@@ -15,7 +15,15 @@ use mir.Syntax.{w64}
 use mir.Val.{SFits, toZ, ofZ}
 use mir.Facts.{toZ-ofZ, toZ-pos}
 use Rattle.numbers.specs.Bounded.{sumBelow}
-use Rattle.numbers.specs.Signed.{isNegative, positivePart, negativePart, withinSize, signedSumBelow}
+use Rattle.numbers.specs.Signed.{
+  isNegative,
+  positivePart,
+  negativePart,
+  withinSize,
+  signedSumBelow,
+  wordOf,
+  signedOf,
+}
 
 -- a difference by its sign
 pub sub-ge : (a b : ℕ) → b ≤ a → subℕ a b ≡ pos (a - b)
@@ -285,3 +293,66 @@ pub sum-wide : (n m : ℕ) (f : ℕ → ℤ) → n ≤ m → ((i : ℕ) → n �
 sum-wide n m f p h =
     let e : m - n + n ≡ m = omega arith in
     rw e at (sum-up n (m - n) f (λ i q r. h i q (omega arith)))
+
+-- words of 64 bits: what an i64's tests say of its size
+pub sized-within : (z : ℤ) → withinSize 9223372036854775807 z ≡ true → natAbs z < 2 ^ 63
+unfolding withinSize
+sized-within z e = omega (arith, leb-true (natAbs z) 9223372036854775807 e)
+
+pub negative-some : (z : ℤ) → isNegative z ≡ true → 1 ≤ natAbs z
+unfolding isNegative
+negative-some (pos n) e = absurd (false≢true e)
+negative-some (negsuc n) e = omega arith
+
+-- the word by its cases: the least i64, the others below zero, the rest
+pub word-least : (z : ℤ) → SFits w64 z → withinSize 9223372036854775807 z ≡ false → 9223372036854775808 ≡ wordOf z
+unfolding withinSize wordOf
+word-least (pos n) f e = absurd (omega (arith, f .sfits, leb-false n 9223372036854775807 e))
+word-least (negsuc n) f e = omega (arith, f .sfits, leb-false (suc n) 9223372036854775807 e)
+
+pub word-below : (z : ℤ) → isNegative z ≡ true → 18446744073709551615 - (natAbs z - 1) ≡ wordOf z
+unfolding isNegative wordOf
+word-below (pos n) e = absurd (false≢true e)
+word-below (negsuc n) e = omega arith
+
+pub word-above : (z : ℤ) → isNegative z ≡ false → natAbs z ≡ wordOf z
+unfolding isNegative wordOf
+word-above (pos n) e = refl
+word-above (negsuc n) e = absurd (true≢false e)
+
+-- the number of a word by its cases: below 2 ^ 63, and from there on
+pub signed-small : (w : ℕ) → w < 2 ^ 63 → signedOf w ≡ pos w
+unfolding signedOf
+signed-small w h = rw (lt-ltb w (2 ^ 63) h)
+
+pub signed-large : (w : ℕ) → 2 ^ 63 ≤ w → signedOf w ≡ negsuc (2 ^ 64 - 1 - w)
+unfolding signedOf
+signed-large w h = rw (le-ltb w (2 ^ 63) h)
+
+-- a number that fits in an i64 is read back from its word
+pub word-signed : (z : ℤ) → SFits w64 z → signedOf (wordOf z) ≡ z
+unfolding wordOf
+word-signed (pos n) f = signed-small n (f .sfits)
+word-signed (negsuc n) f =
+    signed-large (2 ^ 64 - 1 - n) (omega (arith, f .sfits)) ∙ ap negsuc (omega (arith, f .sfits))
+
+-- a word is found again from its number
+pub signed-word : (w : ℕ) → w < 2 ^ 64 → wordOf (signedOf w) ≡ w
+unfolding wordOf
+signed-word w h = go (decLt w (2 ^ 63))
+  where
+    go : Dec (w < 2 ^ 63) → wordOf (signedOf w) ≡ w
+    go (yes p) = ap wordOf (signed-small w p)
+    go (no p) = ap wordOf (signed-large w (omega arith)) ∙ omega arith
+
+-- the word of a number that fits in an i64 has 64 bits
+pub word-fits : (z : ℤ) → SFits w64 z → wordOf z < 2 ^ 64
+unfolding wordOf
+word-fits (pos n) f = omega (arith, f .sfits)
+word-fits (negsuc n) f = omega arith
+
+-- only zero has the word 0
+pub word-zero : (z : ℤ) → SFits w64 z → wordOf z ≡ 0 → z ≡ pos 0
+unfolding wordOf
+word-zero (pos n) f h = ap pos h
+word-zero (negsuc n) f h = absurd (omega (arith, f .sfits))
