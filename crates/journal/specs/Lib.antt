@@ -3,4 +3,5 @@ pub mod Word
 pub mod Number
 pub mod Cursor
 pub mod List
+pub mod Form
 pub mod Command

@@ -1,7 +1,0 @@
-// The text form of calls: tokens, words, numbers, lists and commands.
-pub mod command;
-pub mod cursor;
-mod list;
-mod number;
-mod token;
-mod word;

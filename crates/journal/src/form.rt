@@ -1,0 +1,176 @@
+// A form: the parts of a command's text in their order, as data. One reader and one writer serve every form.
+ghost use mathlib.Core.Path.{_≡_};
+ghost use Prim.Native.Nat.{_≤_};
+ghost use lib.ListN.{length};
+ghost use Rattle.text.specs.Buffer.{bufferOf, written};
+ghost use Rattle.journal.specs.Form.{partCount, heldOf, roomOf, countOf, placeOf, PartFollows, FormFollows};
+ghost use Rattle.journal.specs.Form.{FormHeld, bufferParts, listText, partText, formText};
+use crate::cursor::Cursor;
+use crate::cursor::NumberRead;
+use crate::cursor::next_number;
+use crate::list::read_count;
+use crate::list::read_list;
+use text::name::NAME;
+use text::name::write_name;
+use text::number::write_word;
+use text::number::write_words;
+use text::write::write_byte;
+
+// The parts of a form.
+pub const PARTS: usize = 12;
+
+// The largest number of 64 bits.
+pub const MOST_WORD: u64 = 18446744073709551615;
+
+// What a part of a form is, with the bounds of what it takes.
+pub enum Kind {
+    Nothing,
+    // A number, and its greatest value.
+    Number(u64),
+    // A list of numbers, its longest count and its greatest word.
+    List(u64, u64),
+    // A list of signed numbers and its longest count.
+    Signed(u64),
+    // The length of a list that is lent, and its greatest value.
+    Length(u64),
+}
+
+// A part of a form: its name, which a number does not show, and what it is.
+pub struct Part(pub [u8; NAME], pub Kind);
+
+// The numbers of a form's parts, of a list its count, and how far the text is read. The words of the lists stand in the
+// lent words, each list where the longest ones before it would end.
+pub struct FormRead {
+    pub numbers: [u64; PARTS],
+    pub next: Cursor,
+}
+
+// How many words a part may have.
+fn room_of(part: Part) -> usize
+    ensures { λ r. ⌜ r ≡ roomOf part ⌝ }
+{
+    let kind = part.1;
+    match kind {
+        Kind::Nothing => 0,
+        Kind::Number(_) => 0,
+        Kind::List(longest, _) => longest as usize,
+        Kind::Signed(longest) => longest as usize,
+        Kind::Length(_) => 0,
+    }
+}
+
+// How many words a part of this number has.
+fn count_of(part: Part, number: u64) -> usize
+    ensures { λ r. ⌜ r ≡ countOf part number ⌝ }
+{
+    let kind = part.1;
+    match kind {
+        Kind::Nothing => 0,
+        Kind::Number(_) => 0,
+        Kind::List(_, _) => number as usize,
+        Kind::Signed(_) => number as usize,
+        Kind::Length(_) => 0,
+    }
+}
+
+// Reads a part: its number, and a list's words into the first places of the lent words.
+fn read_part(text: &[u8], cursor: Cursor, part: Part, into: &mut [u64]) -> NumberRead
+    requires { ⌜ cursor .at ≤ length (now text) ⌝ ∗ ⌜ length (now into) ≡ roomOf part ⌝ }
+    ensures { λ r. ⌜ PartFollows part (now (text .entry)) cursor r (now (into .entry)) (now (into .exit)) ⌝ }
+{
+    let name = part.0;
+    let kind = part.1;
+    match kind {
+        Kind::Nothing => NumberRead {
+            value: 0,
+            next: cursor,
+        },
+        Kind::Number(most) => next_number(text, cursor, false, most),
+        Kind::List(_, most) => read_list(text, cursor, name, false, most, into),
+        Kind::Signed(_) => read_list(text, cursor, name, true, MOST_WORD, into),
+        Kind::Length(longest) => read_count(text, cursor, name, longest),
+    }
+}
+
+// Reads the parts of a form.
+pub fn read_form(text: &[u8], cursor: Cursor, form: [Part; PARTS], words: &mut [u64]) -> FormRead
+    requires { ⌜ cursor .at ≤ length (now text) ⌝ ∗ ⌜ placeOf form partCount ≤ length (now words) ⌝ }
+    ensures { λ r. ⌜ FormFollows form (now (text .entry)) cursor r (now (words .entry)) (now (words .exit)) ⌝ }
+{
+    let mut numbers = [0u64; PARTS];
+    let mut next = cursor;
+    let mut at: usize = 0;
+    let mut k: usize = 0;
+    while k < PARTS {
+        let part = form[k];
+        let end = at + room_of(part);
+        let read = read_part(text, next, part, &mut words[at..end]);
+        let value = read.value;
+        numbers[k] = value;
+        next = read.next;
+        at = end;
+        k += 1;
+    }
+    FormRead { numbers, next }
+}
+
+// Writes a list, or a length, as a line of its own: its name, its number and its words.
+fn write_list(
+    buffer: &mut [u8],
+    count: usize,
+    name: [u8; NAME],
+    signed: bool,
+    number: u64,
+    words: &[u64],
+) -> usize
+    ensures { λ r. ⌜ bufferOf (now (buffer .exit)) r ≡ written (listText name signed number (now (words .entry)))
+        (bufferOf (now (buffer .entry)) count) ⌝ }
+{
+    let end = write_byte(buffer, count, b'\n');
+    let end = write_name(buffer, end, name);
+    let end = write_word(buffer, end, number);
+    write_words(buffer, end, signed, words)
+}
+
+// Writes a part of its number and words.
+fn write_part(buffer: &mut [u8], count: usize, part: Part, number: u64, words: &[u64]) -> usize
+    ensures { λ r. ⌜ bufferOf (now (buffer .exit)) r ≡ written (partText part (heldOf number (now (words .entry))))
+        (bufferOf (now (buffer .entry)) count) ⌝ }
+{
+    let name = part.0;
+    let kind = part.1;
+    match kind {
+        Kind::Nothing => count,
+        Kind::Number(_) => write_word(buffer, count, number),
+        Kind::List(_, _) => write_list(buffer, count, name, false, number, words),
+        Kind::Signed(_) => write_list(buffer, count, name, true, number, words),
+        Kind::Length(_) => write_list(buffer, count, name, false, number, words),
+    }
+}
+
+// Writes a command of these parts: its name and numbers on the first line, then a line for each list.
+pub fn write_form(
+    buffer: &mut [u8],
+    count: usize,
+    name: [u8; NAME],
+    form: [Part; PARTS],
+    numbers: [u64; PARTS],
+    words: &[u64],
+) -> usize
+    requires { ⌜ FormHeld form numbers (length (now words)) ⌝ }
+    ensures { λ r. ⌜ bufferOf (now (buffer .exit)) r ≡ written
+        (formText name form (bufferParts form numbers (now (words .entry)))) (bufferOf (now (buffer .entry)) count) ⌝ }
+{
+    let mut end = write_name(buffer, count, name);
+    let mut at: usize = 0;
+    let mut k: usize = 0;
+    while k < PARTS {
+        let part = form[k];
+        let number = numbers[k];
+        let last = at + count_of(part, number);
+        end = write_part(buffer, end, part, number, &words[at..last]);
+        at += room_of(part);
+        k += 1;
+    }
+    write_byte(buffer, end, b'\n')
+}
