@@ -1,4 +1,4 @@
 pub mod BufferLaws
 pub mod DecimalLaws
-pub mod SignedLaws
+pub mod NameLaws
 pub mod SizeLaws

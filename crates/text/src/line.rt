@@ -63,11 +63,12 @@ fn write_item(buffer: &mut [u8], count: usize, item: Item) -> usize
     ensures { λ r. ⌜ bufferOf (now (buffer .exit)) r ≡ written (itemText item) (bufferOf (now (buffer .entry)) count) ⌝ }
 {
     let shown = item.shown;
+    let name = item.name;
     match shown {
         Shown::Nothing => count,
-        Shown::Word => write_name(buffer, count, item.name),
+        Shown::Word => write_name(buffer, count, name),
         Shown::Number => {
-            let end = write_name(buffer, count, item.name);
+            let end = write_name(buffer, count, name);
             write_word(buffer, end, item.number)
         }
     }
