@@ -1,5 +1,3 @@
-// What the commands of a journal answer, written into a lent buffer: each text is a definition's, byte by byte.
-pub mod outcome;
-pub mod prices;
-pub mod saving;
-pub mod transfers;
+// What the commands of a journal answer: lines as values, and the one writer of an answer, stated byte by byte.
+pub mod answer;
+pub mod line;

@@ -3,17 +3,18 @@ use mathlib.Core.Path.{_≡_}
 use mathlib.Core.Bool.{Bool, true, false, cond}
 use mathlib.Core.List.{List, [], _∷_, _++_}
 use Prim.Native.Nat.{ℕ, zero, suc, _+_, _*_, _-_, _/_, _%_, _^_, _≤_, _<_}
-use native.Mathlib.Nat.{suc-mul, mul-le-mul}
+use native.Mathlib.Nat.{suc-mul}
 use native.Mathlib.Omega.{arith}
 use lib.Dec.{ltb, eqb}
 use lib.IntN.{ℤ, pos}
 use lib.ListN.{length, getD, take, drop, length-append, length-take}
 use Rattle.numbers.specs.Signed.{wordOf}
-use Rattle.text.specs.Line.{nothing, itemText, nextText, lineText}
+use Rattle.text.specs.Line.{nothing, shownText, itemText, nextBy, nextText, lineText}
 use Rattle.text.specs.Row.{signedWords, columnText, rowText, rowsText}
-use Rattle.text.specs.Text.{blank, lineEnd, digit, minus, decimalWithin, decimal, signedDecimal, word, wordBy}
+use Rattle.text.specs.Text.{blank, digit, minus, decimalWithin, decimal, signedDecimal, word, wordBy}
 use Rattle.text.specs.Text.{textBelow, wordsBy, nameText}
 use Rattle.text.specs.declared.line.Item.{Item}
+use Rattle.text.specs.declared.line.Shown.{Shown}
 use Rattle.text.specs.declared.line.Shown.the-variants.{Nothing, Word, Number}
 
 -- either of two texts
@@ -52,10 +53,16 @@ word-by-size signed x =
     (omega (arith, word-size x))
 
 -- texts one after another, each of a size at most
-pub texts-size : (k most : ℕ) (f : ℕ → List ℕ) → ((j : ℕ) → length (f j) ≤ most) → length (textBelow k f) ≤ k * most
+pub texts-size-below : (k most : ℕ) (f : ℕ → List ℕ) → ((j : ℕ) → j < k → length (f j) ≤ most) →
+    length (textBelow k f) ≤ k * most
 unfolding textBelow
-texts-size zero most f h = omega arith
-texts-size (suc k) most f h = rw (length-append, suc-mul) (omega (arith, texts-size k most f h, h k))
+texts-size-below zero most f h = omega arith
+texts-size-below (suc k) most f h =
+    rw (length-append, suc-mul)
+    (omega (arith, texts-size-below k most f (λ j p. h j (omega arith)), h k (omega arith)))
+
+pub texts-size : (k most : ℕ) (f : ℕ → List ℕ) → ((j : ℕ) → length (f j) ≤ most) → length (textBelow k f) ≤ k * most
+texts-size k most f h = texts-size-below k most f (λ j p. h j)
 
 pub words-size : (signed : Bool) (words : List ℕ) → length (wordsBy signed words) ≤ length words * 22
 unfolding wordsBy
@@ -68,3 +75,58 @@ name-size [] = omega arith
 name-size (byte ∷ rest) =
     choice-size (eqb byte blank) [] (byte ∷ nameText rest) (suc (length rest)) (omega arith)
     (omega (arith, name-size rest))
+
+-- an item whose name has 12 bytes, alone and after a blank; a line of such items
+shown-size : (shown : Shown) (item : Item) → length (item .name) ≡ 12 → length (shownText shown item) ≤ 33
+shown-size Nothing item e = omega arith
+shown-size Word item e = omega (arith, name-size (item .name))
+shown-size Number item e = rw length-append (omega (arith, name-size (item .name), word-size (item .number)))
+
+pub item-size : (item : Item) → length (item .name) ≡ 12 → length (itemText item) ≤ 33
+unfolding itemText
+item-size item e = shown-size (item .shown) item e
+
+next-by-size : (shown : Shown) (item : Item) → length (item .name) ≡ 12 → length (nextBy shown item) ≤ 34
+next-by-size Nothing item e = omega arith
+next-by-size Word item e = omega (arith, item-size item e)
+next-by-size Number item e = omega (arith, item-size item e)
+
+pub next-size : (item : Item) → length (item .name) ≡ 12 → length (nextText item) ≤ 34
+unfolding nextText
+next-size item e = next-by-size (item .shown) item e
+
+pub line-size : (items : List Item) → ((k : ℕ) → k < 6 → length (getD items k nothing .name) ≡ 12) →
+    length (lineText items) ≤ 204
+unfolding lineText
+line-size items h =
+    let first = item-size (getD items 0 nothing) (h 0 (omega arith)) in
+    let rest =
+    texts-size-below 5 34 (λ k. nextText (getD items (suc k) nothing))
+    (λ k p. next-size (getD items (suc k) nothing) (h (suc k) (omega arith))) in
+    simp length-append (omega (arith, first, rest))
+
+-- rows
+signed-words-size : (list : List ℤ) → length (signedWords list) ≤ length list * 22
+unfolding signedWords
+signed-words-size list =
+    texts-size (length list) 22 (λ k. wordBy true (wordOf (getD list k (pos 0))))
+    (λ k. word-by-size true (wordOf (getD list k (pos 0))))
+
+column-size : (column : List ℤ) (i : ℕ) → length (columnText column i) ≤ 22
+unfolding columnText
+column-size column i =
+    choice-size (ltb i (length column)) (wordBy true (wordOf (getD column i (pos 0)))) [] 22
+    (word-by-size true (wordOf (getD column i (pos 0)))) (omega arith)
+
+row-size : (i width : ℕ) (words column : List ℤ) → length words ≤ width →
+    length (rowText i words column) ≤ 43 + width * 22
+unfolding rowText
+row-size i width words column p =
+    simp length-append (omega (arith, decimal-size i, signed-words-size words, column-size column i))
+
+pub rows-size : (list : List ℤ) (width : ℕ) (column : List ℤ) →
+    length (rowsText list width column) ≤ (length list / width) * (43 + width * 22)
+unfolding rowsText
+rows-size list width column =
+    texts-size (length list / width) (43 + width * 22) (λ i. rowText i (take width (drop (i * width) list)) column)
+    (λ i. row-size i width (take width (drop (i * width) list)) column (rw length-take (omega arith)))

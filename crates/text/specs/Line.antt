@@ -1,41 +1,42 @@
 -- A line is words and numbers. Assumes nothing.
 use mathlib.Core.List.{List, [], _∷_, _++_}
 use Prim.Native.Nat.{ℕ, suc}
+use Prim.Native.String.{String}
 use lib.ListN.{getD}
 use Rattle.text.specs.Text.{bytes, blank, lineEnd, word, nameText, textBelow}
 use Rattle.text.specs.declared.line.Item.{Item}
 use Rattle.text.specs.declared.line.Shown.{Shown}
 use Rattle.text.specs.declared.line.Shown.the-variants.{Nothing, Word, Number}
 
--- no item, a word, a number after its name
+-- an item by its name of 12 bytes
+abbrev pub item : String → Shown → Item
+item name shown = record { 0 = bytes name; 1 = shown }
+
 abbrev pub nothing : Item
-nothing = record { shown = Nothing; name = bytes "            "; number = 0 }
+nothing = item "            " Nothing
 
-abbrev pub wordItem : List ℕ → Item
-wordItem name = record { shown = Word; name = name; number = 0 }
+-- an item of a line; past its end nothing
+abbrev pub itemAt : List Item → ℕ → Item
+itemAt items k = getD items k (record { 0 = []; 1 = Nothing })
 
-abbrev pub numberItem : List ℕ → ℕ → Item
-numberItem name number = record { shown = Number; name = name; number = number }
-
--- what an item shows
-abbrev pub shownText : Shown → Item → List ℕ
-shownText Nothing item = []
-shownText Word item = nameText (item .name)
-shownText Number item = nameText (item .name) ++ word (item .number)
+-- what an item shows: nothing, its name, or its name and a number
+abbrev pub shownText : Shown → List ℕ → List ℕ
+shownText Nothing name = []
+shownText Word name = nameText name
+shownText (Number number) name = nameText name ++ word number
 
 unfoldable pub itemText : Item → List ℕ
-itemText item = shownText (item .shown) item
+itemText item = shownText (item .1) (item .0)
 
 -- an item after the one before it
 abbrev pub nextBy : Shown → Item → List ℕ
 nextBy Nothing item = []
 nextBy Word item = blank ∷ itemText item
-nextBy Number item = blank ∷ itemText item
+nextBy (Number number) item = blank ∷ itemText item
 
 unfoldable pub nextText : Item → List ℕ
-nextText item = nextBy (item .shown) item
+nextText item = nextBy (item .1) item
 
 -- a line of six items
 unfoldable pub lineText : List Item → List ℕ
-lineText items =
-    itemText (getD items 0 nothing) ++ textBelow 5 (λ k. nextText (getD items (suc k) nothing)) ++ lineEnd ∷ []
+lineText items = itemText (itemAt items 0) ++ textBelow 5 (λ k. nextText (itemAt items (suc k))) ++ lineEnd ∷ []

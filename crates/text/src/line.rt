@@ -2,7 +2,7 @@
 // are then.
 ghost use mathlib.Core.Path.{_≡_};
 ghost use Rattle.text.specs.Buffer.{bufferOf, written};
-ghost use Rattle.text.specs.Line.{nothing, wordItem, numberItem, itemText, nextText, lineText};
+ghost use Rattle.text.specs.Line.{itemText, nextText, lineText};
 use crate::name::NAME;
 use crate::name::write_name;
 use crate::number::write_word;
@@ -11,84 +11,56 @@ use crate::write::write_byte;
 // The items of a line.
 pub const ITEMS: usize = 6;
 
-// What an item shows.
+// What an item shows of its name: nothing, the name as a word, or the name and a number.
 pub enum Shown {
     Nothing,
     Word,
-    Number,
+    Number(u64),
 }
 
-// An item of a line: a word, or a number after its name.
-pub struct Item {
-    pub shown: Shown,
-    pub name: [u8; NAME],
-    pub number: u64,
-}
-
-// No item.
-pub fn nothing() -> Item
-    ensures { λ r. ⌜ r ≡ nothing ⌝ }
-{
-    Item {
-        shown: Shown::Nothing,
-        name: *b"            ",
-        number: 0,
-    }
-}
-
-// A word.
-pub fn word_item(name: [u8; NAME]) -> Item
-    ensures { λ r. ⌜ r ≡ wordItem name ⌝ }
-{
-    Item {
-        shown: Shown::Word,
-        name,
-        number: 0,
-    }
-}
-
-// A number after its name.
-pub fn number_item(name: [u8; NAME], number: u64) -> Item
-    ensures { λ r. ⌜ r ≡ numberItem name number ⌝ }
-{
-    Item {
-        shown: Shown::Number,
-        name,
-        number,
-    }
-}
+// An item of a line.
+pub struct Item(pub [u8; NAME], pub Shown);
 
 // Writes an item.
 fn write_item(buffer: &mut [u8], count: usize, item: Item) -> usize
-    ensures { λ r. ⌜ bufferOf (now (buffer .exit)) r ≡ written (itemText item) (bufferOf (now (buffer .entry)) count) ⌝ }
+    ensures { λ r. ⌜ bufferOf (now (buffer .exit)) r ≡ written (itemText item)
+        (bufferOf (now (buffer .entry)) count) ⌝ }
 {
-    let shown = item.shown;
-    let name = item.name;
+    let name = item.0;
+    let shown = item.1;
     match shown {
         Shown::Nothing => count,
         Shown::Word => write_name(buffer, count, name),
-        Shown::Number => {
+        Shown::Number(number) => {
             let end = write_name(buffer, count, name);
-            write_word(buffer, end, item.number)
+            write_word(buffer, end, number)
         }
     }
 }
 
 // Writes a blank and an item.
 fn write_next(buffer: &mut [u8], count: usize, item: Item) -> usize
-    ensures { λ r. ⌜ bufferOf (now (buffer .exit)) r ≡ written (nextText item) (bufferOf (now (buffer .entry)) count) ⌝ }
+    ensures { λ r. ⌜ bufferOf (now (buffer .exit)) r ≡ written (nextText item)
+        (bufferOf (now (buffer .entry)) count) ⌝ }
 {
-    let shown = item.shown;
-    if let Shown::Nothing = shown {
-        return count;
+    let shown = item.1;
+    match shown {
+        Shown::Nothing => count,
+        Shown::Word => {
+            let end = write_byte(buffer, count, b' ');
+            write_item(buffer, end, item)
+        }
+        Shown::Number(_) => {
+            let end = write_byte(buffer, count, b' ');
+            write_item(buffer, end, item)
+        }
     }
-    let end = write_byte(buffer, count, b' ');
-    write_item(buffer, end, item)
 }
 
 // Writes a line of items.
 pub fn write_line(buffer: &mut [u8], count: usize, items: [Item; ITEMS]) -> usize
-    ensures { λ r. ⌜ bufferOf (now (buffer .exit)) r ≡ written (lineText items) (bufferOf (now (buffer .entry)) count) ⌝ }
+    ensures { λ r. ⌜ bufferOf (now (buffer .exit)) r ≡ written (lineText items)
+        (bufferOf (now (buffer .entry)) count) ⌝ }
 {
     let first = items[0];
     let mut end = write_item(buffer, count, first);

@@ -7,6 +7,7 @@ use crate::number::write_decimal;
 use crate::number::write_word_by;
 use crate::write::write_byte;
 use numbers::signed::word_of;
+use numbers::sizes::MOST_DISTRIBUTORS;
 
 // Writes numbers of either sign, each after a blank.
 fn write_signed_words(buffer: &mut [u8], count: usize, list: &[i64]) -> usize
@@ -44,7 +45,7 @@ fn write_row(buffer: &mut [u8], count: usize, i: usize, words: &[i64], column: &
     write_byte(buffer, end, b'\n')
 }
 
-// Writes a row for each `width` words of the list.
+// Writes a row for each `width` words of the list, for no more than the most distributors.
 pub fn write_rows(
     buffer: &mut [u8],
     count: usize,
@@ -59,7 +60,7 @@ pub fn write_rows(
     let rows = list.len() / width;
     let mut end = count;
     let mut i: usize = 0;
-    while i < rows {
+    while i < rows && i < MOST_DISTRIBUTORS {
         let from = i * width;
         end = write_row(buffer, end, i, &list[from..from + width], column);
         i += 1;

@@ -7,7 +7,9 @@ use Rattle.text.proofs.number.write_word_by.Tie as tie
 
 returns : tie.Need-returns
 unfolding wordBy
-returns c = rw (c .before .before .before .before .before .before .before .before .if1 .taken) (search (needs, byte-after))
+returns c =
+    let b = c .before .before .before .before .before .before in
+    rw (b .before .before .if1 .taken) (search (needs, byte-after))
 
 returns-2 : tie.Need-returns-2
 unfolding wordBy
