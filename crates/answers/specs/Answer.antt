@@ -7,7 +7,7 @@ use lib.Dec.{eqb}
 use lib.ListN.{length, getD, replicate}
 use lib.IntN.{ℤ, pos, natAbs}
 use Rattle.numbers.specs.Bounded.{allBelow}
-use Rattle.numbers.specs.Refusal.{Answered, refusalAnswered}
+use Rattle.numbers.specs.Refusal.{refusalAnswered}
 use Rattle.numbers.specs.Signed.{isNegative}
 use Rattle.numbers.specs.declared.refusal.Refusal.{Refusal}
 use Rattle.numbers.specs.declared.units.PesoPrice.{PesoPrice}

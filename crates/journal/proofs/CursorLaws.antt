@@ -7,27 +7,19 @@ use Prim.Native.Nat.{ℕ, _≤_, _<_}
 use native.Mathlib.Omega.{arith}
 use lib.Dec.{leb}
 use lib.ListN.{length}
-use lib.IntN.{ℤ, pos}
 use borrow.Author.Tests.{le-leb, lt-leb, leb-true}
 use Rattle.journal.specs.Token.{tokenStart, tokenEnd}
 use Rattle.journal.specs.Word.{isWord}
-use Rattle.journal.specs.Number.{numberIn, signedIn}
-use Rattle.journal.specs.Cursor.{readTo, brokenAt, wordAfter, numberFrom, numberAfter, signedFrom, signedAfter}
-use Rattle.journal.specs.Cursor.{Onward}
+use Rattle.journal.specs.Number.{readingIn}
+use Rattle.journal.specs.Cursor.{readTo, brokenAt, wordAfter, numberFrom, numberAfter, Onward}
 use Rattle.journal.specs.declared.number.Reading.{Reading}
 use Rattle.journal.specs.declared.number.Reading.the-variants.{Number, Unreadable}
-use Rattle.journal.specs.declared.number.SignedReading.{SignedReading}
-use Rattle.journal.specs.declared.number.SignedReading.the-variants.{Signed, NotSigned}
 use Rattle.journal.specs.declared.cursor.Cursor.{Cursor}
 use Rattle.journal.specs.declared.cursor.NumberRead.{NumberRead}
-use Rattle.journal.specs.declared.cursor.SignedRead.{SignedRead}
 use Rattle.journal.proofs.TokenLaws.{token-start-least, token-start-most, token-end-least, token-end-most}
 
 abbrev pub numberRead : ℕ → Cursor → NumberRead
 numberRead value next = record { value = value; next = next }
-
-abbrev pub signedRead : ℤ → Cursor → SignedRead
-signedRead value next = record { value = value; next = next }
 
 -- a reading is a number that is small enough, one that is too large, or none
 module _ (reading : Reading) (most start end : ℕ) (next : Cursor) where
@@ -42,27 +34,15 @@ module _ (reading : Reading) (most start end : ℕ) (next : Cursor) where
   pub number-none : reading ≡ Unreadable → next ≡ brokenAt start → numberRead 0 next ≡ numberFrom reading most start end
   number-none e q = rw (e, q) refl
 
-module _ (reading : SignedReading) (start end : ℕ) (next : Cursor) where
-  pub signed-some : (value : ℤ) → reading ≡ Signed value → next ≡ readTo end →
-      signedRead value next ≡ signedFrom reading start end
-  signed-some value e q = rw (e, q) refl
-
-  pub signed-none : reading ≡ NotSigned → next ≡ brokenAt start → signedRead (pos 0) next ≡ signedFrom reading start end
-  signed-none e q = rw (e, q) refl
-
 -- nothing is read after what is broken
 module _ (text : List ℕ) (cursor : Cursor) (h : cursor .broken ≡ true) where
   pub word-after-broken : (word : List ℕ) → cursor ≡ wordAfter text cursor word
   unfolding wordAfter
   word-after-broken word = rw h
 
-  pub number-after-broken : (most : ℕ) → numberRead 0 cursor ≡ numberAfter text cursor most
+  pub number-after-broken : (signed : Bool) (most : ℕ) → numberRead 0 cursor ≡ numberAfter text cursor signed most
   unfolding numberAfter
-  number-after-broken most = rw h
-
-  pub signed-after-broken : signedRead (pos 0) cursor ≡ signedAfter text cursor
-  unfolding signedAfter
-  signed-after-broken = rw h
+  number-after-broken signed most = rw h
 
 -- what is read is the next token
 module _ (text : List ℕ) (cursor : Cursor) (h : cursor .broken ≡ false) (start end : ℕ)
@@ -76,14 +56,10 @@ module _ (text : List ℕ) (cursor : Cursor) (h : cursor .broken ≡ false) (sta
   unfolding wordAfter
   word-after-other word w = rw (h, ← s, ← e, w)
 
-  pub number-after-token : (most : ℕ) →
-      numberFrom (numberIn text start end) most start end ≡ numberAfter text cursor most
+  pub number-after-token : (signed : Bool) (most : ℕ) →
+      numberFrom (readingIn signed text start end) most start end ≡ numberAfter text cursor signed most
   unfolding numberAfter
-  number-after-token most = rw (h, ← s, ← e)
-
-  pub signed-after-token : signedFrom (signedIn text start end) start end ≡ signedAfter text cursor
-  unfolding signedAfter
-  signed-after-token = rw (h, ← s, ← e)
+  number-after-token signed most = rw (h, ← s, ← e)
 
 -- a cursor is onward of itself, and of those before it
 pub onward-same : (text : List ℕ) (cursor : Cursor) → cursor .at ≤ length text → Onward text cursor cursor
@@ -136,9 +112,9 @@ module _ (text : List ℕ) (cursor : Cursor) (p : cursor .at ≤ length text) wh
       go h true = onward-read h
       go h false = onward-broken
 
-  pub onward-number : (most : ℕ) → Onward text cursor (numberAfter text cursor most .next)
+  onward-number : (signed : Bool) (most : ℕ) → Onward text cursor (numberAfter text cursor signed most .next)
   unfolding numberAfter
-  onward-number most = go (cursor .broken) refl (numberIn text start end)
+  onward-number signed most = go (cursor .broken) refl (readingIn signed text start end)
     where
       within : cursor .broken ≡ false → (value : ℕ) (b : Bool) →
           Onward text cursor (cond b (numberRead value (readTo end)) (numberRead 0 (brokenAt start)) .next)
@@ -151,44 +127,30 @@ module _ (text : List ℕ) (cursor : Cursor) (p : cursor .at ≤ length text) wh
       go false h (Number value) = within h value (leb value most)
       go false h Unreadable = onward-broken
 
-  onward-signed : Onward text cursor (signedAfter text cursor .next)
-  unfolding signedAfter
-  onward-signed = go (cursor .broken) refl (signedIn text start end)
-    where
-      go : (b : Bool) → cursor .broken ≡ b → (reading : SignedReading) →
-          Onward text cursor (cond b (signedRead (pos 0) cursor) (signedFrom reading start end) .next)
-      go true h reading = onward-same text cursor p
-      go false h (Signed value) = onward-read h
-      go false h NotSigned = onward-broken
-
 -- onward by one more word or number
 module _ {text : List ℕ} {cursor middle : Cursor} (o : Onward text cursor middle) where
   pub then-word : (word : List ℕ) → Onward text cursor (wordAfter text middle word)
   then-word word = onward-join text cursor middle _ o (onward-word text middle (o .within) word)
 
-  pub then-number : (most : ℕ) → Onward text cursor (numberAfter text middle most .next)
-  then-number most = onward-join text cursor middle _ o (onward-number text middle (o .within) most)
-
-  pub then-signed : Onward text cursor (signedAfter text middle .next)
-  then-signed = onward-join text cursor middle _ o (onward-signed text middle (o .within))
+  pub then-number : (signed : Bool) (most : ℕ) → Onward text cursor (numberAfter text middle signed most .next)
+  then-number signed most = onward-join text cursor middle _ o (onward-number text middle (o .within) signed most)
 
 -- a cursor that the code read lies within the text
 module _ (text : List ℕ) (cursor : Cursor) (p : cursor .at ≤ length text) where
   pub word-within : (word : List ℕ) (next : Cursor) → next ≡ wordAfter text cursor word → next .at ≤ length text
   word-within word next e = rw e (onward-word text cursor p word .within)
 
-  pub number-within : (most : ℕ) (read : NumberRead) → read ≡ numberAfter text cursor most →
+  pub number-within : (signed : Bool) (most : ℕ) (read : NumberRead) → read ≡ numberAfter text cursor signed most →
       read .next .at ≤ length text
-  number-within most read e = rw e (onward-number text cursor p most .within)
-
-  pub signed-within : (read : SignedRead) → read ≡ signedAfter text cursor → read .next .at ≤ length text
-  signed-within read e = rw e (onward-signed text cursor p .within)
+  number-within signed most read e = rw e (onward-number text cursor p signed most .within)
 
 -- a number is not above the most
-pub number-most : (text : List ℕ) (cursor : Cursor) (most : ℕ) → numberAfter text cursor most .value ≤ most
+pub number-most : (text : List ℕ) (cursor : Cursor) (signed : Bool) (most : ℕ) →
+    numberAfter text cursor signed most .value ≤ most
 unfolding numberAfter
-number-most text cursor most =
-    go (cursor .broken) (numberIn text (tokenStart text (cursor .at)) (tokenEnd text (tokenStart text (cursor .at))))
+number-most text cursor signed most =
+    go (cursor .broken)
+    (readingIn signed text (tokenStart text (cursor .at)) (tokenEnd text (tokenStart text (cursor .at))))
   where
     start : ℕ
     start = tokenStart text (cursor .at)

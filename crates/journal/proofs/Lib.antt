@@ -3,9 +3,6 @@ pub mod NumberLaws
 pub mod SignedLaws
 pub mod CursorLaws
 pub mod ListLaws
-pub mod CommandLaws
-pub mod ReadLaws
 pub mod TextLaws
-pub mod DecimalLaws
-pub mod StandsLaws
-pub mod LoadLaws
+pub mod FormLaws
+pub mod CommandLaws

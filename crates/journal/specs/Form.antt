@@ -29,7 +29,7 @@ abbrev pub nothing : Part
 nothing = part "            " Nothing
 
 abbrev pub partAt : List Part → ℕ → Part
-partAt form k = getD form k nothing
+partAt form k = getD form k (record { 0 = []; 1 = Nothing })
 
 -- what a part holds: a number, or a list and how many words it has
 pub record Held : Type 0 where
@@ -50,7 +50,7 @@ boundBy (Words longest most) = longest
 boundBy (Signed longest) = longest
 boundBy (Length longest) = longest
 
-unfoldable pub boundOf : Part → ℕ
+abbrev pub boundOf : Part → ℕ
 boundOf part = boundBy (part .1)
 
 -- how many words a part of a number has: a list as many as its number, the other parts none
@@ -61,11 +61,11 @@ countBy (Words longest most) number = number
 countBy (Signed longest) number = number
 countBy (Length longest) number = 0
 
-unfoldable pub countOf : Part → ℕ → ℕ
+abbrev pub countOf : Part → ℕ → ℕ
 countOf part number = countBy (part .1) number
 
 -- how many it may have
-unfoldable pub roomOf : Part → ℕ
+abbrev pub roomOf : Part → ℕ
 roomOf part = countOf part (boundOf part)
 
 -- where the words of part k stand in the lent words: after the longest lists before it

@@ -1,15 +1,15 @@
 -- How long texts are at most. Assumes nothing.
-use mathlib.Core.Path.{_≡_}
 use mathlib.Core.Bool.{Bool, true, false, cond}
 use mathlib.Core.List.{List, [], _∷_, _++_}
-use Prim.Native.Nat.{ℕ, zero, suc, _+_, _*_, _-_, _/_, _%_, _^_, _≤_, _<_}
-use native.Mathlib.Nat.{suc-mul}
+use Prim.Native.Nat.{ℕ, zero, suc, _+_, _*_, _-_, _/_, _%_, _^_, _≤_, _<_, min}
+use native.Mathlib.Nat.{suc-mul, le-trans, mul-le-mul-right}
 use native.Mathlib.Omega.{arith}
 use lib.Dec.{ltb, eqb}
 use lib.IntN.{ℤ, pos}
 use lib.ListN.{length, getD, take, drop, length-append, length-take}
 use Rattle.numbers.specs.Signed.{wordOf}
-use Rattle.text.specs.Line.{nothing, shownText, itemText, nextBy, nextText, lineText}
+use Rattle.numbers.specs.Sizes.{mostDistributors}
+use Rattle.text.specs.Line.{itemAt, shownText, itemText, nextBy, nextText, lineText}
 use Rattle.text.specs.Row.{signedWords, columnText, rowText, rowsText}
 use Rattle.text.specs.Text.{blank, digit, minus, decimalWithin, decimal, signedDecimal, word, wordBy}
 use Rattle.text.specs.Text.{textBelow, wordsBy, nameText}
@@ -76,33 +76,33 @@ name-size (byte ∷ rest) =
     choice-size (eqb byte blank) [] (byte ∷ nameText rest) (suc (length rest)) (omega arith)
     (omega (arith, name-size rest))
 
--- an item whose name has 12 bytes, alone and after a blank; a line of such items
-shown-size : (shown : Shown) (item : Item) → length (item .name) ≡ 12 → length (shownText shown item) ≤ 33
-shown-size Nothing item e = omega arith
-shown-size Word item e = omega (arith, name-size (item .name))
-shown-size Number item e = rw length-append (omega (arith, name-size (item .name), word-size (item .number)))
+-- an item whose name has at most 12 bytes, alone and after a blank; a line of such items
+shown-size : (shown : Shown) (name : List ℕ) → length name ≤ 12 → length (shownText shown name) ≤ 33
+shown-size Nothing name p = omega arith
+shown-size Word name p = omega (arith, name-size name)
+shown-size (Number number) name p = rw length-append (omega (arith, name-size name, word-size number))
 
-pub item-size : (item : Item) → length (item .name) ≡ 12 → length (itemText item) ≤ 33
+pub item-size : (item : Item) → length (item .0) ≤ 12 → length (itemText item) ≤ 33
 unfolding itemText
-item-size item e = shown-size (item .shown) item e
+item-size item p = shown-size (item .1) (item .0) p
 
-next-by-size : (shown : Shown) (item : Item) → length (item .name) ≡ 12 → length (nextBy shown item) ≤ 34
-next-by-size Nothing item e = omega arith
-next-by-size Word item e = omega (arith, item-size item e)
-next-by-size Number item e = omega (arith, item-size item e)
+next-by-size : (shown : Shown) (item : Item) → length (item .0) ≤ 12 → length (nextBy shown item) ≤ 34
+next-by-size Nothing item p = omega arith
+next-by-size Word item p = omega (arith, item-size item p)
+next-by-size (Number number) item p = omega (arith, item-size item p)
 
-pub next-size : (item : Item) → length (item .name) ≡ 12 → length (nextText item) ≤ 34
+pub next-size : (item : Item) → length (item .0) ≤ 12 → length (nextText item) ≤ 34
 unfolding nextText
-next-size item e = next-by-size (item .shown) item e
+next-size item p = next-by-size (item .1) item p
 
-pub line-size : (items : List Item) → ((k : ℕ) → k < 6 → length (getD items k nothing .name) ≡ 12) →
+pub line-size : (items : List Item) → ((k : ℕ) → k < 6 → length (itemAt items k .0) ≤ 12) →
     length (lineText items) ≤ 204
 unfolding lineText
 line-size items h =
-    let first = item-size (getD items 0 nothing) (h 0 (omega arith)) in
+    let first = item-size (itemAt items 0) (h 0 (omega arith)) in
     let rest =
-    texts-size-below 5 34 (λ k. nextText (getD items (suc k) nothing))
-    (λ k p. next-size (getD items (suc k) nothing) (h (suc k) (omega arith))) in
+    texts-size-below 5 34 (λ k. nextText (itemAt items (suc k)))
+    (λ k p. next-size (itemAt items (suc k)) (h (suc k) (omega arith))) in
     simp length-append (omega (arith, first, rest))
 
 -- rows
@@ -125,8 +125,12 @@ row-size i width words column p =
     simp length-append (omega (arith, decimal-size i, signed-words-size words, column-size column i))
 
 pub rows-size : (list : List ℤ) (width : ℕ) (column : List ℤ) →
-    length (rowsText list width column) ≤ (length list / width) * (43 + width * 22)
+    length (rowsText list width column) ≤ mostDistributors * (43 + width * 22)
 unfolding rowsText
 rows-size list width column =
-    texts-size (length list / width) (43 + width * 22) (λ i. rowText i (take width (drop (i * width) list)) column)
-    (λ i. row-size i width (take width (drop (i * width) list)) column (rw length-take (omega arith)))
+    let rows = min (length list / width) mostDistributors in
+    let few : rows ≤ mostDistributors = omega arith in
+    le-trans
+    (texts-size rows (43 + width * 22) (λ i. rowText i (take width (drop (i * width) list)) column)
+    (λ i. row-size i width (take width (drop (i * width) list)) column (rw length-take (omega arith))))
+    (mul-le-mul-right (43 + width * 22) few)

@@ -11,8 +11,8 @@ use Rattle.numbers.proofs.TestLaws.{all-more, all-fails}
 use Rattle.answers.specs.Answer.{isUnwritten, allUnwritten}
 use Rattle.answers.proofs.UnwrittenLaws.{unwritten-bits}
 use borrow.Author.Needs.{sfits-of}
-use Rattle.answers.proofs.outcome.is_unwritten.Statement.{statement}
-use Rattle.answers.proofs.outcome.is_unwritten.Tie as tie
+use Rattle.answers.proofs.answer.is_unwritten.Statement.{statement}
+use Rattle.answers.proofs.answer.is_unwritten.Tie as tie
 
 abbrev Inv-loop : tie.InvT-loop
 Inv-loop list k₀ k = (k ≤ length list) × (allBelow k (λ j. isUnwritten (getD list j (pos 0))) ≡ true)

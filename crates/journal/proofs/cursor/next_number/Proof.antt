@@ -7,13 +7,13 @@ use Rattle.journal.proofs.cursor.next_number.Statement.{statement}
 use Rattle.journal.proofs.cursor.next_number.Tie as tie
 
 returns : tie.Need-returns
-returns c = number-after-broken _ _ (c .if1 .taken) _
+returns c = number-after-broken _ _ (c .if1 .taken) _ _
 
 token-end-requires : tie.Need-token-end-requires
 token-end-requires c κs = start-within _ _ _ (c .before .before .before .pre) (c .token-start .ensures)
 
-read-number-requires : tie.Need-read-number-requires
-read-number-requires c κs =
+read-token-requires : tie.Need-read-token-requires
+read-token-requires c κs =
     token-within _ _ _ (c .before .before .before .before .pre) (c .before .token-start .ensures) _
     (c .token-end .ensures)
 
@@ -23,8 +23,8 @@ returns-2 c =
     let t = r .before in
     let s = t .before in
     c .number-from .ensures
-    ∙ rw (r .read-number .ensures)
-    (number-after-token _ _ (s .before .if1 .left) _ _ (s .token-start .ensures) (t .token-end .ensures) _)
+    ∙ rw (r .read-token .ensures)
+    (number-after-token _ _ (s .before .if1 .left) _ _ (s .token-start .ensures) (t .token-end .ensures) _ _)
 
 pub next-number-spec : {M : Type 1} → statement M
 next-number-spec =
@@ -33,6 +33,6 @@ next-number-spec =
     returns
     (λ c κs. search needs)
     token-end-requires
-    read-number-requires
+    read-token-requires
     (λ c κs. search needs)
     returns-2)

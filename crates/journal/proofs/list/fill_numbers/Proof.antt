@@ -12,12 +12,12 @@ use Rattle.journal.proofs.list.fill_numbers.Statement.{statement}
 use Rattle.journal.proofs.list.fill_numbers.Tie as tie
 
 abbrev Inv-loop : tie.InvT-loop
-Inv-loop text most into₀ next₀ k₀ into next k =
+Inv-loop text signed most into₀ next₀ k₀ into next k =
     (k ≤ length into) × (length into ≡ length into₀) × (next .at ≤ length text) ×
-    (next ≡ cursorAfter k text next₀ most) × (take k into ≡ listBelow k (numberAt text next₀ most))
+    (next ≡ cursorAfter k text next₀ signed most) × (take k into ≡ listBelow k (numberAt text next₀ signed most))
 
 abbrev μ-loop : tie.MeasureT-loop
-μ-loop text most into₀ next₀ k₀ into next k = length into - k
+μ-loop text signed most into₀ next₀ k₀ into next k = length into - k
 
 loop-holds : tie.Need-loop-holds Inv-loop μ-loop
 loop-holds c =
@@ -25,8 +25,8 @@ loop-holds c =
       omega arith,
       refl,
       s .pre,
-      cursor-none _ _ _,
-      list-none (numberAt (s .args .text .now) (s .args .cursor) (s .args .most)) (s .args .into .now),
+      cursor-none _ _ _ _,
+      list-none (numberAt (s .args .text .now) (s .args .cursor) (s .args .signed) (s .args .most)) (s .args .into .now),
     )
 
 next-number-requires : tie.Need-next-number-requires Inv-loop μ-loop
@@ -42,11 +42,11 @@ loop-again c =
     let s = l .before .before .before in (
       simp length-set (omega arith),
       simp length-set (l .loop .inv .1),
-      number-within _ _ (l .loop .inv .2) _ _ (n .next-number .ensures),
-      cursor-next _ _ _ _ _ (l .loop .inv .3) _ (n .next-number .ensures),
-      list-more (numberAt (s .args .text .now) (s .args .cursor) (s .args .most)) (l .loop .into) (l .loop .k) _
+      number-within _ _ (l .loop .inv .2) _ _ _ (n .next-number .ensures),
+      cursor-next _ _ _ _ _ _ (l .loop .inv .3) _ (n .next-number .ensures),
+      list-more (numberAt (s .args .text .now) (s .args .cursor) (s .args .signed) (s .args .most)) (l .loop .into) (l .loop .k) _
           (omega arith) (l .loop .inv .4)
-          (number-here _ _ _ _ _ (l .loop .inv .3) _ (n .next-number .ensures)),
+          (number-here _ _ _ _ _ _ (l .loop .inv .3) _ (n .next-number .ensures)),
     )
 
 same-length : tie.Need-same-length Inv-loop μ-loop

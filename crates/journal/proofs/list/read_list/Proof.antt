@@ -1,20 +1,16 @@
--- The name, the count, and as many numbers into the first places.
+-- The name and the count, and as many numbers into the first places.
 use mathlib.Core.Path.{sym, ap}
 use mathlib.Core.List.{_++_}
 use native.Mathlib.Omega.{arith}
 use lib.ListN.{drop}
 use lib.Seq.{length-take-le}
-use Rattle.journal.proofs.CursorLaws.{word-within, number-within, number-most}
-use Rattle.journal.proofs.ListLaws.{count-read, list-read, words-read}
+use Rattle.journal.proofs.ListLaws.{count-most, count-within, list-read, words-read}
 use borrow.Author.Needs.{needs}
 use Rattle.journal.proofs.list.read_list.Statement.{statement}
 use Rattle.journal.proofs.list.read_list.Tie as tie
 
-next-number-requires : tie.Need-next-number-requires
-next-number-requires c κs = word-within _ _ (c .before .before .before .before .pre) _ _ (c .next-word .ensures)
-
 slice-relend-prefix-fill-numbers : tie.Need-slice-relend-prefix-fill-numbers
-slice-relend-prefix-fill-numbers c = rw (c .next-number .ensures) (number-most _ _ _)
+slice-relend-prefix-fill-numbers c = rw (c .read-count .ensures) (count-most _ _ _ _)
 
 slice-aggregate-fill-numbers : tie.Need-slice-aggregate-fill-numbers
 slice-aggregate-fill-numbers c = sym (length-take-le _ _ (slice-relend-prefix-fill-numbers (c .before)))
@@ -22,20 +18,17 @@ slice-aggregate-fill-numbers c = sym (length-take-le _ _ (slice-relend-prefix-fi
 fill-numbers-requires : tie.Need-fill-numbers-requires
 fill-numbers-requires c κs =
     let n = c .before in
-    let named = next-number-requires (n .before) (n .next-number .lifetimes) in
-    omega (arith, named, number-within _ _ named _ _ (n .next-number .ensures))
+    count-within _ _ (n .before .before .before .pre) _ _ _ (n .read-count .ensures)
 
 returns : tie.Need-returns
 returns c =
     let f = c .before .before in
     let n = f .before .before in
-    let w = n .before in
-    let s = w .before .before .before .before in
-    let counted = count-read _ _ _ _ _ _ (w .next-word .ensures) (n .next-number .ensures) in
+    let s = n .before .before .before in
     let same = length-take-le _ _ (slice-relend-prefix-fill-numbers n) in (
-      list-read _ _ _ _ _ counted _ same _ _ (f .fill-numbers .ensures .0),
-      ap (λ words. words ++ drop (n .next-number .result .value) (s .args .into .now))
-          (words-read _ _ _ _ _ counted _ same _ _ (f .fill-numbers .ensures .1)),
+      list-read _ _ _ _ _ _ _ (n .read-count .ensures) _ same _ (f .fill-numbers .ensures .0),
+      ap (λ words. words ++ drop (n .read-count .result .value) (s .args .into .now))
+          (words-read _ _ _ _ _ _ _ (n .read-count .ensures) _ same _ (f .fill-numbers .ensures .1)),
     )
 
 pub read-list-spec : {M : Type 1} → statement M
@@ -43,7 +36,6 @@ read-list-spec =
     tie.close
     (tie.spec
     (λ c κs. search needs)
-    next-number-requires
     slice-relend-prefix-fill-numbers
     slice-aggregate-fill-numbers
     fill-numbers-requires

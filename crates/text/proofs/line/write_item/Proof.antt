@@ -12,15 +12,14 @@ returns c = rw (c .enum-told .given .1)
 
 returns-2 : tie.Need-returns-2
 unfolding itemText
-returns-2 c =
-    let w = c .before .before in rw (w .before .before .enum-told2 .given .1) (w .write-name .ensures)
+returns-2 c = let w = c .before .before in rw (w .before .before .enum-told2 .given .1) (w .write-name .ensures)
 
 returns-3 : tie.Need-returns-3
 unfolding itemText
 returns-3 c =
     let w = c .before .before in
     let x = w .before .before .before .before in
-    rw (x .before .before .enum-told3 .given .1)
+    rw (x .before .before .before .shown .given .1)
     (written-after _ _ _ _ _ (x .write-name2 .ensures) (w .write-word .ensures))
 
 pub write-item-spec : {M : Type 1} → statement M

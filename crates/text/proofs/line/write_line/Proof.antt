@@ -1,15 +1,11 @@
 -- The invariant: the first item and those before the k-th are written.
 use mathlib.Core.Path.{_≡_, refl}
-use mathlib.Core.List.{List, []}
-use Prim.Native.Nat.{ℕ, suc, _≤_, _<_, _+_, _-_}
+use Prim.Native.Nat.{suc, _≤_, _+_, _-_}
 use native.Mathlib.Omega.{arith}
-use lib.ListN.{length, getD}
-use lib.Seq.{drop-cons}
+use lib.ListN.{length}
 use Rattle.text.specs.Buffer.{bufferOf, written}
-use Rattle.text.specs.Line.{nothing, nextText, lineText}
+use Rattle.text.specs.Line.{itemAt, nextText, lineText}
 use Rattle.text.specs.Text.{textBelow}
-use Rattle.text.specs.declared.line.Item.{Item}
-use Rattle.text.specs.declared.line.Shown.the-variants.{Nothing}
 use Rattle.text.proofs.BufferLaws.{texts-none, texts-more, written-after, after-byte}
 use borrow.Author.Needs.{needs}
 use Rattle.text.proofs.line.write_line.Statement.{statement}
@@ -18,21 +14,10 @@ use Rattle.text.proofs.line.write_line.Tie as tie
 abbrev Inv-loop : tie.InvT-loop
 Inv-loop buffer₀ count items end₀ k₀ buffer end k =
     (1 ≤ k) × (k ≤ 6) × (length buffer ≡ length buffer₀) ×
-    (bufferOf buffer end
-    ≡ written (textBelow (k - 1) (λ j. nextText (getD items (suc j) nothing))) (bufferOf buffer₀ end₀))
+    (bufferOf buffer end ≡ written (textBelow (k - 1) (λ j. nextText (itemAt items (suc j)))) (bufferOf buffer₀ end₀))
 
 abbrev μ-loop : tie.MeasureT-loop
 μ-loop buffer₀ count items end₀ k₀ buffer end k = 6 - k
-
--- there are six items, and what the code reads as an item is one of them
-six : (s : tie.Start Inv-loop μ-loop) → length (s .args .t3) ≡ 6
-six s = search needs
-
-item-at : (items : List Item) (k : ℕ) → k < length items →
-    getD items k (record { shown = Nothing; name = []; number = 0 }) ≡ getD items k nothing
-item-at items k p =
-    let none : Item = record { shown = Nothing; name = []; number = 0 } in
-    cc (drop-cons items k none p, drop-cons items k nothing p)
 
 loop-holds : tie.Need-loop-holds Inv-loop μ-loop
 loop-holds c = (omega arith, omega arith, refl, texts-none _ _)
@@ -48,8 +33,8 @@ loop-again c =
       omega arith,
       search needs,
       rw e
-          (texts-more (λ j. nextText (getD (s .args .t3) (suc j) nothing)) _ (l .loop .k - 1) _ _ (l .loop .inv .3)
-          (rw (f, ← item-at (s .args .t3) (l .loop .k) (omega (arith, six s))) (b .write-next .ensures))),
+          (texts-more (λ j. nextText (itemAt (s .args .t3) (suc j))) _ (l .loop .k - 1) _ _ (l .loop .inv .3)
+          (rw f (b .write-next .ensures))),
     )
 
 returns : tie.Need-returns Inv-loop μ-loop
@@ -59,11 +44,7 @@ returns c =
     let l = b .before .before .before in
     let n = l .before .before .before in
     let e : l .loop .k - 1 ≡ 5 = omega arith in
-    let s = n .before .before .before .before in
-    after-byte _ _ _ _ _
-    (written-after _ _ _ _ _
-    (rw (item-at (s .args .t3) 0 (omega (arith, six s))) at (n .write-item .ensures))
-    (rw e at (l .loop .inv .3)))
+    after-byte _ _ _ _ _ (written-after _ _ _ _ _ (n .write-item .ensures) (rw e at (l .loop .inv .3)))
     (b .write-byte .ensures)
 
 pub write-line-spec : {M : Type 1} → statement M

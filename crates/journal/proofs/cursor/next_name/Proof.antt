@@ -3,18 +3,18 @@ use mathlib.Core.Path.{sym, _∙_}
 use Rattle.journal.proofs.TokenLaws.{start-within, token-within}
 use Rattle.journal.proofs.CursorLaws.{word-after-broken, word-after-same, word-after-other}
 use borrow.Author.Needs.{needs}
-use Rattle.journal.proofs.cursor.next_word.Statement.{statement}
-use Rattle.journal.proofs.cursor.next_word.Tie as tie
+use Rattle.journal.proofs.cursor.next_name.Statement.{statement}
+use Rattle.journal.proofs.cursor.next_name.Tie as tie
 
 returns : tie.Need-returns
 returns c = word-after-broken _ _ (c .if1 .taken) _
 
 token-end-requires : tie.Need-token-end-requires
-token-end-requires c κs = start-within _ _ _ (c .before .before .before .before .pre) (c .token-start .ensures)
+token-end-requires c κs = start-within _ _ _ (c .before .before .before .pre) (c .token-start .ensures)
 
-is-word-requires : tie.Need-is-word-requires
-is-word-requires c κs =
-    token-within _ _ _ (c .before .before .before .before .before .pre) (c .before .token-start .ensures) _
+is-name-requires : tie.Need-is-name-requires
+is-name-requires c κs =
+    token-within _ _ _ (c .before .before .before .before .pre) (c .before .token-start .ensures) _
     (c .token-end .ensures)
 
 returns-2 : tie.Need-returns-2
@@ -23,7 +23,7 @@ returns-2 c =
     let t = w .before in
     let s = t .before in
     c .read-to .ensures ∙ word-after-same _ _ (s .before .if1 .left) _ _ (s .token-start .ensures)
-    (t .token-end .ensures) _ (sym (w .is-word .ensures) ∙ c .before .if2 .taken)
+    (t .token-end .ensures) _ (sym (w .is-name .ensures) ∙ c .before .if2 .taken)
 
 returns-3 : tie.Need-returns-3
 returns-3 c =
@@ -31,16 +31,16 @@ returns-3 c =
     let t = w .before in
     let s = t .before in
     c .broken-at .ensures ∙ word-after-other _ _ (s .before .if1 .left) _ _ (s .token-start .ensures)
-    (t .token-end .ensures) _ (sym (w .is-word .ensures) ∙ c .before .if2 .left)
+    (t .token-end .ensures) _ (sym (w .is-name .ensures) ∙ c .before .if2 .left)
 
-pub next-word-spec : {M : Type 1} → statement M
-next-word-spec =
+pub next-name-spec : {M : Type 1} → statement M
+next-name-spec =
     tie.close
     (tie.spec
     returns
     (λ c κs. search needs)
     token-end-requires
-    is-word-requires
+    is-name-requires
     (λ c κs. search needs)
     returns-2
     (λ c κs. search needs)

@@ -1,0 +1,291 @@
+-- Laws of a form's reading: part by part, how far it reaches, what each part takes, and where its words stand.
+-- Assumes nothing.
+use mathlib.Core.Path.{_≡_, refl, sym, _∙_, ap}
+use mathlib.Core.Bool.{Bool, true, false}
+use mathlib.Core.List.{List, [], _∷_, _++_, append-assoc}
+use Prim.Native.Nat.{ℕ, zero, suc, _+_, _-_, _≤_, _<_}
+use native.Mathlib.Numerals.{add-one}
+use native.Mathlib.Omega.{arith}
+use lib.ListN.{length, getD, take, drop, set, replicate, length-drop, take-append-drop}
+use lib.Seq.{length-take-le, length-front, drop-append-le, take-append-le, take-append-seam, drop-at}
+use borrow.Rule.Slice.PartMut.{putMid, mid-len, same-len-mid}
+use Rattle.numbers.proofs.BoolLaws.{by-last}
+use Rattle.numbers.proofs.SumLaws.{sum-step, sum-mono}
+use Rattle.numbers.proofs.ListLaws.{list-at, list-same, filled-none, filled-next, filled-at}
+use Rattle.numbers.specs.Bounded.{sumBelow, listBelow, filledBelow}
+use Rattle.text.specs.Text.{nameText}
+use Rattle.journal.specs.Cursor.{numberAfter, mostWord, Onward}
+use Rattle.journal.specs.List.{countAfter, listAfter, listWords}
+use Rattle.journal.specs.Form.{partCount, partAt, heldOf, heldIn, boundBy, boundOf, countBy, countOf, roomOf, placeOf}
+use Rattle.journal.specs.Form.{partBy, partAfter}
+use Rattle.journal.specs.Form.{formAfter, heldAt, formParts, bufferHeld, bufferParts, PartFollows}
+use Rattle.journal.specs.Form.{FormHeld, FormFollows}
+use Rattle.journal.specs.declared.cursor.Cursor.{Cursor}
+use Rattle.journal.specs.declared.cursor.NumberRead.{NumberRead}
+use Rattle.journal.specs.declared.form.Kind.{Kind}
+use Rattle.journal.specs.declared.form.Kind.the-variants.{Nothing, Number, List as Words, Signed, Length}
+use Rattle.journal.specs.declared.form.Part.{Part}
+use Rattle.journal.specs.declared.form.FormRead.{FormRead}
+use Rattle.journal.proofs.CursorLaws.{numberRead, onward-same, then-number, number-most}
+use Rattle.journal.proofs.ListLaws.{count-most, list-most, words-length, then-count, then-list}
+
+-- a part by its kind, as the code reads it
+module _ (part : Part) (text : List ℕ) (cursor : Cursor) (read : NumberRead) (found : List ℕ) where
+  pub follows-nothing : part .1 ≡ Nothing → read ≡ numberRead 0 cursor →
+      PartFollows part text cursor read found found
+  unfolding partAfter
+  follows-nothing k e = record {
+    number = rw k (ap (λ r. r .value) e);
+    next = rw k (ap (λ r. r .next) e);
+    words = rw k refl;
+  }
+
+  pub follows-number : (most : ℕ) → part .1 ≡ Number most → read ≡ numberAfter text cursor false most →
+      PartFollows part text cursor read found found
+  unfolding partAfter
+  follows-number most k e = record {
+    number = rw k (ap (λ r. r .value) e);
+    next = rw k (ap (λ r. r .next) e);
+    words = rw k refl;
+  }
+
+  pub follows-length : (longest : ℕ) → part .1 ≡ Length longest →
+      read ≡ countAfter text cursor (nameText (part .0)) longest → PartFollows part text cursor read found found
+  unfolding partAfter
+  follows-length longest k e = record {
+    number = rw k (ap (λ r. r .value) e);
+    next = rw k (ap (λ r. r .next) e);
+    words = rw k refl;
+  }
+
+  -- a list into as many places as it may have words
+  module _ (longest : ℕ) (signed : Bool) (most : ℕ) (left : List ℕ) (room : length found ≡ longest)
+      (e : read ≡ listAfter text cursor (nameText (part .0)) (length found) signed most)
+      (w : left ≡ listWords text cursor (nameText (part .0)) (length found) signed most ++ drop (read .value) found) where
+    pub follows-list : part .1 ≡ Words longest most → signed ≡ false → PartFollows part text cursor read found left
+    unfolding partAfter
+    follows-list k s = record {
+      number = rw k (ap (λ r. r .value) (rw (room, s) at e));
+      next = rw k (ap (λ r. r .next) (rw (room, s) at e));
+      words = rw k (rw (room, s) at w);
+    }
+
+    pub follows-signed : part .1 ≡ Signed longest → signed ≡ true → most ≡ mostWord →
+        PartFollows part text cursor read found left
+    unfolding partAfter
+    follows-signed k s m = record {
+      number = rw k (ap (λ r. r .value) (rw (room, s, m) at e));
+      next = rw k (ap (λ r. r .next) (rw (room, s, m) at e));
+      words = rw k (rw (room, s, m) at w);
+    }
+
+-- onward by a part
+then-part : {text : List ℕ} {cursor middle : Cursor} → Onward text cursor middle → (part : Part) →
+    Onward text cursor (partAfter part text middle .next)
+unfolding partAfter
+then-part {text} {cursor} {middle} o part = go (part .1)
+  where
+    go : (kind : Kind) → Onward text cursor (partBy kind (nameText (part .0)) text middle .next)
+    go Nothing = o
+    go (Number most) = then-number o false most
+    go (Words longest most) = then-list o (nameText (part .0)) longest false most
+    go (Signed longest) = then-list o (nameText (part .0)) longest true mostWord
+    go (Length longest) = then-count o (nameText (part .0)) longest
+
+-- by the first k parts
+pub then-form : {text : List ℕ} {cursor middle : Cursor} → Onward text cursor middle → (form : List Part) (k : ℕ) →
+    Onward text cursor (formAfter k form text middle)
+unfolding formAfter
+then-form o form zero = o
+then-form o form (suc k) = then-part (then-form o form k) (partAt form k)
+
+-- a part's number is one that it takes, and it has as many words as its number says
+module _ (part : Part) (text : List ℕ) (cursor : Cursor) where
+  pub part-bounded : partAfter part text cursor .held .number ≤ boundOf part
+  unfolding partAfter
+  part-bounded = go (part .1)
+    where
+      go : (kind : Kind) → partBy kind (nameText (part .0)) text cursor .held .number ≤ boundBy kind
+      go Nothing = omega arith
+      go (Number most) = number-most text cursor false most
+      go (Words longest most) = list-most text cursor (nameText (part .0)) longest false most
+      go (Signed longest) = list-most text cursor (nameText (part .0)) longest true mostWord
+      go (Length longest) = count-most text cursor (nameText (part .0)) longest
+
+  pub part-counted : length (partAfter part text cursor .held .words) ≡ countOf part
+      (partAfter part text cursor .held .number)
+  unfolding partAfter
+  part-counted = go (part .1)
+    where
+      go : (kind : Kind) → length (partBy kind (nameText (part .0)) text cursor .held .words) ≡ countBy kind
+          (partBy kind (nameText (part .0)) text cursor .held .number)
+      go Nothing = refl
+      go (Number most) = refl
+      go (Words longest most) = words-length text cursor (nameText (part .0)) longest false most
+      go (Signed longest) = words-length text cursor (nameText (part .0)) longest true mostWord
+      go (Length longest) = refl
+
+-- a number that a part takes gives no more words than there is room for
+count-room : (part : Part) (number : ℕ) → number ≤ boundOf part → countOf part number ≤ roomOf part
+count-room part number = go (part .1)
+  where
+    go : (kind : Kind) → number ≤ boundBy kind → countBy kind number ≤ countBy kind (boundBy kind)
+    go Nothing p = omega arith
+    go (Number most) p = omega arith
+    go (Words longest most) p = p
+    go (Signed longest) p = p
+    go (Length longest) p = omega arith
+
+-- the room of part k ends within that of the whole form
+pub place-none : (form : List Part) → 0 ≡ placeOf form 0
+unfolding placeOf sumBelow
+place-none form = refl
+
+pub place-next : (form : List Part) (k : ℕ) → placeOf form (k + 1) ≡ placeOf form k + roomOf (partAt form k)
+unfolding placeOf
+place-next form k = sum-step k (λ j. roomOf (partAt form j))
+
+place-within : (form : List Part) (j k : ℕ) → j < k → placeOf form j + roomOf (partAt form j) ≤ placeOf form k
+unfolding placeOf
+place-within form j k p =
+    rw (← sum-step j (λ i. roomOf (partAt form i))) (sum-mono (j + 1) k (λ i. roomOf (partAt form i)) (omega arith))
+
+-- words of a list that starts with p: those within p, and those after it
+within-first : (n s : ℕ) (p r : List ℕ) → s + n ≤ length p → take n (drop s (p ++ r)) ≡ take n (drop s p)
+within-first n s p r h =
+    ap (take n) (drop-append-le s p r (omega arith))
+    ∙ take-append-le n (drop s p) r (rw length-drop (omega arith))
+
+within-kept : (n s at : ℕ) (words r : List ℕ) → s + n ≤ at → at ≤ length words →
+    take n (drop s (take at words ++ r)) ≡ take n (drop s words)
+within-kept n s at words r h p =
+    let long : s + n ≤ length (take at words) = rw (length-take-le at words p) h in
+    within-first n s (take at words) r long
+    ∙ sym (within-first n s (take at words) (drop at words) long)
+    ∙ ap (λ l. take n (drop s l)) (take-append-drop at words)
+
+after-first : (at : ℕ) (words w r z : List ℕ) → at ≤ length words →
+    take (length w) (drop at (take at words ++ ((w ++ r) ++ z))) ≡ w
+after-first at words w r z p =
+    ap (take (length w)) (drop-at (take at words) ((w ++ r) ++ z) at (length-take-le at words p) ∙ append-assoc w r z)
+    ∙ take-append-seam w (r ++ z)
+
+-- a part's words leave the lent ones as long as they were
+follows-long : (part : Part) (text : List ℕ) (cursor : Cursor) (read : NumberRead) (found left : List ℕ) →
+    PartFollows part text cursor read found left → length found ≡ roomOf part → length left ≡ length found
+follows-long part text cursor read found left f room =
+    let words = partAfter part text cursor .held .words in
+    let count : length words ≡ countOf part (read .value) =
+    part-counted part text cursor ∙ ap (countOf part) (sym (f .number)) in
+    let few : countOf part (read .value) ≤ length found =
+    rw (room, f .number) (count-room part _ (part-bounded part text cursor)) in
+    rw (f .words) (length-front found words (countOf part (read .value)) (count ∙ sym (length-take-le _ found few)))
+
+-- the first k parts are read: the cursor after them, their numbers, and each list where the longest ones before it would
+-- end
+pub record FormSoFar (form : List Part) (text : List ℕ) (cursor : Cursor) (numbers words : List ℕ) (size : ℕ)
+    (next : Cursor) (at k : ℕ) : Type 0 where
+  pub most : k ≤ partCount
+  pub long : length words ≡ size
+  pub place : at ≡ placeOf form k
+  pub following : next ≡ formAfter k form text cursor
+  pub counts : numbers ≡ filledBelow partCount 0 k (λ j. heldAt form text cursor j .number)
+  pub lists : (j : ℕ) → j < k →
+      take (length (heldAt form text cursor j .words)) (drop (placeOf form j) words) ≡ heldAt form text cursor j .words
+
+module _ (form : List Part) (text : List ℕ) (cursor : Cursor) where
+  -- the words of part j have room before those of part k
+  held-within : (j k : ℕ) → j < k → placeOf form j + length (heldAt form text cursor j .words) ≤ placeOf form k
+  unfolding heldAt
+  held-within j k p =
+      let middle = formAfter j form text cursor in
+      omega (
+        arith,
+        place-within form j k p,
+        part-counted (partAt form j) text middle,
+        count-room (partAt form j) _ (part-bounded (partAt form j) text middle),
+      )
+
+  pub form-none : (words : List ℕ) → FormSoFar form text cursor (replicate partCount 0) words (length words) cursor 0 0
+  unfolding placeOf sumBelow formAfter
+  form-none words = record {
+    most = omega arith;
+    long = refl;
+    place = refl;
+    following = refl;
+    counts = filled-none partCount 0 _;
+    lists = λ j p. absurd (omega arith);
+  }
+
+  module _ {numbers words : List ℕ} {size : ℕ} {next : Cursor} {at k : ℕ}
+      (f : FormSoFar form text cursor numbers words size next at k) (room : placeOf form partCount ≤ size) where
+    pub form-within : cursor .at ≤ length text → next .at ≤ length text
+    form-within p = rw (f .following) (then-form (onward-same text cursor p) form k .within)
+
+    pub form-fits : k < partCount → at + roomOf (partAt form k) ≤ length words
+    form-fits p = rw (f .long) (omega (arith, f .place, place-within form k partCount p))
+
+    pub form-more : k < partCount → (read : NumberRead) (left : List ℕ) (end : ℕ) →
+        end ≡ at + roomOf (partAt form k) →
+        PartFollows (partAt form k) text next read (take (end - at) (drop at words)) left →
+        FormSoFar form text cursor (set numbers k (read .value)) (putMid at (end - at) words left) size (read .next)
+        end (k + 1)
+    unfolding formAfter heldAt
+    form-more p read left end e q =
+        let fits : end ≤ length words = rw e (form-fits p) in
+        let here : at ≤ length words = omega (arith, fits, e) in
+        let size-is : length (take (end - at) (drop at words)) ≡ roomOf (partAt form k) =
+        mid-len at end words fits ∙ omega (arith, e) in
+        record {
+          most = omega arith;
+          long = same-len-mid at (end - at) words left (follows-long _ _ _ _ _ _ q size-is) ∙ f .long;
+          place = e ∙ ap (λ a. a + roomOf (partAt form k)) (f .place) ∙ sym (place-next form k);
+          following = rw add-one (q .next ∙ ap (λ c. partAfter (partAt form k) text c .next) (f .following));
+          counts = filled-next partCount 0 k _ numbers (read .value) p (f .counts)
+              (q .number ∙ ap (λ c. partAfter (partAt form k) text c .held .number) (f .following));
+          lists = λ j r. by-last k
+              (λ i. take (length (heldAt form text cursor i .words))
+              (drop (placeOf form i) (putMid at (end - at) words left)) ≡ heldAt form text cursor i .words)
+              (λ i s. within-kept (length (heldAt form text cursor i .words)) (placeOf form i) at words
+              (left ++ drop (end - at) (drop at words))
+              (omega (arith, f .place, held-within i k s)) here
+              ∙ f .lists i s)
+              (rw (← f .place, q .words, f .following)
+              (after-first at words (partAfter (partAt form k) text (formAfter k form text cursor) .held .words)
+              (drop (countOf (partAt form k) (read .value)) (take (end - at) (drop at words)))
+              (drop (end - at) (drop at words)) here))
+              j (omega arith);
+        }
+
+    pub form-whole : partCount ≤ k → (read : FormRead) → read .numbers ≡ numbers → read .next ≡ next →
+        (found : List ℕ) → length found ≡ size → FormFollows form text cursor read found words
+    unfolding bufferParts formParts bufferHeld heldAt
+    form-whole p read n x found s =
+        let all : k ≡ partCount = omega (arith, f .most) in
+        let counts : (j : ℕ) → j < partCount → getD (read .numbers) j 0 ≡ heldAt form text cursor j .number =
+        λ j q. rw (n, f .counts, all) (filled-at partCount 0 _ partCount j q q) in
+        record {
+          parts = list-same partCount _ _ (λ j q.
+              let middle = formAfter j form text cursor in
+              rw (counts j q, ← part-counted (partAt form j) text middle) (ap (heldOf _) (f .lists j (rw all q))));
+          next = x ∙ f .following ∙ ap (λ m. formAfter m form text cursor) all;
+          held = record {
+            bounded = λ j q. rw (counts j q) (part-bounded (partAt form j) text (formAfter j form text cursor));
+            room = rw (f .long) room;
+          };
+          size = f .long ∙ sym s;
+        }
+
+-- what numbers and lent words hold of part k, and that it lies within them
+module _ (form : List Part) (numbers words : List ℕ) where
+  pub buffer-at : (k : ℕ) → k < partCount → heldIn (bufferParts form numbers words) k ≡ heldOf (getD numbers k 0)
+      (take (countOf (partAt form k) (getD numbers k 0)) (drop (placeOf form k) words))
+  unfolding bufferParts bufferHeld
+  buffer-at k p = list-at (bufferHeld form numbers words) partCount (heldOf 0 []) k p
+
+  module _ (h : FormHeld form numbers (length words)) (k : ℕ) (p : k < partCount) where
+    pub buffer-room : placeOf form k + roomOf (partAt form k) ≤ length words
+    buffer-room = omega (arith, place-within form k partCount p, h .room)
+
+    pub buffer-fits : placeOf form k + countOf (partAt form k) (getD numbers k 0) ≤ length words
+    buffer-fits = omega (arith, buffer-room, count-room (partAt form k) (getD numbers k 0) (h .bounded k p))
