@@ -119,6 +119,22 @@ pub record FormHeld (form : List Part) (numbers : List ℕ) (size : ℕ) : Type 
   pub bounded : (k : ℕ) → k < partCount → getD numbers k 0 ≤ boundOf (partAt form k)
   pub room : placeOf form partCount ≤ size
 
+-- the greatest word of a part's list
+abbrev pub greatestBy : Kind → ℕ
+greatestBy Nothing = 0
+greatestBy (Number most) = 0
+greatestBy (Words longest most) = most
+greatestBy (Signed longest) = mostWord
+greatestBy (Length longest) = 0
+
+-- what a part takes: a number up to its bound, and as many words as it says, each up to the greatest, all of 64 bits
+pub record Takes (part : Part) (held : Held) : Type 0 where
+  pub number : held .number ≤ boundOf part
+  pub short : held .number ≤ mostWord
+  pub counted : length (held .words) ≡ countOf part (held .number)
+  pub words : (i : ℕ) → i < length (held .words) → getD (held .words) i 0 ≤ greatestBy (part .1)
+  pub small : (i : ℕ) → i < length (held .words) → getD (held .words) i 0 ≤ mostWord
+
 -- a part that was read: its number, how far the text is read, and its words first in the lent ones
 pub record PartFollows (part : Part) (text : List ℕ) (cursor : Cursor) (read : NumberRead) (found left : List ℕ)
     : Type 0 where

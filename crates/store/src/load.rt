@@ -1,29 +1,24 @@
-// A ledger from its words, sound or not: the calls judge it.
+// A ledger from the parts of its form, sound or not: the calls judge it.
 ghost use mathlib.Core.Path.{_≡_};
 ghost use Prim.Native.Nat.{_≤_};
 ghost use mathlib.Core.Bool.{false};
 ghost use lib.ListN.{length, getD};
 ghost use lib.IntN.{pos};
 ghost use Rattle.numbers.specs.Bounded.{filledBelow};
+ghost use Rattle.numbers.specs.Signed.{signedOf};
 ghost use Rattle.numbers.specs.Sizes.{mostDistributors, sectorPlaces};
-ghost use Rattle.store.specs.Store.{wordTruth, loadedBalances, loadedLedger};
-use crate::save::save;
-use crate::save::truth_word;
+ghost use Rattle.settlement.specs.Month.{moneyBelow};
+ghost use Rattle.journal.specs.Form.{FormHeld, bufferParts};
+ghost use Rattle.journal.specs.Command.{loadForm};
+ghost use Rattle.store.specs.Store.{wordTruth, loadedLedger};
+use crate::save::BALANCES;
 use fixing::sector::SectorCharges;
+use journal::form::PARTS;
 use ledger::ledger::Ledger;
+use numbers::signed::signed_of;
 use numbers::sizes::MOST_DISTRIBUTORS;
 use numbers::sizes::PLACES;
-use numbers::sizes::SECTORS;
 use numbers::units::Pesos;
-
-// A ledger's numbers, as they are kept.
-pub struct LedgerNumbers {
-    pub n: usize,
-    pub months: u64,
-    pub last: u64,
-    pub fixed: u64,
-    pub month: u64,
-}
 
 // A word as a truth: any but 0.
 fn word_truth(word: u64) -> bool
@@ -48,80 +43,54 @@ fn load_present(words: &[u64]) -> [bool; PLACES]
 }
 
 // The charges.
-fn load_charges(words: &[i64]) -> [i64; PLACES]
+fn load_charges(words: &[u64]) -> [i64; PLACES]
     requires { ⌜ length (now words) ≤ sectorPlaces ⌝ }
     ensures { λ r. ⌜ r ≡ filledBelow sectorPlaces (pos 0) (length (now (words .entry)))
-        (λ k. getD (now (words .entry)) k (pos 0)) ⌝ }
+        (λ k. signedOf (getD (now (words .entry)) k 0)) ⌝ }
 {
     let mut charges = [0i64; PLACES];
     let mut k: usize = 0;
     while k < words.len() {
-        charges[k] = words[k];
+        charges[k] = signed_of(words[k]);
         k += 1;
     }
     charges
 }
 
 // The balances.
-fn load_balances(words: &[i64]) -> [Pesos; MOST_DISTRIBUTORS]
+fn load_balances(words: &[u64]) -> [Pesos; MOST_DISTRIBUTORS]
     requires { ⌜ length (now words) ≤ mostDistributors ⌝ }
-    ensures { λ r. ⌜ r ≡ loadedBalances (now (words .entry)) ⌝ }
+    ensures { λ r. ⌜ r ≡ moneyBelow (length (now (words .entry))) (λ i. signedOf (getD (now (words .entry)) i 0)) ⌝ }
 {
     let none = Pesos(0);
     let mut balances = [none; MOST_DISTRIBUTORS];
     let mut i: usize = 0;
     while i < words.len() {
-        balances[i] = Pesos(words[i]);
+        balances[i] = Pesos(signed_of(words[i]));
         i += 1;
     }
     balances
 }
 
-// The ledger of the words.
-pub fn load(numbers: LedgerNumbers, present: &[u64], charges: &[i64], balances: &[i64]) -> Ledger
-    requires { ⌜ length (now present) ≤ sectorPlaces ⌝ ∗ ⌜ length (now charges) ≤ sectorPlaces ⌝
-        ∗ ⌜ length (now balances) ≤ mostDistributors ⌝ }
-    ensures { λ r. ⌜ r ≡ loadedLedger numbers (now (present .entry)) (now (charges .entry)) (now (balances .entry)) ⌝ }
+// The ledger of the parts.
+pub fn load(numbers: [u64; PARTS], words: &[u64]) -> Ledger
+    requires { ⌜ FormHeld loadForm numbers (length (now words)) ⌝ }
+    ensures { λ r. ⌜ r ≡ loadedLedger (bufferParts loadForm numbers (now (words .entry))) ⌝ }
 {
-    let present = load_present(present);
-    let charges = load_charges(charges);
+    let placed = numbers[5] as usize;
+    let charged = PLACES + numbers[6] as usize;
+    let balanced = BALANCES + numbers[7] as usize;
+    let present = load_present(&words[..placed]);
+    let charges = load_charges(&words[PLACES..charged]);
+    let balances = load_balances(&words[BALANCES..balanced]);
     let force = SectorCharges { present, charges };
-    let balances = load_balances(balances);
     Ledger {
-        n: numbers.n,
-        months: numbers.months,
-        last: numbers.last,
-        fixed: word_truth(numbers.fixed),
-        month: numbers.month,
+        n: numbers[0] as usize,
+        months: numbers[1],
+        last: numbers[2],
+        fixed: word_truth(numbers[3]),
+        month: numbers[4],
         force,
         balances,
     }
-}
-
-// A ledger saved and loaded again, by way of lent lists: the same ledger, whatever it holds.
-pub fn reload(
-    ledger: Ledger,
-    present: &mut [u64],
-    charges: &mut [i64],
-    balances: &mut [i64],
-) -> Ledger
-    requires { ⌜ length (now present) ≡ sectorPlaces ⌝ ∗ ⌜ length (now charges) ≡ sectorPlaces ⌝
-        ∗ ⌜ length (now balances) ≡ mostDistributors ⌝ }
-    ensures { λ r. ⌜ r ≡ ledger ⌝ }
-{
-    let count = save(ledger, present, charges, balances);
-    let places = count * SECTORS;
-    let numbers = LedgerNumbers {
-        n: ledger.n,
-        months: ledger.months,
-        last: ledger.last,
-        fixed: truth_word(ledger.fixed),
-        month: ledger.month,
-    };
-    load(
-        numbers,
-        &present[..places],
-        &charges[..places],
-        &balances[..count],
-    )
 }
