@@ -6,3 +6,6 @@ pub mod ListLaws
 pub mod TextLaws
 pub mod FormLaws
 pub mod CommandLaws
+pub mod DecimalLaws
+pub mod StandsLaws
+pub mod BackLaws

@@ -13,13 +13,7 @@ use crate::cursor::next_number;
 use text::name::NAME;
 
 // Reads as many numbers as the lent list has places, each of at most `most`; zeros stand where they cannot be read.
-fn fill_numbers(
-    text: &[u8],
-    cursor: Cursor,
-    signed: bool,
-    most: u64,
-    into: &mut [u64],
-) -> Cursor
+fn fill_numbers(text: &[u8], cursor: Cursor, signed: bool, most: u64, into: &mut [u64]) -> Cursor
     requires { ⌜ cursor .at ≤ length (now text) ⌝ }
     ensures { λ r. ⌜ r ≡ cursorAfter (length (now (into .entry))) (now (text .entry)) cursor signed most ⌝ }
     ensures { λ r. ⌜ now (into .exit) ≡ listBelow (length (now (into .entry)))
