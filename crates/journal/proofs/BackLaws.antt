@@ -56,6 +56,10 @@ part-ends part held tail e = go (part .1)
     go (Signed longest) = line true
     go (Length longest) = line false
 
+none-tail : {words tail : List ℕ} → words ≡ [] → wordsBy false words ++ tail ≡ tail
+unfolding wordsBy textBelow
+none-tail e = rw e refl
+
 -- a part that stands in a text is read as what it holds
 module _ (held : Held) (name text : List ℕ) (cursor : Cursor) (tail : List ℕ) (e : Ends tail)
     (short : held .number ≤ mostWord)
@@ -66,7 +70,7 @@ module _ (held : Held) (name text : List ℕ) (cursor : Cursor) (tail : List ℕ
       Ahead text cursor (partTextBy kind name held ++ tail) →
       (partBy kind (nameText name) text cursor .held ≡ held) × Ahead text
       (partBy kind (nameText name) text cursor .next) tail
-  unfolding wordBy wordsBy textBelow
+  unfolding wordBy
   part-back Nothing s b c w a =
       (ap₂ heldOf (omega (arith, b)) (sym (no-words (held .words) c)), a)
   part-back (Number most) s b c w a =
@@ -89,7 +93,8 @@ module _ (held : Held) (name text : List ℕ) (cursor : Cursor) (tail : List ℕ
       let read = count-stands text cursor (nameText name) s longest (held .number) tail b short e
       (record {
         whole = a .whole;
-        after = rw none at (a .after ∙ list-tail name false (held .number) (held .words) tail);
+        after = a .after ∙ list-tail name false (held .number) (held .words) tail
+            ∙ ap (λ (rest : List ℕ). lineEnd ∷ (nameText name ++ (word (held .number) ++ rest))) (none-tail none);
       }) in
       (ap₂ heldOf (read .value) (sym none), read .next)
 
