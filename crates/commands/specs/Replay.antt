@@ -4,32 +4,29 @@ use mathlib.Core.Path.{_≡_}
 use mathlib.Core.Bool.{cond}
 use mathlib.Core.List.{List, []}
 use Prim.Native.Nat.{ℕ, zero, suc, _≤_}
-use lib.Dec.{ltb}
+use lib.Dec.{ltb, eqb}
 use lib.ListN.{length, take}
 use lib.IntN.{ℤ, negsuc}
 use Rattle.numbers.specs.Bounded.{listBelow}
-use Rattle.numbers.specs.Sizes.{mostDistributors, sectorPlaces}
-use Rattle.journal.specs.Cursor.{readTo, brokenAt, numberAfter, mostWord}
-use Rattle.journal.specs.List.{listWords, signedListWords}
-use Rattle.journal.specs.Command.{longestList, seriesName, linesName, sectorsName, readingsName, lossesName}
-use Rattle.journal.specs.Command.{presentName, chargesName, balancesName, commandAfter}
-use Rattle.journal.specs.Command.{fixSeriesFrom, fixLinesFrom, fixSectorsFrom, fixAfter, settleReadingsFrom}
-use Rattle.journal.specs.Command.{settleLossesFrom, settleAfter, loadPresentFrom, loadChargesFrom, loadBalancesFrom}
-use Rattle.journal.specs.Command.{loadAfter}
+use Rattle.numbers.specs.Refusal.{verdictAnswered}
+use Rattle.numbers.specs.Sizes.{mostDistributors}
+use Rattle.settlement.specs.Month.{moneyAt}
+use Rattle.text.specs.Text.{bytes}
+use Rattle.text.specs.Buffer.{bufferOf, written}
+use Rattle.text.specs.Line.{lineText}
+use Rattle.journal.specs.Cursor.{readTo, brokenAt}
+use Rattle.journal.specs.Form.{Held, heldIn, partCount, formAfter, formParts, formText}
+use Rattle.journal.specs.Command.{loadForm, commandForm, commandAfter}
 use Rattle.journal.specs.declared.cursor.Cursor.{Cursor}
 use Rattle.journal.specs.declared.command.Command.{Command}
-use Rattle.journal.specs.declared.command.FixRead.{FixRead}
-use Rattle.journal.specs.declared.command.LoadRead.{LoadRead}
 use Rattle.journal.specs.declared.command.Command.the-variants.{Open, Fix, Settle, Save, Load, Unknown, End}
-use Rattle.supply.specs.declared.market.FixingNumbers.{FixingNumbers}
 use Rattle.ledger.specs.Ledger.{emptyLedger, openingVerdict, openingLedger}
-use Rattle.ledger.specs.Fix.{FixingCall, fixingCallOf, fixingAnswer, fixingLedger, fixingList}
+use Rattle.ledger.specs.Fix.{FixingCall, fixingCallOf, fixingAnswer, fixingAnswered, fixingLedger, fixingList}
 use Rattle.ledger.specs.Settle.{SettlementCall, settlementCallOf, settlementVerdict, settlementLedger, settlementList}
 use Rattle.ledger.specs.declared.ledger.Ledger.{Ledger}
-use Rattle.store.specs.Store.{loadedLedger}
-use Rattle.store.specs.declared.load.LedgerNumbers.{LedgerNumbers}
-use Rattle.text.specs.Buffer.{bufferOf, written}
-use Rattle.answers.specs.Answer.{openingText, loadingText, fixingText, settlementText, savingText}
+use Rattle.store.specs.Store.{ledgerParts, loadedLedger}
+use Rattle.answers.specs.Answer.{outcomeLine, fixingLine, answerText}
+use Rattle.commands.specs.declared.answer.Made.{Made}
 use Rattle.commands.specs.declared.run.CommandOutcome.{CommandOutcome}
 use Rattle.commands.specs.declared.run.Step.{Step}
 
@@ -37,96 +34,90 @@ use Rattle.commands.specs.declared.run.Step.{Step}
 unfoldable pub unwritten : ℕ → List ℤ
 unwritten k = listBelow k (λ i. negsuc 0)
 
--- "fix MONTH DOLLAR FACTOR FIRST"
-abbrev pub fixingNumbersOf : FixRead → FixingNumbers
-fixingNumbersOf read =
-    record {
-      month = read .month;
-      dollar = read .dollar;
-      «reference_factor» = read .factor;
-      «first_month» = read .first;
-    }
+-- "fix MONTH DOLLAR FACTOR FIRST series K .. lines K .. sectors K .. prices K": the fixing of these parts
+unfoldable pub fixingCall : List Held → FixingCall
+fixingCall parts =
+    fixingCallOf
+    (record {
+      month = heldIn parts 0 .number;
+      dollar = heldIn parts 1 .number;
+      «reference_factor» = heldIn parts 2 .number;
+      «first_month» = heldIn parts 3 .number;
+    })
+    (heldIn parts 4 .words) (heldIn parts 5 .words) (heldIn parts 6 .words) (unwritten (heldIn parts 7 .number))
 
--- the fixing of the words after `fix`
-unfoldable pub fixingCall : List ℕ → Cursor → FixingCall
-fixingCall text cursor =
-    let read = fixAfter text cursor in
-    fixingCallOf (fixingNumbersOf read)
-    (listWords text (fixSeriesFrom text cursor) seriesName longestList mostWord)
-    (listWords text (fixLinesFrom text cursor) linesName longestList mostWord)
-    (listWords text (fixSectorsFrom text cursor) sectorsName longestList mostWord)
-    (unwritten (read .prices))
+-- "settle MONTH readings K .. losses K .. transfers K"
+unfoldable pub settlementCall : List Held → SettlementCall
+settlementCall parts =
+    settlementCallOf (heldIn parts 0 .number) (heldIn parts 1 .words) (heldIn parts 2 .words)
+    (unwritten (heldIn parts 3 .number))
 
--- the settlement of the words after `settle`
-unfoldable pub settlementCall : List ℕ → Cursor → SettlementCall
-settlementCall text cursor =
-    let read = settleAfter text cursor in
-    settlementCallOf (read .month)
-    (listWords text (settleReadingsFrom text cursor) readingsName longestList mostWord)
-    (listWords text (settleLossesFrom text cursor) lossesName longestList mostWord)
-    (unwritten (read .transfers))
+-- "open accepted", "open refused 1"
+unfoldable pub openingText : ℕ → List ℕ
+openingText n = lineText (outcomeLine (bytes "open        ") (verdictAnswered [] (openingVerdict n) .number))
 
--- "load N MONTHS LAST FIXED MONTH"
-abbrev pub ledgerNumbersOf : LoadRead → LedgerNumbers
-ledgerNumbersOf read =
-    record { n = read .n; months = read .months; last = read .last; fixed = read .fixed; month = read .month }
+-- the line of a fixing, "I AVERAGE FINAL CHARGE (a row for each distributor)"
+unfoldable pub fixingText : Ledger → FixingCall → List ℕ
+fixingText ledger call =
+    let answer = fixingAnswer ledger call in
+    answerText (fixingLine (bytes "fix         ") answer) (eqb (fixingAnswered answer .number) 0)
+    (fixingList ledger call) 3 []
 
--- the ledger of the words after `load`
-unfoldable pub keptLedger : List ℕ → Cursor → Ledger
-keptLedger text cursor =
-    let read = loadAfter text cursor in
-    loadedLedger (ledgerNumbersOf read)
-    (listWords text (loadPresentFrom text cursor) presentName sectorPlaces 1)
-    (signedListWords text (loadChargesFrom text cursor) chargesName sectorPlaces)
-    (signedListWords text (loadBalancesFrom text cursor) balancesName mostDistributors)
+-- the line of a settlement, "I TRANSFER BALANCE (a row for each distributor)"
+unfoldable pub settlementText : Ledger → SettlementCall → List ℕ
+settlementText ledger call =
+    let number = verdictAnswered [] (settlementVerdict ledger call) .number in
+    let balances = settlementLedger ledger call .balances in
+    answerText (outcomeLine (bytes "settle      ") number) (eqb number 0) (settlementList ledger call) 1
+    (listBelow mostDistributors (moneyAt balances))
 
--- how far the text is read with a command, from after its word
-abbrev pub commandNext : Command → List ℕ → Cursor → Cursor
-commandNext Open text cursor = numberAfter text cursor mostWord .next
-commandNext Fix text cursor = fixAfter text cursor .next
-commandNext Settle text cursor = settleAfter text cursor .next
-commandNext Save text cursor = cursor
-commandNext Load text cursor = loadAfter text cursor .next
-commandNext Unknown text cursor = cursor
-commandNext End text cursor = cursor
+-- "`save` prints the ledger as a `load` command"
+unfoldable pub savingText : Ledger → List ℕ
+savingText ledger = formText (bytes "load        ") loadForm (ledgerParts ledger)
 
--- the ledger after a command. "A refused `open` leaves the all-zero ledger"
-abbrev pub commandLedger : Command → List ℕ → Cursor → Ledger → Ledger
-commandLedger Open text cursor ledger = openingLedger (numberAfter text cursor mostWord .value)
-commandLedger Fix text cursor ledger = fixingLedger ledger (fixingCall text cursor)
-commandLedger Settle text cursor ledger = settlementLedger ledger (settlementCall text cursor)
-commandLedger Save text cursor ledger = ledger
-commandLedger Load text cursor ledger = keptLedger text cursor
-commandLedger Unknown text cursor ledger = ledger
-commandLedger End text cursor ledger = ledger
+-- "load accepted"
+unfoldable pub loadingText : List ℕ
+loadingText = lineText (outcomeLine (bytes "load        ") 0)
 
--- what a fixing and a settlement answer
-unfoldable pub fixingPrinted : Ledger → FixingCall → List ℕ
-fixingPrinted ledger call = fixingText (fixingAnswer ledger call) (fixingList ledger call)
+-- the ledger after a command of these parts. "A refused `open` leaves the all-zero ledger"
+abbrev pub commandLedger : Command → List Held → Ledger → Ledger
+commandLedger Open parts ledger = openingLedger (heldIn parts 0 .number)
+commandLedger Fix parts ledger = fixingLedger ledger (fixingCall parts)
+commandLedger Settle parts ledger = settlementLedger ledger (settlementCall parts)
+commandLedger Save parts ledger = ledger
+commandLedger Load parts ledger = loadedLedger parts
+commandLedger Unknown parts ledger = ledger
+commandLedger End parts ledger = ledger
 
-unfoldable pub settlementPrinted : Ledger → SettlementCall → List ℕ
-settlementPrinted ledger call =
-    settlementText (settlementVerdict ledger call) (settlementList ledger call) (settlementLedger ledger call .balances)
+-- what it answers
+abbrev pub commandAnswer : Command → List Held → Ledger → List ℕ
+commandAnswer Open parts ledger = openingText (heldIn parts 0 .number)
+commandAnswer Fix parts ledger = fixingText ledger (fixingCall parts)
+commandAnswer Settle parts ledger = settlementText ledger (settlementCall parts)
+commandAnswer Save parts ledger = savingText ledger
+commandAnswer Load parts ledger = loadingText
+commandAnswer Unknown parts ledger = []
+commandAnswer End parts ledger = []
 
--- what a command answers
-abbrev pub commandAnswer : Command → List ℕ → Cursor → Ledger → List ℕ
-commandAnswer Open text cursor ledger = openingText (openingVerdict (numberAfter text cursor mostWord .value))
-commandAnswer Fix text cursor ledger = fixingPrinted ledger (fixingCall text cursor)
-commandAnswer Settle text cursor ledger = settlementPrinted ledger (settlementCall text cursor)
-commandAnswer Save text cursor ledger = savingText ledger
-commandAnswer Load text cursor ledger = loadingText
-commandAnswer Unknown text cursor ledger = []
-commandAnswer End text cursor ledger = []
+-- the words of the longest lists that a command has
+abbrev pub wordRoom : ℕ
+wordRoom = 24576
 
--- "the broken command is not made"
+-- a command from after its word: "the broken command is not made"
 unfoldable pub stepOf : Command → List ℕ → Cursor → Ledger → Step
 stepOf command text cursor ledger =
-    let next = commandNext command text cursor in
-    record { ledger = cond (next .broken) ledger (commandLedger command text cursor ledger); next = next }
+    let form = commandForm command in
+    let next = formAfter partCount form text cursor in
+    record {
+      ledger = cond (next .broken) ledger (commandLedger command (formParts form text cursor) ledger);
+      next = next;
+    }
 
 unfoldable pub answerOf : Command → List ℕ → Cursor → Ledger → List ℕ
 answerOf command text cursor ledger =
-    cond (commandNext command text cursor .broken) [] (commandAnswer command text cursor ledger)
+    let form = commandForm command in
+    cond (formAfter partCount form text cursor .broken) []
+    (commandAnswer command (formParts form text cursor) ledger)
 
 -- the command that stands next
 unfoldable pub stepAfter : List ℕ → ℕ → Ledger → Step
@@ -164,13 +155,9 @@ replayed text =
 abbrev pub longestAnswer : ℕ
 longestAnswer = 262144
 
--- a command that cannot be read
-abbrev pub unansweredBy : Ledger → Cursor → CommandOutcome
-unansweredBy ledger next = record { step = record { ledger = ledger; next = next }; count = 0 }
-
--- a command that was read, and made where it is whole
-pub record CommandMade (made : CommandOutcome) (step : Step) (answer found left : List ℕ) : Type 0 where
-  pub stepped : made .step ≡ step
+-- a command that was made: the ledger after it, and its answer in the buffer
+pub record CommandMade (made : Made) (ledger : Ledger) (answer found left : List ℕ) : Type 0 where
+  pub booked : made .ledger ≡ ledger
   pub answered : bufferOf left (made .count) ≡ written answer (bufferOf found 0)
 
 -- a command's answer as it is printed: the first bytes of the buffer

@@ -1,16 +1,29 @@
-// The open calls of the commands, each with a list as it is lent before a call.
+// The open calls of the commands, made from the parts of their forms.
 ghost use mathlib.Core.Path.{_≡_};
-ghost use lib.ListN.{length};
-ghost use Rattle.ledger.specs.Fix.{fixingCallOf, FixingPromise};
-ghost use Rattle.ledger.specs.Settle.{settlementCallOf, SettlementPromise};
-ghost use Rattle.commands.specs.Replay.{unwritten};
-use answers::outcome::UNWRITTEN;
+ghost use lib.ListN.{length, getD};
+ghost use Rattle.numbers.specs.Bounded.{listBelow};
+ghost use Rattle.numbers.specs.Sizes.{mostDistributors};
+ghost use Rattle.settlement.specs.Month.{moneyAt};
+ghost use Rattle.journal.specs.Form.{FormHeld, bufferParts};
+ghost use Rattle.journal.specs.Command.{fixForm, settleForm};
+ghost use Rattle.ledger.specs.Fix.{FixingPromise};
+ghost use Rattle.ledger.specs.Settle.{SettlementPromise};
+ghost use Rattle.commands.specs.Replay.{unwritten, fixingCall, settlementCall};
+use answers::answer::UNWRITTEN;
+use journal::command::LONGEST_LIST;
+use journal::form::PARTS;
 use ledger::fix::FixingOutcome;
 use ledger::fix::fix;
 use ledger::ledger::Ledger;
 use ledger::settle::SettlementOutcome;
 use ledger::settle::settle;
+use numbers::sizes::MOST_DISTRIBUTORS;
+use numbers::units::Pesos;
 use supply::market::FixingNumbers;
+
+// Where the second and the third list of a call stand in the words.
+const SECOND: usize = LONGEST_LIST as usize;
+const THIRD: usize = SECOND + SECOND;
 
 // A lent list before its call.
 fn lend(list: &mut [i64])
@@ -24,36 +37,59 @@ fn lend(list: &mut [i64])
 }
 
 // Makes a fixing.
-pub(crate) fn make_fixing(
-    ledger: Ledger,
-    numbers: FixingNumbers,
-    series: &[u64],
-    lines: &[u64],
-    sectors: &[u64],
-    prices: &mut [i64],
-) -> FixingOutcome
-    ensures { λ r. ⌜ FixingPromise ledger
-        (fixingCallOf numbers (now (series .entry)) (now (lines .entry)) (now (sectors .entry))
-        (unwritten (length (now (prices .entry)))))
+pub(crate) fn make_fixing(ledger: Ledger, numbers: [u64; PARTS], words: &[u64], prices: &mut [i64]) -> FixingOutcome
+    requires { ⌜ FormHeld fixForm numbers (length (now words)) ⌝ ∗ ⌜ length (now prices) ≡ getD numbers 7 0 ⌝ }
+    ensures { λ r. ⌜ FixingPromise ledger (fixingCall (bufferParts fixForm numbers (now (words .entry))))
         (r .answer) (r .ledger) (now (prices .exit)) ⌝ }
 {
     lend(prices);
-    fix(ledger, numbers, series, lines, sectors, prices)
+    let call = FixingNumbers {
+        month: numbers[0],
+        dollar: numbers[1],
+        reference_factor: numbers[2],
+        first_month: numbers[3],
+    };
+    let series = numbers[4] as usize;
+    let lines = SECOND + numbers[5] as usize;
+    let sectors = THIRD + numbers[6] as usize;
+    fix(
+        ledger,
+        call,
+        &words[..series],
+        &words[SECOND..lines],
+        &words[THIRD..sectors],
+        prices,
+    )
 }
 
 // Makes a settlement.
 pub(crate) fn make_settlement(
     ledger: Ledger,
-    month: u64,
-    readings: &[u64],
-    losses: &[u64],
+    numbers: [u64; PARTS],
+    words: &[u64],
     transfers: &mut [i64],
 ) -> SettlementOutcome
-    ensures { λ r. ⌜ SettlementPromise ledger
-        (settlementCallOf month (now (readings .entry)) (now (losses .entry))
-        (unwritten (length (now (transfers .entry)))))
+    requires { ⌜ FormHeld settleForm numbers (length (now words)) ⌝ ∗ ⌜ length (now transfers) ≡ getD numbers 3 0 ⌝ }
+    ensures { λ r. ⌜ SettlementPromise ledger (settlementCall (bufferParts settleForm numbers (now (words .entry))))
         (r .verdict) (r .ledger) (now (transfers .exit)) ⌝ }
 {
     lend(transfers);
-    settle(ledger, month, readings, losses, transfers)
+    let readings = numbers[1] as usize;
+    let losses = SECOND + numbers[2] as usize;
+    settle(ledger, numbers[0], &words[..readings], &words[SECOND..losses], transfers)
+}
+
+// The balances as a list.
+pub(crate) fn balance_list(balances: [Pesos; MOST_DISTRIBUTORS]) -> [i64; MOST_DISTRIBUTORS]
+    ensures { λ r. ⌜ r ≡ listBelow mostDistributors (moneyAt balances) ⌝ }
+{
+    let mut list = [0i64; MOST_DISTRIBUTORS];
+    let mut i: usize = 0;
+    while i < MOST_DISTRIBUTORS {
+        let balance = balances[i];
+        let amount = balance.0;
+        list[i] = amount;
+        i += 1;
+    }
+    list
 }

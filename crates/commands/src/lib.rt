@@ -1,5 +1,5 @@
-// The commands of a journal: each is read whole, made through its open call, and answered. What the journal does to the
-// ledger is proved, and so is every byte that a command answers; that `replay` prints it is what its code says.
+// The commands of a journal, made one after another with their answers.
+mod answer;
 mod call;
 pub mod input;
 pub mod kept;

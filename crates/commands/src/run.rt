@@ -2,36 +2,29 @@
 ghost use mathlib.Core.Path.{_≡_};
 ghost use Prim.Native.Nat.{_≤_};
 ghost use lib.ListN.{length};
-ghost use Rattle.journal.specs.Command.{longestList};
-ghost use Rattle.journal.specs.declared.command.Command.the-variants.{Open, Fix, Settle, Load};
-ghost use Rattle.commands.specs.Replay.{stepOf, answerOf, stepAfter, answerAfter, replayed, longestAnswer};
-ghost use Rattle.commands.specs.Replay.{longestText, unansweredBy, CommandMade, CommandAnswered};
-use crate::call::make_fixing;
-use crate::call::make_settlement;
-use answers::outcome::write_error;
-use answers::outcome::write_loading;
-use answers::outcome::write_opening;
-use answers::prices::write_fixing;
-use answers::saving::write_saving;
-use answers::transfers::write_settlement;
+ghost use Rattle.journal.specs.Form.{FormHeld, bufferParts};
+ghost use Rattle.journal.specs.Command.{longestList, commandForm};
+ghost use Rattle.commands.specs.Replay.{wordRoom, commandLedger, commandAnswer, stepAfter, answerAfter, replayed};
+ghost use Rattle.commands.specs.Replay.{longestAnswer, longestText, CommandMade, CommandAnswered};
+use crate::answer::Made;
+use crate::answer::run_fix;
+use crate::answer::run_load;
+use crate::answer::run_open;
+use crate::answer::run_save;
+use crate::answer::run_settle;
+use answers::line::error_line;
 use journal::command::Command;
-use journal::command::MOST_WORD;
+use journal::command::form_of;
 use journal::command::next_command;
-use journal::command::read_fix;
-use journal::command::read_load;
-use journal::command::read_settle;
 use journal::cursor::Cursor;
 use journal::cursor::broken_at;
-use journal::cursor::next_number;
 use journal::cursor::read_to;
+use journal::form::PARTS;
+use journal::form::read_form;
 use ledger::ledger::Ledger;
 use ledger::open::open;
 use libc::STDOUT_FILENO;
-use numbers::sizes::MOST_DISTRIBUTORS;
-use numbers::sizes::PLACES;
-use store::load::LedgerNumbers;
-use store::load::load;
-use supply::market::FixingNumbers;
+use text::line::write_line;
 
 // The longest journal, in bytes.
 const LONGEST_TEXT: usize = 524288;
@@ -48,147 +41,55 @@ struct CommandOutcome {
     pub count: usize,
 }
 
-// A command that cannot be read: the ledger stays, and nothing is answered.
-fn unanswered(ledger: Ledger, next: Cursor) -> CommandOutcome
-    ensures { λ r. ⌜ r ≡ unansweredBy ledger next ⌝ }
+// Lists of the longest lengths, from functions so that no goal writes their words out.
+fn word_buffer() -> [u64; 24576]
+    ensures { λ r. ⌜ length r ≡ wordRoom ⌝ }
 {
-    let step = Step { ledger, next };
-    CommandOutcome { step, count: 0 }
+    [0; 24576]
 }
 
-// Lists of the longest length, from functions so that no goal writes their words out.
-fn words() -> [u64; 8192]
+fn lent_buffer() -> [i64; 8192]
     ensures { λ r. ⌜ length r ≡ longestList ⌝ }
 {
     [0; 8192]
 }
 
-fn signed_words() -> [i64; 8192]
-    ensures { λ r. ⌜ length r ≡ longestList ⌝ }
+fn answer_buffer() -> [u8; 262144]
+    ensures { λ r. ⌜ length r ≡ longestAnswer ⌝ }
 {
-    [0; 8192]
+    [0; 262144]
 }
 
-fn run_open(text: &[u8], cursor: Cursor, ledger: Ledger, buffer: &mut [u8]) -> CommandOutcome
-    requires { ⌜ cursor .at ≤ length (now text) ⌝ }
-    ensures { λ r. ⌜ CommandMade r (stepOf Open (now (text .entry)) cursor ledger)
-        (answerOf Open (now (text .entry)) cursor ledger) (now (buffer .entry)) (now (buffer .exit)) ⌝ }
+// Makes a command of what its numbers and words hold.
+fn make_command(
+    command: Command,
+    numbers: [u64; PARTS],
+    ledger: Ledger,
+    words: &[u64],
+    list: &mut [i64],
+    buffer: &mut [u8],
+) -> Made
+    requires { ⌜ FormHeld (commandForm command) numbers (length (now words)) ⌝ ∗ ⌜ length (now list) ≡ longestList ⌝ }
+    ensures { λ r. ⌜ CommandMade r
+        (commandLedger command (bufferParts (commandForm command) numbers (now (words .entry))) ledger)
+        (commandAnswer command (bufferParts (commandForm command) numbers (now (words .entry))) ledger)
+        (now (buffer .entry)) (now (buffer .exit)) ⌝ }
 {
-    let read = next_number(text, cursor, MOST_WORD);
-    let next = read.next;
-    if next.broken {
-        return unanswered(ledger, next);
+    match command {
+        Command::Open => run_open(numbers[0] as usize, buffer),
+        Command::Fix => {
+            let lent = numbers[7] as usize;
+            run_fix(numbers, ledger, words, &mut list[..lent], buffer)
+        }
+        Command::Settle => {
+            let lent = numbers[3] as usize;
+            run_settle(numbers, ledger, words, &mut list[..lent], buffer)
+        }
+        Command::Save => run_save(ledger, buffer),
+        Command::Load => run_load(numbers, words, buffer),
+        Command::Unknown => Made { ledger, count: 0 },
+        Command::End => Made { ledger, count: 0 },
     }
-    let opening = open(read.value as usize);
-    let verdict = opening.verdict;
-    let ledger = opening.ledger;
-    let count = write_opening(buffer, 0, verdict);
-    let step = Step { ledger, next };
-    CommandOutcome { step, count }
-}
-
-fn run_fix(text: &[u8], cursor: Cursor, ledger: Ledger, buffer: &mut [u8]) -> CommandOutcome
-    requires { ⌜ cursor .at ≤ length (now text) ⌝ }
-    ensures { λ r. ⌜ CommandMade r (stepOf Fix (now (text .entry)) cursor ledger)
-        (answerOf Fix (now (text .entry)) cursor ledger) (now (buffer .entry)) (now (buffer .exit)) ⌝ }
-{
-    let mut series = words();
-    let mut lines = words();
-    let mut sectors = words();
-    let mut prices = signed_words();
-    let read = read_fix(text, cursor, &mut series, &mut lines, &mut sectors);
-    let next = read.next;
-    if next.broken {
-        return unanswered(ledger, next);
-    }
-    let values = read.series;
-    let line_words = read.lines;
-    let factors = read.sectors;
-    let lent = read.prices;
-    let numbers = FixingNumbers {
-        month: read.month,
-        dollar: read.dollar,
-        reference_factor: read.factor,
-        first_month: read.first,
-    };
-    let outcome = make_fixing(
-        ledger,
-        numbers,
-        &series[..values],
-        &lines[..line_words],
-        &sectors[..factors],
-        &mut prices[..lent],
-    );
-    let answer = outcome.answer;
-    let ledger = outcome.ledger;
-    let count = write_fixing(buffer, 0, answer, &prices[..lent]);
-    let step = Step { ledger, next };
-    CommandOutcome { step, count }
-}
-
-fn run_settle(text: &[u8], cursor: Cursor, ledger: Ledger, buffer: &mut [u8]) -> CommandOutcome
-    requires { ⌜ cursor .at ≤ length (now text) ⌝ }
-    ensures { λ r. ⌜ CommandMade r (stepOf Settle (now (text .entry)) cursor ledger)
-        (answerOf Settle (now (text .entry)) cursor ledger) (now (buffer .entry)) (now (buffer .exit)) ⌝ }
-{
-    let mut readings = words();
-    let mut losses = words();
-    let mut transfers = signed_words();
-    let read = read_settle(text, cursor, &mut readings, &mut losses);
-    let next = read.next;
-    if next.broken {
-        return unanswered(ledger, next);
-    }
-    let counted = read.readings;
-    let factors = read.losses;
-    let lent = read.transfers;
-    let outcome = make_settlement(
-        ledger,
-        read.month,
-        &readings[..counted],
-        &losses[..factors],
-        &mut transfers[..lent],
-    );
-    let verdict = outcome.verdict;
-    let ledger = outcome.ledger;
-    let balances = ledger.balances;
-    let count = write_settlement(buffer, 0, verdict, &transfers[..lent], balances);
-    let step = Step { ledger, next };
-    CommandOutcome { step, count }
-}
-
-fn run_load(text: &[u8], cursor: Cursor, ledger: Ledger, buffer: &mut [u8]) -> CommandOutcome
-    requires { ⌜ cursor .at ≤ length (now text) ⌝ }
-    ensures { λ r. ⌜ CommandMade r (stepOf Load (now (text .entry)) cursor ledger)
-        (answerOf Load (now (text .entry)) cursor ledger) (now (buffer .entry)) (now (buffer .exit)) ⌝ }
-{
-    let mut present = [0u64; PLACES];
-    let mut charges = [0i64; PLACES];
-    let mut balances = [0i64; MOST_DISTRIBUTORS];
-    let read = read_load(text, cursor, &mut present, &mut charges, &mut balances);
-    let next = read.next;
-    if next.broken {
-        return unanswered(ledger, next);
-    }
-    let places = read.present;
-    let charged = read.charges;
-    let balanced = read.balances;
-    let numbers = LedgerNumbers {
-        n: read.n,
-        months: read.months,
-        last: read.last,
-        fixed: read.fixed,
-        month: read.month,
-    };
-    let ledger = load(
-        numbers,
-        &present[..places],
-        &charges[..charged],
-        &balances[..balanced],
-    );
-    let count = write_loading(buffer, 0);
-    let step = Step { ledger, next };
-    CommandOutcome { step, count }
 }
 
 // One command, from its word on, and its answer as the first bytes of the buffer.
@@ -197,35 +98,32 @@ fn run_command(text: &[u8], at: usize, ledger: Ledger, buffer: &mut [u8]) -> Com
     ensures { λ r. ⌜ CommandAnswered r (stepAfter (now (text .entry)) at ledger)
         (answerAfter (now (text .entry)) at ledger) (now (buffer .exit)) ⌝ }
 {
+    let mut words = word_buffer();
+    let mut list = lent_buffer();
     let read = next_command(text, at);
-    let next = read.next;
     let command = read.command;
-    match command {
-        Command::Open => run_open(text, next, ledger, buffer),
-        Command::Fix => run_fix(text, next, ledger, buffer),
-        Command::Settle => run_settle(text, next, ledger, buffer),
-        Command::Save => {
-            let count = write_saving(buffer, 0, ledger);
-            let step = Step { ledger, next };
-            CommandOutcome { step, count }
-        }
-        Command::Load => run_load(text, next, ledger, buffer),
-        Command::Unknown => unanswered(ledger, next),
-        Command::End => unanswered(ledger, next),
+    let form = form_of(command);
+    let parts = read_form(text, read.next, form, &mut words);
+    let next = parts.next;
+    if next.broken {
+        let step = Step { ledger, next };
+        return CommandOutcome { step, count: 0 };
+    }
+    let numbers = parts.numbers;
+    let made = make_command(command, numbers, ledger, &words, &mut list, buffer);
+    let ledger = made.ledger;
+    let step = Step { ledger, next };
+    CommandOutcome {
+        step,
+        count: made.count,
     }
 }
 
 // Writes where the text cannot be read.
 fn print_error(next: Cursor) {
     let mut buffer = io::buffer();
-    let count = write_error(&mut buffer, 0, next.at);
+    let count = write_line(&mut buffer, 0, error_line(next.at));
     io::write_all(STDOUT_FILENO, &buffer[..count]);
-}
-
-fn answer_buffer() -> [u8; 262144]
-    ensures { λ r. ⌜ length r ≡ longestAnswer ⌝ }
-{
-    [0; 262144]
 }
 
 // Makes the commands of a text that is not too long, in their order, and prints their answers.
