@@ -4,7 +4,7 @@ use mathlib.Core.Bool.{Bool, cond, _&&_}
 use mathlib.Core.List.{List, [], _∷_, _++_}
 use Prim.Native.Nat.{ℕ}
 use lib.Dec.{eqb}
-use lib.ListN.{length, getD, replicate}
+use lib.ListN.{length, getD, take, replicate}
 use lib.IntN.{ℤ, pos, natAbs}
 use Rattle.numbers.specs.Bounded.{allBelow}
 use Rattle.numbers.specs.Refusal.{refusalAnswered}
@@ -52,12 +52,16 @@ abbrev pub refusalLine : List ℕ → Refusal → List Item
 refusalLine name refusal =
     let answered = refusalAnswered refusal in placeLine name (answered .number) (answered .values)
 
+-- "limit L surcharge R rounds C residue S"
+abbrev pub valuesLine : PesoPrice → PesoPrice → ℕ → UnsignedPesos → List Item
+valuesLine limit surcharge rounds residue =
+    item "limit       " (Number (limit .0)) ∷ item "surcharge   " (Number (surcharge .0))
+    ∷ item "rounds      " (Number rounds) ∷ item "residue     " (Number (residue .0)) ∷ replicate 2 nothing
+
 -- "fix accepted limit L surcharge R rounds C residue S"
 abbrev pub fixedLine : List ℕ → PesoPrice → PesoPrice → ℕ → UnsignedPesos → List Item
 fixedLine name limit surcharge rounds residue =
-    command name ∷ item "accepted    " Word ∷ item "limit       " (Number (limit .0))
-    ∷ item "surcharge   " (Number (surcharge .0)) ∷ item "rounds      " (Number rounds)
-    ∷ item "residue     " (Number (residue .0)) ∷ []
+    command name ∷ item "accepted    " Word ∷ take 4 (valuesLine limit surcharge rounds residue)
 
 abbrev pub fixingLine : List ℕ → FixingAnswer → List Item
 fixingLine name (Accepted limit surcharge rounds residue) = fixedLine name limit surcharge rounds residue

@@ -1,9 +1,14 @@
 // An answer: its line, the rows under an accepted one, and a line where a refused call changed its lent list.
 ghost use mathlib.Core.Path.{_≡_};
 ghost use Prim.Native.Nat.{_<_};
+ghost use Rattle.numbers.specs.Bounded.{listBelow};
+ghost use Rattle.numbers.specs.Sizes.{mostDistributors};
+ghost use Rattle.settlement.specs.Month.{moneyAt};
 ghost use Rattle.text.specs.Buffer.{bufferOf, written};
 ghost use Rattle.answers.specs.Answer.{allUnwritten, changedText, answerText};
 use crate::line::changed_line;
+use numbers::sizes::MOST_DISTRIBUTORS;
+use numbers::units::Pesos;
 use text::line::ITEMS;
 use text::line::Item;
 use text::line::write_line;
@@ -11,6 +16,21 @@ use text::row::write_rows;
 
 // The word that stands in every place of a lent list before a call.
 pub const UNWRITTEN: i64 = -1;
+
+// The amounts of the distributors as a list.
+pub fn amounts(balances: [Pesos; MOST_DISTRIBUTORS]) -> [i64; MOST_DISTRIBUTORS]
+    ensures { λ r. ⌜ r ≡ listBelow mostDistributors (moneyAt balances) ⌝ }
+{
+    let mut list = [0i64; MOST_DISTRIBUTORS];
+    let mut i: usize = 0;
+    while i < MOST_DISTRIBUTORS {
+        let balance = balances[i];
+        let amount = balance.0;
+        list[i] = amount;
+        i += 1;
+    }
+    list
+}
 
 // Whether no word of a lent list was written.
 fn is_unwritten(list: &[i64]) -> bool

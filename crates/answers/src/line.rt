@@ -1,6 +1,7 @@
 // The lines of answers.
 ghost use mathlib.Core.Path.{_≡_};
-ghost use Rattle.answers.specs.Answer.{outcomeLine, errorLine, changedLine, refusalLine, fixedLine, fixingLine};
+ghost use Rattle.answers.specs.Answer.{outcomeLine, errorLine, changedLine, refusalLine};
+ghost use Rattle.answers.specs.Answer.{valuesLine, fixedLine, fixingLine};
 use ledger::fix::FixingAnswer;
 use numbers::refusal::Refusal;
 use numbers::refusal::refusal_number;
@@ -77,6 +78,26 @@ fn refusal_line(name: [u8; NAME], refusal: Refusal) -> [Item; ITEMS]
     }
 }
 
+// The values of an accepted fixing, as a line of their own.
+pub fn values_line(
+    limit: PesoPrice,
+    surcharge: PesoPrice,
+    rounds: u64,
+    residue: UnsignedPesos,
+) -> [Item; ITEMS]
+    ensures { λ r. ⌜ r ≡ valuesLine limit surcharge rounds residue ⌝ }
+{
+    let none = Item(*b"            ", Shown::Nothing);
+    [
+        Item(*b"limit       ", Shown::Number(limit.0)),
+        Item(*b"surcharge   ", Shown::Number(surcharge.0)),
+        Item(*b"rounds      ", Shown::Number(rounds)),
+        Item(*b"residue     ", Shown::Number(residue.0)),
+        none,
+        none,
+    ]
+}
+
 // The line of an accepted fixing.
 fn fixed_line(
     name: [u8; NAME],
@@ -87,14 +108,14 @@ fn fixed_line(
 ) -> [Item; ITEMS]
     ensures { λ r. ⌜ r ≡ fixedLine name limit surcharge rounds residue ⌝ }
 {
-    [
-        Item(name, Shown::Word),
-        Item(*b"accepted    ", Shown::Word),
-        Item(*b"limit       ", Shown::Number(limit.0)),
-        Item(*b"surcharge   ", Shown::Number(surcharge.0)),
-        Item(*b"rounds      ", Shown::Number(rounds)),
-        Item(*b"residue     ", Shown::Number(residue.0)),
-    ]
+    let values = values_line(limit, surcharge, rounds, residue);
+    let command = Item(name, Shown::Word);
+    let accepted = Item(*b"accepted    ", Shown::Word);
+    let limit = values[0];
+    let surcharge = values[1];
+    let rounds = values[2];
+    let residue = values[3];
+    [command, accepted, limit, surcharge, rounds, residue]
 }
 
 // The line of a fixing.

@@ -1,17 +1,14 @@
 // The program `classroom` of document 01: it reads nothing, fixes averages 100,000, 83,000 and 60,000 with energies 10,
 // 10 and 11 through the real calls, and prints the limit, the surcharge, the rounds and the residue, then each
 // distributor's number, average, final price and charge.
+use answers::line::values_line;
 use ledger::fix::FixingAnswer;
 use ledger::fix::fix;
 use ledger::open::open;
 use libc::STDOUT_FILENO;
-use numbers::units::PesoPrice;
-use numbers::units::UnsignedPesos;
 use supply::market::FixingNumbers;
-use text::number::write_decimal;
-use text::number::write_named;
-use text::number::write_signed_word;
-use text::write::write_byte;
+use text::line::write_line;
+use text::row::write_rows;
 
 // Three lines of no terms: distributor, base price, offer and purchase factor, energy, then 21 zeros.
 fn lines() -> [u64; 78] {
@@ -43,33 +40,11 @@ fn sectors() -> [u64; 24] {
     sectors
 }
 
-// Prints the first bytes of a line.
-fn print(line: &[u8], count: usize) {
-    if count <= line.len() {
-        io::write_all(STDOUT_FILENO, &line[..count]);
+// Prints the first bytes of a text.
+fn print(text: &[u8], count: usize) {
+    if count <= text.len() {
+        io::write_all(STDOUT_FILENO, &text[..count]);
     }
-}
-
-// The first line: the four numbers of the fixing.
-fn print_fixing(limit: PesoPrice, surcharge: PesoPrice, rounds: u64, residue: UnsignedPesos) {
-    let mut line = io::buffer();
-    let end = write_named(&mut line, 0, b"limit", limit.0);
-    let end = write_named(&mut line, end, b" surcharge", surcharge.0);
-    let end = write_named(&mut line, end, b" rounds", rounds);
-    let end = write_named(&mut line, end, b" residue", residue.0);
-    let end = write_byte(&mut line, end, b'\n');
-    print(&line, end);
-}
-
-// A distributor's line: number, average, final price, charge.
-fn print_distributor(number: u64, average: i64, price: i64, charge: i64) {
-    let mut line = io::buffer();
-    let end = write_decimal(&mut line, 0, number);
-    let end = write_signed_word(&mut line, end, average);
-    let end = write_signed_word(&mut line, end, price);
-    let end = write_signed_word(&mut line, end, charge);
-    let end = write_byte(&mut line, end, b'\n');
-    print(&line, end);
 }
 
 fn main() {
@@ -93,9 +68,10 @@ fn main() {
         rounds,
         residue,
     } = answer {
-        print_fixing(limit, surcharge, rounds, residue);
-        print_distributor(0, prices[0], prices[1], prices[2]);
-        print_distributor(1, prices[3], prices[4], prices[5]);
-        print_distributor(2, prices[6], prices[7], prices[8]);
+        let mut text = io::buffer();
+        let values = values_line(limit, surcharge, rounds, residue);
+        let end = write_line(&mut text, 0, values);
+        let end = write_rows(&mut text, end, &prices, 3, &prices[..0]);
+        print(&text, end);
     }
 }

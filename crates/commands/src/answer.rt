@@ -9,9 +9,9 @@ ghost use Rattle.journal.specs.Form.{FormHeld, bufferParts};
 ghost use Rattle.journal.specs.Command.{fixForm, settleForm, loadForm};
 ghost use Rattle.commands.specs.Replay.{fixingCall, settlementCall, openingText, fixingText, settlementText};
 ghost use Rattle.commands.specs.Replay.{savingText, loadingText, CommandMade};
-use crate::call::balance_list;
 use crate::call::make_fixing;
 use crate::call::make_settlement;
+use answers::answer::amounts;
 use answers::answer::write_answer;
 use answers::line::fixing_line;
 use answers::line::outcome_line;
@@ -89,7 +89,7 @@ pub(crate) fn run_settle(
     let line = outcome_line(*b"settle      ", number);
     let accepted = number == 0;
     let balances = ledger.balances;
-    let column = balance_list(balances);
+    let column = amounts(balances);
     let count = write_answer(buffer, line, accepted, transfers, 1, &column);
     Made { ledger, count }
 }

@@ -1,9 +1,6 @@
 // The open calls of the commands, made from the parts of their forms.
 ghost use mathlib.Core.Path.{_≡_};
 ghost use lib.ListN.{length, getD};
-ghost use Rattle.numbers.specs.Bounded.{listBelow};
-ghost use Rattle.numbers.specs.Sizes.{mostDistributors};
-ghost use Rattle.settlement.specs.Month.{moneyAt};
 ghost use Rattle.journal.specs.Form.{FormHeld, bufferParts};
 ghost use Rattle.journal.specs.Command.{fixForm, settleForm};
 ghost use Rattle.ledger.specs.Fix.{FixingPromise};
@@ -17,8 +14,6 @@ use ledger::fix::fix;
 use ledger::ledger::Ledger;
 use ledger::settle::SettlementOutcome;
 use ledger::settle::settle;
-use numbers::sizes::MOST_DISTRIBUTORS;
-use numbers::units::Pesos;
 use supply::market::FixingNumbers;
 
 // Where the second and the third list of a call stand in the words.
@@ -77,19 +72,4 @@ pub(crate) fn make_settlement(
     let readings = numbers[1] as usize;
     let losses = SECOND + numbers[2] as usize;
     settle(ledger, numbers[0], &words[..readings], &words[SECOND..losses], transfers)
-}
-
-// The balances as a list.
-pub(crate) fn balance_list(balances: [Pesos; MOST_DISTRIBUTORS]) -> [i64; MOST_DISTRIBUTORS]
-    ensures { λ r. ⌜ r ≡ listBelow mostDistributors (moneyAt balances) ⌝ }
-{
-    let mut list = [0i64; MOST_DISTRIBUTORS];
-    let mut i: usize = 0;
-    while i < MOST_DISTRIBUTORS {
-        let balance = balances[i];
-        let amount = balance.0;
-        list[i] = amount;
-        i += 1;
-    }
-    list
 }

@@ -18,7 +18,7 @@ pub struct Cursor {
     pub broken: bool,
 }
 
-pub(crate) struct NumberRead {
+pub struct NumberRead {
     pub value: u64,
     pub next: Cursor,
 }
@@ -74,7 +74,7 @@ fn number_from(reading: Reading, most: u64, start: usize, end: usize) -> NumberR
 }
 
 // Reads a number of at most `most`, signed or not.
-pub(crate) fn next_number(text: &[u8], cursor: Cursor, signed: bool, most: u64) -> NumberRead
+pub fn next_number(text: &[u8], cursor: Cursor, signed: bool, most: u64) -> NumberRead
     requires { ⌜ cursor .at ≤ length (now text) ⌝ }
     ensures { λ r. ⌜ r ≡ numberAfter (now (text .entry)) cursor signed most ⌝ }
 {

@@ -1,8 +1,8 @@
 // What the program is asked for by its arguments.
 use check::same;
-use journal::command::MOST_WORD;
 use journal::cursor::Cursor;
 use journal::cursor::next_number;
+use journal::form::MOST_WORD;
 
 // Which load, which calls, and how often.
 pub(crate) struct Task {
@@ -27,7 +27,7 @@ fn task_of(load: &[u8], call: &[u8], count: &[u8]) -> Arguments {
         at: 0,
         broken: false,
     };
-    let number = next_number(count, start, MOST_WORD);
+    let number = next_number(count, start, false, MOST_WORD);
     let next = number.next;
     if !(mixed | same(load, b"even")) | !(fixings | settlements) | next.broken {
         return Arguments::Unusable;

@@ -1,89 +1,63 @@
 // What is printed of the calls, as bench/plain.rs prints it.
 use crate::calls::Results;
+use answers::answer::amounts;
+use answers::line::values_line;
 use ledger::fix::FixingAnswer;
 use libc::STDOUT_FILENO;
 use numbers::sizes::MOST_DISTRIBUTORS;
 use numbers::units::Pesos;
-use text::number::write_decimal;
-use text::number::write_named;
-use text::number::write_signed_word;
-use text::write::write_byte;
+use text::line::Item;
+use text::line::Shown;
+use text::line::write_line;
+use text::row::write_rows;
 
 // Average, final price and charge of each distributor.
 pub(crate) const PRICES: usize = MOST_DISTRIBUTORS * 3;
 
-// Prints the first bytes of a line.
-fn print(line: &[u8], count: usize) {
-    if count <= line.len() {
-        io::write_all(STDOUT_FILENO, &line[..count]);
+// Prints the first bytes of a text.
+fn print(text: &[u8], count: usize) {
+    if count <= text.len() {
+        io::write_all(STDOUT_FILENO, &text[..count]);
     }
 }
 
 fn print_counts(fixings: u64, settlements: u64) {
-    let mut line = io::buffer();
-    let end = write_named(&mut line, 0, b"fixings", fixings);
-    let end = write_named(&mut line, end, b" settlements", settlements);
-    let end = write_byte(&mut line, end, b'\n');
-    print(&line, end);
+    let mut text = io::buffer();
+    let none = Item(*b"            ", Shown::Nothing);
+    let counts = [
+        Item(*b"fixings     ", Shown::Number(fixings)),
+        Item(*b"settlements ", Shown::Number(settlements)),
+        none,
+        none,
+        none,
+        none,
+    ];
+    let end = write_line(&mut text, 0, counts);
+    print(&text, end);
 }
 
-fn print_answer(answer: FixingAnswer) {
+// The last fixing: its values, and average, final price and charge of each distributor.
+fn print_fixing(answer: FixingAnswer, prices: [i64; PRICES]) {
     if let FixingAnswer::Accepted {
         limit,
         surcharge,
         rounds,
         residue,
     } = answer {
-        let mut line = io::buffer();
-        let end = write_named(&mut line, 0, b"limit", limit.0);
-        let end = write_named(&mut line, end, b" surcharge", surcharge.0);
-        let end = write_named(&mut line, end, b" rounds", rounds);
-        let end = write_named(&mut line, end, b" residue", residue.0);
-        let end = write_byte(&mut line, end, b'\n');
-        print(&line, end);
+        let mut text = io::buffer();
+        let values = values_line(limit, surcharge, rounds, residue);
+        let end = write_line(&mut text, 0, values);
+        let end = write_rows(&mut text, end, &prices, 3, &prices[..0]);
+        print(&text, end);
     }
 }
 
-// A distributor's average, final price and charge.
-fn print_price(number: u64, average: i64, price: i64, charge: i64) {
-    let mut line = io::buffer();
-    let end = write_decimal(&mut line, 0, number);
-    let end = write_signed_word(&mut line, end, average);
-    let end = write_signed_word(&mut line, end, price);
-    let end = write_signed_word(&mut line, end, charge);
-    let end = write_byte(&mut line, end, b'\n');
-    print(&line, end);
-}
-
-fn print_prices(prices: [i64; PRICES]) {
-    let mut i: usize = 0;
-    while i < MOST_DISTRIBUTORS {
-        print_price(
-            i as u64,
-            prices[3 * i],
-            prices[3 * i + 1],
-            prices[3 * i + 2],
-        );
-        i += 1;
-    }
-}
-
-fn print_transfer(number: u64, transfer: i64, balance: i64) {
-    let mut line = io::buffer();
-    let end = write_decimal(&mut line, 0, number);
-    let end = write_signed_word(&mut line, end, transfer);
-    let end = write_signed_word(&mut line, end, balance);
-    let end = write_byte(&mut line, end, b'\n');
-    print(&line, end);
-}
-
-fn print_transfers(transfers: [i64; MOST_DISTRIBUTORS], balances: [Pesos; MOST_DISTRIBUTORS]) {
-    let mut i: usize = 0;
-    while i < MOST_DISTRIBUTORS {
-        let balance = balances[i];
-        print_transfer(i as u64, transfers[i], balance.0);
-        i += 1;
-    }
+// The last settlement: transfer and balance of each distributor.
+fn print_settlement(transfers: [i64; MOST_DISTRIBUTORS], balances: [Pesos; MOST_DISTRIBUTORS]) {
+    let mut text = io::buffer();
+    let column = amounts(balances);
+    let end = write_rows(&mut text, 0, &transfers, 1, &column);
+    print(&text, end);
 }
 
 pub(crate) fn print_results(
@@ -95,12 +69,11 @@ pub(crate) fn print_results(
     if results.fixings != 0 {
         let fixing = results.fixing;
         let answer = fixing.answer;
-        print_answer(answer);
-        print_prices(prices);
+        print_fixing(answer, prices);
     }
     if results.settlements != 0 {
         let ledger = results.settled;
         let balances = ledger.balances;
-        print_transfers(transfers, balances);
+        print_settlement(transfers, balances);
     }
 }
