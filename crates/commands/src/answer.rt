@@ -63,7 +63,8 @@ pub(crate) fn run_fix(
     let answer = outcome.answer;
     let line = fixing_line(*b"fix         ", answer);
     let accepted = fixing_number(answer) == 0;
-    let count = write_answer(buffer, line, accepted, prices, 3, &prices[..0]);
+    let column = [0i64; 0];
+    let count = write_answer(buffer, line, accepted, prices, 3, &column);
     let ledger = outcome.ledger;
     Made { ledger, count }
 }

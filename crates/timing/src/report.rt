@@ -47,7 +47,8 @@ fn print_fixing(answer: FixingAnswer, prices: [i64; PRICES]) {
         let mut text = io::buffer();
         let values = values_line(limit, surcharge, rounds, residue);
         let end = write_line(&mut text, 0, values);
-        let end = write_rows(&mut text, end, &prices, 3, &prices[..0]);
+        let column = [0i64; 0];
+        let end = write_rows(&mut text, end, &prices, 3, &column);
         print(&text, end);
     }
 }
