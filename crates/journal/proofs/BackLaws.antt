@@ -1,14 +1,19 @@
 -- One law over all forms: what is written of any parts that a form takes is read back as these parts.
 -- Assumes nothing.
 use mathlib.Core.Path.{_≡_, refl, sym, _∙_, ap, ap₂}
-use mathlib.Core.Bool.{Bool, true, false}
+use mathlib.Core.Bool.{Bool, true, false, not, _&&_}
 use mathlib.Core.List.{List, [], _∷_, _++_, append-assoc, append-nil}
 use Prim.Native.Nat.{ℕ, zero, suc, _≤_, _<_}
 use native.Mathlib.Omega.{arith}
+use lib.Dec.{ltb}
 use lib.ListN.{length, getD}
-use Rattle.numbers.specs.Bounded.{listBelow}
+use borrow.Author.Tests.{ltb-true, not-true}
+use Rattle.numbers.specs.Bounded.{allBelow, listBelow}
+use Rattle.numbers.proofs.BoolLaws.{and-left, and-right}
+use Rattle.numbers.proofs.TestLaws.{all-at}
 use Rattle.numbers.proofs.ListLaws.{list-same}
 use Rattle.text.specs.Text.{lineEnd, word, wordBy, wordsBy, textBelow, nameText}
+use Rattle.journal.specs.Token.{byteAt, endsToken}
 use Rattle.journal.specs.Cursor.{mostWord}
 use Rattle.journal.specs.Form.{partCount, partAt, Held, heldOf, heldIn, boundBy, countBy, greatestBy, partBy}
 use Rattle.journal.specs.Form.{partAfter, formAfter, heldAt, formParts, Takes, listText, partTextBy, partText}
@@ -19,13 +24,29 @@ use Rattle.journal.specs.declared.form.Part.{Part}
 use Rattle.journal.proofs.TextLaws.{line-gap, Ends, gap-ends, Plain}
 use Rattle.journal.proofs.StandsLaws.{Ahead, word-ends, number-stands, count-stands, list-stands, texts-stand}
 
--- the name of a part that shows it is one token
-abbrev pub Shows : Kind → List ℕ → Type 0
-Shows Nothing name = Unit
-Shows (Number most) name = Unit
-Shows (Words longest most) name = Plain (nameText name)
-Shows (Signed longest) name = Plain (nameText name)
-Shows (Length longest) name = Plain (nameText name)
+-- whether a name is one token
+unfoldable pub plainTest : List ℕ → Bool
+plainTest name = ltb 0 (length name) && allBelow (length name) (λ i. not (endsToken (byteAt name i)))
+
+-- whether the names that a form shows are one token each
+abbrev shownTest : Kind → List ℕ → Bool
+shownTest Nothing name = true
+shownTest (Number most) name = true
+shownTest (Words longest most) name = plainTest (nameText name)
+shownTest (Signed longest) name = plainTest (nameText name)
+shownTest (Length longest) name = plainTest (nameText name)
+
+unfoldable pub namesPlain : List Part → Bool
+namesPlain form = allBelow partCount (λ k. shownTest (partAt form k .1) (partAt form k .0))
+
+plain-of : (name : List ℕ) → plainTest name ≡ true → Plain name
+unfolding plainTest
+plain-of name h =
+    record {
+      some = ltb-true 0 (length name) (and-left (ltb 0 (length name)) _ h);
+      plain = λ i p. not-true _
+          (all-at (length name) (λ j. not (endsToken (byteAt name j))) (and-right (ltb 0 (length name)) _ h) i p);
+    }
 
 no-words : (words : List ℕ) → length words ≡ 0 → words ≡ []
 no-words [] e = refl
@@ -64,7 +85,7 @@ none-tail e = rw e refl
 module _ (held : Held) (name text : List ℕ) (cursor : Cursor) (tail : List ℕ) (e : Ends tail)
     (short : held .number ≤ mostWord)
     (small : (i : ℕ) → i < length (held .words) → getD (held .words) i 0 ≤ mostWord) where
-  part-back : (kind : Kind) → Shows kind name → held .number ≤ boundBy kind →
+  part-back : (kind : Kind) → shownTest kind name ≡ true → held .number ≤ boundBy kind →
       length (held .words) ≡ countBy kind (held .number) →
       ((i : ℕ) → i < length (held .words) → getD (held .words) i 0 ≤ greatestBy kind) →
       Ahead text cursor (partTextBy kind name held ++ tail) →
@@ -78,19 +99,19 @@ module _ (held : Held) (name text : List ℕ) (cursor : Cursor) (tail : List ℕ
       (ap₂ heldOf (read .value) (sym (no-words (held .words) c)), read .next)
   part-back (Words longest most) s b c w a =
       let count : length (held .words) ≡ held .number = c in
-      let read = list-stands text cursor (nameText name) s longest false most (held .words) tail (rw count b)
+      let read = list-stands text cursor (nameText name) (plain-of (nameText name) s) longest false most (held .words) tail (rw count b)
       (rw count short) w small e
       (record { whole = a .whole; after = rw count (a .after ∙ list-tail name false (held .number) (held .words) tail) }) in
       (ap₂ heldOf (read .count ∙ count) (read .words), read .next)
   part-back (Signed longest) s b c w a =
       let count : length (held .words) ≡ held .number = c in
-      let read = list-stands text cursor (nameText name) s longest true mostWord (held .words) tail (rw count b)
+      let read = list-stands text cursor (nameText name) (plain-of (nameText name) s) longest true mostWord (held .words) tail (rw count b)
       (rw count short) w small e
       (record { whole = a .whole; after = rw count (a .after ∙ list-tail name true (held .number) (held .words) tail) }) in
       (ap₂ heldOf (read .count ∙ count) (read .words), read .next)
   part-back (Length longest) s b c w a =
       let none : held .words ≡ [] = no-words (held .words) c in
-      let read = count-stands text cursor (nameText name) s longest (held .number) tail b short e
+      let read = count-stands text cursor (nameText name) (plain-of (nameText name) s) longest (held .number) tail b short e
       (record {
         whole = a .whole;
         after = a .after ∙ list-tail name false (held .number) (held .words) tail
@@ -100,17 +121,17 @@ module _ (held : Held) (name text : List ℕ) (cursor : Cursor) (tail : List ℕ
 
 -- the parts of a form that stand in a text are read as what they hold
 module _ (form : List Part) (parts : List Held) (text : List ℕ) (cursor : Cursor) (tail : List ℕ) where
-  pub form-back : ((k : ℕ) → k < partCount → Shows (partAt form k .1) (partAt form k .0)) →
-      ((k : ℕ) → k < partCount → Takes (partAt form k) (heldIn parts k)) → Ends tail →
+  pub form-back : namesPlain form ≡ true → ((k : ℕ) → k < partCount → Takes (partAt form k) (heldIn parts k)) → Ends tail →
       Ahead text cursor (textBelow partCount (λ k. partText (partAt form k) (heldIn parts k)) ++ tail) →
       (formParts form text cursor ≡ listBelow partCount (heldIn parts)) × Ahead text
       (formAfter partCount form text cursor) tail
-  unfolding formParts formAfter heldAt partAfter partText
+  unfolding formParts formAfter heldAt partAfter partText namesPlain
   form-back shows takes e s =
       let read = texts-stand (λ k. partText (partAt form k) (heldIn parts k))
       (λ k rest b. part-ends (partAt form k) (heldIn parts k) rest b) text (λ k. formAfter k form text cursor)
       (λ k. heldAt form text cursor k ≡ heldIn parts k) partCount tail
       (λ k p rest b a. let t = takes k p in part-back (heldIn parts k) (partAt form k .0) text
-      (formAfter k form text cursor) rest b (t .short) (t .small) (partAt form k .1) (shows k p) (t .number)
+      (formAfter k form text cursor) rest b (t .short) (t .small) (partAt form k .1)
+      (all-at partCount (λ j. shownTest (partAt form j .1) (partAt form j .0)) shows k p) (t .number)
       (t .counted) (t .words) a) e s in
       (list-same partCount _ _ (read .0), read .1)

@@ -58,28 +58,30 @@ module _ (text : List ℕ) (at start end : ℕ) (s : start ≡ tokenStart text a
   unfolding commandAfter
   command-some h = rw (← s, ← e, ne-eqb start (length text) h)
 
--- its cursor lies within the text
-module _ (text : List ℕ) (at : ℕ) (p : at ≤ length text) where
+-- its cursor is after the token, or broken at it
+module _ (text : List ℕ) (at : ℕ) (P : Cursor → Type 0) (read : P (readTo (tokenEnd text (tokenStart text at))))
+    (broken : P (brokenAt (tokenStart text at))) where
   abbrev start : ℕ
   start = tokenStart text at
 
   abbrev end : ℕ
   end = tokenEnd text start
 
-  end-most : end ≤ length text
-  end-most = token-end-most text start (token-start-most text at p)
+  either : (b : Bool) (command : Command) (rest : CommandRead) → P (rest .next) →
+      P (cond b (commandRead command (readTo end)) rest .next)
+  either true command rest h = read
+  either false command rest h = h
 
-  within-either : (b : Bool) (command : Command) (rest : CommandRead) → rest .next .at ≤ length text →
-      cond b (commandRead command (readTo end)) rest .next .at ≤ length text
-  within-either true command rest h = end-most
-  within-either false command rest h = h
-
-  among-within : (rows : List CommandRow) → commandAmong text start end rows .next .at ≤ length text
+  among-cursor : (rows : List CommandRow) → P (commandAmong text start end rows .next)
   unfolding commandAmong
-  among-within [] = token-start-most text at p
-  among-within (row ∷ rows) =
-      within-either (isWord text start end (nameText (row .0))) (row .1) _ (among-within rows)
+  among-cursor [] = broken
+  among-cursor (row ∷ rows) = either (isWord text start end (nameText (row .0))) (row .1) _ (among-cursor rows)
 
-  pub command-within : commandAfter text at .next .at ≤ length text
+  pub command-cursor : P (commandAfter text at .next)
   unfolding commandAfter
-  command-within = within-either (eqb start (length text)) End _ (among-within commandRows)
+  command-cursor = either (eqb start (length text)) End _ (among-cursor commandRows)
+
+pub command-within : (text : List ℕ) (at : ℕ) → at ≤ length text → commandAfter text at .next .at ≤ length text
+command-within text at p =
+    let start = token-start-most text at p in
+    command-cursor text at (λ cursor. cursor .at ≤ length text) (token-end-most text (tokenStart text at) start) start
