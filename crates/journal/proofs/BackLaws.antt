@@ -39,7 +39,7 @@ shownTest (Length longest) name = plainTest (nameText name)
 unfoldable pub namesPlain : List Part → Bool
 namesPlain form = allBelow partCount (λ k. shownTest (partAt form k .1) (partAt form k .0))
 
-plain-of : (name : List ℕ) → plainTest name ≡ true → Plain name
+pub plain-of : (name : List ℕ) → plainTest name ≡ true → Plain name
 unfolding plainTest
 plain-of name h =
     record {
@@ -63,7 +63,7 @@ list-tail name signed number words tail =
     ∙ append-assoc (nameText name) (word number) (wordsBy signed words ++ tail))
 
 -- a part's text ends the token before it, where what stands after it does
-part-ends : (part : Part) (held : Held) (tail : List ℕ) → Ends tail → Ends (partText part held ++ tail)
+pub part-ends : (part : Part) (held : Held) (tail : List ℕ) → Ends tail → Ends (partText part held ++ tail)
 unfolding partText wordBy
 part-ends part held tail e = go (part .1)
   where

@@ -9,3 +9,4 @@ pub mod CommandLaws
 pub mod DecimalLaws
 pub mod StandsLaws
 pub mod BackLaws
+pub mod SizeLaws

@@ -1,0 +1,63 @@
+-- How long the text of a form is at most. Assumes nothing.
+use mathlib.Core.Path.{_≡_}
+use mathlib.Core.Bool.{Bool, true, false}
+use mathlib.Core.List.{List, [], _∷_, _++_}
+use Prim.Native.Nat.{ℕ, zero, suc, _+_, _*_, _≤_, _<_}
+use native.Mathlib.Omega.{arith}
+use lib.Dec.{leb}
+use lib.ListN.{length, length-append}
+use borrow.Author.Tests.{leb-true}
+use Rattle.numbers.specs.Bounded.{allBelow}
+use Rattle.numbers.proofs.TestLaws.{all-at}
+use Rattle.text.specs.Text.{nameText, word, wordsBy}
+use Rattle.text.proofs.SizeLaws.{name-size, word-size, words-size, texts-size-below}
+use Rattle.journal.specs.Form.{partCount, partAt, Held, heldIn, listText, partTextBy, partText, formText}
+use Rattle.journal.specs.declared.form.Kind.{Kind}
+use Rattle.journal.specs.declared.form.Kind.the-variants.{Nothing, Number, List as Words, Signed, Length}
+use Rattle.journal.specs.declared.form.Part.{Part}
+
+part-size : (part : Part) (held : Held) → length (part .0) ≤ 12 →
+    length (partText part held) ≤ 34 + length (held .words) * 22
+unfolding partText listText
+part-size part held p = go (part .1)
+  where
+    line : (signed : Bool) →
+        length (listText (part .0) signed (held .number) (held .words)) ≤ 34 + length (held .words) * 22
+    line signed =
+        rw (length-append, length-append)
+        (omega (arith, name-size (part .0), word-size (held .number), words-size signed (held .words)))
+
+    go : (kind : Kind) → length (partTextBy kind (part .0) held) ≤ 34 + length (held .words) * 22
+    go Nothing = omega arith
+    go (Number most) = omega (arith, word-size (held .number))
+    go (Words longest most) = line false
+    go (Signed longest) = line true
+    go (Length longest) = line false
+
+-- words of every part, none of more than the most
+abbrev pub AllShort : ℕ → List Held → Type 0
+AllShort most [] = Unit
+AllShort most (held ∷ parts) = (length (held .words) ≤ most) × AllShort most parts
+
+short-at : (most : ℕ) (parts : List Held) → AllShort most parts → (k : ℕ) → length (heldIn parts k .words) ≤ most
+short-at most [] s k = omega arith
+short-at most (held ∷ parts) s zero = s .0
+short-at most (held ∷ parts) s (suc k) = short-at most parts (s .1) k
+
+pub form-size : (name : List ℕ) (form : List Part) (parts : List Held) (most : ℕ) → length name ≤ 12 →
+    allBelow partCount (λ k. leb (length (partAt form k .0)) 12) ≡ true → AllShort most parts →
+    length (formText name form parts) ≤ 421 + most * 264
+unfolding formText
+form-size name form parts most p names s =
+    rw (length-append, length-append)
+    (omega (
+      arith,
+      name-size name,
+      texts-size-below partCount (34 + most * 22) (λ k. partText (partAt form k) (heldIn parts k))
+          (λ k q. omega (
+            arith,
+            part-size (partAt form k) (heldIn parts k)
+                (leb-true _ 12 (all-at partCount (λ j. leb (length (partAt form j .0)) 12) names k q)),
+            short-at most parts s k,
+          )),
+    ))
