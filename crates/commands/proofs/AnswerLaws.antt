@@ -7,12 +7,14 @@ use Prim.Native.Nat.{ℕ, _+_, _*_, _≤_, _<_}
 use native.Mathlib.Omega.{arith}
 use lib.ListN.{length, length-append}
 use lib.Dec.{eqb}
-use Rattle.numbers.specs.Bounded.{sumBelow}
+use Rattle.numbers.specs.Bounded.{sumBelow, listBelow}
 use Rattle.numbers.specs.Refusal.{verdictAnswered}
+use Rattle.numbers.specs.Sizes.{mostDistributors}
+use Rattle.settlement.specs.Month.{moneyAt}
 use Rattle.text.specs.Text.{bytes}
 use Rattle.text.specs.Buffer.{bufferOf}
 use Rattle.text.proofs.BufferLaws.{Stands, text-stands}
-use Rattle.journal.specs.Form.{Held, partCount, placeOf, formAfter, formParts, bufferParts, FormFollows}
+use Rattle.journal.specs.Form.{Held, heldIn, partCount, placeOf, formAfter, formParts, bufferParts, FormFollows}
 use Rattle.journal.specs.Command.{commandForm, commandAfter}
 use Rattle.journal.specs.declared.cursor.Cursor.{Cursor}
 use Rattle.journal.specs.declared.form.FormRead.{FormRead}
@@ -51,7 +53,9 @@ form-room End = omega arith
 answer-fits : (command : Command) (parts : List Held) (ledger : Ledger) →
     length (commandAnswer command parts ledger) ≤ longestAnswer
 unfolding openingText fixingText settlementText loadingText
-answer-fits Open parts ledger = omega (arith, outcome-size (bytes "open        ") _ (omega arith))
+answer-fits Open parts ledger =
+    let number = verdictAnswered [] (openingVerdict (heldIn parts 0 .number)) .number in
+    omega (arith, outcome-size (bytes "open        ") number (omega arith))
 answer-fits Fix parts ledger =
     let answer = fixingAnswer ledger (fixingCall parts) in
     omega (
@@ -64,7 +68,8 @@ answer-fits Settle parts ledger =
     let number = verdictAnswered [] (settlementVerdict ledger call) .number in
     omega (
       arith,
-      answer-size (outcomeLine (bytes "settle      ") number) (eqb number 0) (settlementList ledger call) 1 _
+      answer-size (outcomeLine (bytes "settle      ") number) (eqb number 0) (settlementList ledger call) 1
+          (listBelow mostDistributors (moneyAt (settlementLedger ledger call .balances)))
           (outcome-size (bytes "settle      ") number (omega arith)),
     )
 answer-fits Save parts ledger = saving-size ledger

@@ -10,12 +10,12 @@ use mir.Syntax.{w64}
 use mir.Val.{SFits}
 use borrow.Author.Tests.{ne-eqb}
 use Rattle.numbers.specs.Bounded.{allBelow, listBelow}
-use Rattle.numbers.specs.Sizes.{mostDistributors, sectorPlaces}
+use Rattle.numbers.specs.Sizes.{mostDistributors, sectorCount, sectorPlaces}
 use Rattle.settlement.specs.Month.{moneyAt}
 use Rattle.ledger.specs.Ledger.{emptyLedger}
 use Rattle.ledger.specs.Sound.{chargeIn}
 use Rattle.ledger.specs.declared.ledger.Ledger.{Ledger}
-use Rattle.store.specs.Store.{keptCount, ledgerParts, loadedLedger}
+use Rattle.store.specs.Store.{presentWords, chargeWords, balanceWords, keptCount, ledgerParts, loadedLedger}
 use Rattle.store.proofs.StoreLaws.{kept-most, loaded-back, parts-taken, parts-whole}
 use Rattle.text.specs.Text.{bytes, lineEnd, nameText, textBelow}
 use Rattle.journal.specs.Token.{isBlank, endsToken}
@@ -28,6 +28,7 @@ use Rattle.journal.specs.declared.command.Command.the-variants.{Load, End}
 use Rattle.journal.proofs.TextLaws.{line-gap, gap-ends, Ends, Plain, place-within, start-same, end-same, start-none, end-none}
 use Rattle.journal.proofs.StandsLaws.{Ahead, texts-ends}
 use Rattle.journal.proofs.CommandLaws.{commandRead, command-none, command-some}
+use Rattle.journal.proofs.FormLaws.{each-part}
 use Rattle.journal.proofs.SizeLaws.{form-size}
 use Rattle.journal.proofs.BackLaws.{namesPlain, plainTest, plain-of, part-ends, form-back}
 use Rattle.commands.specs.Replay.{savingText, stepAfter, readWith, replayFrom, replayed}
@@ -53,14 +54,16 @@ pub saving-size : (ledger : Ledger) → length (savingText ledger) ≤ 262144
 unfolding savingText ledgerParts allBelow
 saving-size ledger =
     let few : keptCount ledger ≤ mostDistributors = kept-most ledger in
+    let places : ℕ = keptCount ledger * sectorCount in
     let short : (n : ℕ) (l : List ℕ) → n ≤ 320 → length (take n l) ≤ 320 = λ n l p. rw length-take (omega arith) in
     let none : 0 ≤ 320 = omega arith in
     omega (
       arith,
-      form-size (bytes "load        ") loadForm (ledgerParts ledger) 320 (omega arith) refl (
-        none, none, none, none, none, short _ _ (omega arith), short _ _ (omega arith), short _ _ (omega arith),
-        none, none, none, none, tt,
-      ),
+      form-size (bytes "load        ") loadForm (ledgerParts ledger) 320 (omega arith) refl
+          (each-part (λ k. length (heldIn (ledgerParts ledger) k .words) ≤ 320) none none none none none
+          (short places (presentWords (ledger .force)) (omega (arith, few)))
+          (short places (chargeWords (ledger .force)) (omega (arith, few)))
+          (short (keptCount ledger) (balanceWords (ledger .balances)) (omega (arith, few))) none none none none),
     )
 
 load-plain : Plain loadName
@@ -105,7 +108,8 @@ module _ (ledger : Ledger) (m : MachineLedger ledger) where
 
   saved-text : savingText ledger ≡ loadName ++ partsText
   unfolding savingText formText nameText
-  saved-text = append-assoc loadName _ (lineEnd ∷ [])
+  saved-text =
+      append-assoc loadName (textBelow partCount (λ k. partText (partAt loadForm k) (heldIn parts k))) (lineEnd ∷ [])
 
   line-ends : Ends (lineEnd ∷ [])
   line-ends = gap-ends lineEnd [] line-gap

@@ -18,6 +18,7 @@ use supply::market::FixingNumbers;
 
 // Where the second and the third list of a call stand in the words.
 const SECOND: usize = LONGEST_LIST as usize;
+
 const THIRD: usize = SECOND + SECOND;
 
 // A lent list before its call.
@@ -32,7 +33,12 @@ fn lend(list: &mut [i64])
 }
 
 // Makes a fixing.
-pub(crate) fn make_fixing(ledger: Ledger, numbers: [u64; PARTS], words: &[u64], prices: &mut [i64]) -> FixingOutcome
+pub(crate) fn make_fixing(
+    ledger: Ledger,
+    numbers: [u64; PARTS],
+    words: &[u64],
+    prices: &mut [i64],
+) -> FixingOutcome
     requires { ⌜ FormHeld fixForm numbers (length (now words)) ⌝ ∗ ⌜ length (now prices) ≡ getD numbers 7 0 ⌝ }
     ensures { λ r. ⌜ FixingPromise ledger (fixingCall (bufferParts fixForm numbers (now (words .entry))))
         (r .answer) (r .ledger) (now (prices .exit)) ⌝ }
@@ -71,5 +77,11 @@ pub(crate) fn make_settlement(
     lend(transfers);
     let readings = numbers[1] as usize;
     let losses = SECOND + numbers[2] as usize;
-    settle(ledger, numbers[0], &words[..readings], &words[SECOND..losses], transfers)
+    settle(
+        ledger,
+        numbers[0],
+        &words[..readings],
+        &words[SECOND..losses],
+        transfers,
+    )
 }

@@ -289,3 +289,10 @@ module _ (form : List Part) (numbers words : List ℕ) where
 
     pub buffer-fits : placeOf form k + countOf (partAt form k) (getD numbers k 0) ≤ length words
     buffer-fits = omega (arith, buffer-room, count-room (partAt form k) (getD numbers k 0) (h .bounded k p))
+
+-- what is said of each of the twelve parts
+pub each-part : (P : ℕ → Type 0) → P 0 → P 1 → P 2 → P 3 → P 4 → P 5 → P 6 → P 7 → P 8 → P 9 → P 10 → P 11 →
+    (k : ℕ) → k < partCount → P k
+each-part P a b c d e f g h i j k l =
+    by-last 11 P (by-last 10 P (by-last 9 P (by-last 8 P (by-last 7 P (by-last 6 P (by-last 5 P (by-last 4 P
+    (by-last 3 P (by-last 2 P (by-last 1 P (by-last 0 P (λ m p. absurd (omega arith)) a) b) c) d) e) f) g) h) i) j) k) l

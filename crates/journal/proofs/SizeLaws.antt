@@ -2,7 +2,7 @@
 use mathlib.Core.Path.{_≡_}
 use mathlib.Core.Bool.{Bool, true, false}
 use mathlib.Core.List.{List, [], _∷_, _++_}
-use Prim.Native.Nat.{ℕ, zero, suc, _+_, _*_, _≤_, _<_}
+use Prim.Native.Nat.{ℕ, _+_, _*_, _≤_, _<_}
 use native.Mathlib.Omega.{arith}
 use lib.Dec.{leb}
 use lib.ListN.{length, length-append}
@@ -34,18 +34,9 @@ part-size part held p = go (part .1)
     go (Signed longest) = line true
     go (Length longest) = line false
 
--- words of every part, none of more than the most
-abbrev pub AllShort : ℕ → List Held → Type 0
-AllShort most [] = Unit
-AllShort most (held ∷ parts) = (length (held .words) ≤ most) × AllShort most parts
-
-short-at : (most : ℕ) (parts : List Held) → AllShort most parts → (k : ℕ) → length (heldIn parts k .words) ≤ most
-short-at most [] s k = omega arith
-short-at most (held ∷ parts) s zero = s .0
-short-at most (held ∷ parts) s (suc k) = short-at most parts (s .1) k
-
 pub form-size : (name : List ℕ) (form : List Part) (parts : List Held) (most : ℕ) → length name ≤ 12 →
-    allBelow partCount (λ k. leb (length (partAt form k .0)) 12) ≡ true → AllShort most parts →
+    allBelow partCount (λ k. leb (length (partAt form k .0)) 12) ≡ true →
+    ((k : ℕ) → k < partCount → length (heldIn parts k .words) ≤ most) →
     length (formText name form parts) ≤ 421 + most * 264
 unfolding formText
 form-size name form parts most p names s =
@@ -58,6 +49,6 @@ form-size name form parts most p names s =
             arith,
             part-size (partAt form k) (heldIn parts k)
                 (leb-true _ 12 (all-at partCount (λ j. leb (length (partAt form j .0)) 12) names k q)),
-            short-at most parts s k,
+            s k q,
           )),
     ))

@@ -1,11 +1,8 @@
 // A ledger as the parts of its form: presences, charges and balances of its distributors, or all where a word past them
 // is not zero.
 ghost use mathlib.Core.Path.{_≡_};
-ghost use Prim.Native.Nat.{_≤_};
 ghost use lib.ListN.{length};
 ghost use Rattle.numbers.specs.Sizes.{mostDistributors, sectorPlaces};
-ghost use Rattle.journal.specs.Form.{FormHeld, bufferParts};
-ghost use Rattle.journal.specs.Command.{loadForm};
 ghost use Rattle.store.specs.Store.{truthWord, zeroPast, keptAmong, presentWords, chargeWords, balanceWords};
 ghost use Rattle.store.specs.Store.{keptWords, Saved};
 use fixing::sector::SectorCharges;
@@ -108,11 +105,12 @@ pub fn save(ledger: Ledger, words: &mut [u64]) -> [u64; PARTS]
     save_present(force, &mut words[..PLACES]);
     save_charges(force, &mut words[PLACES..BALANCES]);
     save_balances(balances, &mut words[BALANCES..KEPT_WORDS]);
+    let saved = &words[..];
     let kept = kept_among(
         ledger.n,
-        &words[..PLACES],
-        &words[PLACES..BALANCES],
-        &words[BALANCES..KEPT_WORDS],
+        &saved[..PLACES],
+        &saved[PLACES..BALANCES],
+        &saved[BALANCES..KEPT_WORDS],
     );
     let places = (kept * SECTORS) as u64;
     [

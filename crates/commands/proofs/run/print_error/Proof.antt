@@ -4,19 +4,22 @@ use mathlib.Core.List.{[]}
 use native.Mathlib.Omega.{arith}
 use lib.Seq.{length-take-le}
 use Rattle.text.specs.Buffer.{bufferOf}
+use Rattle.text.specs.Line.{lineText}
 use Rattle.text.proofs.BufferLaws.{Stands, text-stands}
-use Rattle.answers.specs.Answer.{errorText}
+use Rattle.answers.specs.Answer.{errorLine}
 use Rattle.answers.proofs.SizeLaws.{error-size}
 use borrow.Author.Needs.{needs}
 use Rattle.commands.proofs.run.print_error.Statement.{statement}
 use Rattle.commands.proofs.run.print_error.Tie as tie
 
 -- the line stands in the buffer
-stands : (d : tie.After-write-error) →
-    Stands [] (errorText (d .before .before .before .args .next .at))
-    (bufferOf (d .write-error .last .0) (d .write-error .result))
+stands : (d : tie.After-write-line) →
+    Stands [] (lineText (errorLine (d .before .before .before .before .args .next .at)))
+    (bufferOf (d .write-line .last .0) (d .write-line .result))
 stands d =
-    let e = d .before .before in rw (d .write-error .ensures)
+    let l = d .before in
+    let e = l .before .before in
+    rw (d .write-line .ensures, l .error-line .ensures)
     (text-stands _ (e .buffer .result) 0 (omega (arith, error-size (e .before .args .next .at), e .buffer .ensures)))
 
 array-share-prefix-buffer : tie.Need-array-share-prefix-buffer
@@ -29,7 +32,7 @@ pub print-error-spec : {M : Type 1} → statement M
 print-error-spec =
     tie.close
     (tie.spec
-    (λ c κs. search needs) (λ c. search needs) (λ c κs. search needs)
+    (λ c κs. search needs) (λ c. search needs) (λ c κs. search needs) (λ c κs. search needs)
     array-share-prefix-buffer
     slice-aggregate-write-all
     (λ c κs. search needs) (λ c. search needs))
