@@ -1,11 +1,11 @@
 -- Laws of a command's answer: it fits into the buffer, and it is the answer of the command that was read.
 -- Assumes nothing.
-use mathlib.Core.Path.{_≡_, refl, sym, _∙_, ap}
+use mathlib.Core.Path.{_≡_, refl}
 use mathlib.Core.Bool.{true, false}
-use mathlib.Core.List.{List, [], _∷_, _++_}
-use Prim.Native.Nat.{ℕ, _+_, _*_, _≤_, _<_}
+use mathlib.Core.List.{List, []}
+use Prim.Native.Nat.{ℕ, _≤_}
 use native.Mathlib.Omega.{arith}
-use lib.ListN.{length, length-append}
+use lib.ListN.{length}
 use lib.Dec.{eqb}
 use Rattle.numbers.specs.Bounded.{sumBelow, listBelow}
 use Rattle.numbers.specs.Refusal.{verdictAnswered}
@@ -14,10 +14,9 @@ use Rattle.settlement.specs.Month.{moneyAt}
 use Rattle.text.specs.Text.{bytes}
 use Rattle.text.specs.Buffer.{bufferOf}
 use Rattle.text.proofs.BufferLaws.{Stands, text-stands}
-use Rattle.journal.specs.Form.{Held, heldIn, partCount, placeOf, formAfter, formParts, bufferParts, FormFollows}
+use Rattle.journal.specs.Form.{Held, heldIn, partCount, placeOf, formAfter, formParts}
 use Rattle.journal.specs.Command.{commandForm, commandAfter}
 use Rattle.journal.specs.declared.cursor.Cursor.{Cursor}
-use Rattle.journal.specs.declared.form.FormRead.{FormRead}
 use Rattle.journal.specs.declared.command.Command.{Command}
 use Rattle.journal.specs.declared.command.Command.the-variants.{Open, Fix, Settle, Save, Load, Unknown, End}
 use Rattle.journal.specs.declared.command.CommandRead.{CommandRead}
@@ -27,8 +26,9 @@ use Rattle.ledger.specs.Settle.{settlementVerdict, settlementLedger, settlement
 use Rattle.ledger.specs.declared.ledger.Ledger.{Ledger}
 use Rattle.answers.specs.Answer.{outcomeLine, fixingLine}
 use Rattle.answers.proofs.SizeLaws.{outcome-size, fixing-line-size, answer-size}
-use Rattle.commands.specs.Replay.{fixingCall, settlementCall, openingText, fixingText, settlementText, loadingText}
-use Rattle.commands.specs.Replay.{commandLedger, commandAnswer, wordRoom, stepOf, stepAfter, answerOf}
+use Rattle.commands.specs.Replay.{fixingCall, settlementCall, openingText, fixingText, settlementText}
+use Rattle.commands.specs.Replay.{loadingText}
+use Rattle.commands.specs.Replay.{commandLedger, commandAnswer, wordRoom, stepAfter, answerOf}
 use Rattle.commands.specs.Replay.{answerAfter, longestAnswer, CommandMade, CommandAnswered}
 use Rattle.commands.specs.declared.answer.Made.{Made}
 use Rattle.commands.specs.declared.run.CommandOutcome.{CommandOutcome}

@@ -1,9 +1,9 @@
 -- The parts of a form as a call is given them: numbers, and parts of the lent words. Assumes nothing.
-use mathlib.Core.Path.{_≡_, sym, ap₂}
+use mathlib.Core.Path.{_≡_, ap₂}
 use mathlib.Core.List.{List}
 use Prim.Native.Nat.{ℕ, _<_}
 use lib.ListN.{getD, take, drop}
-use Rattle.journal.specs.Form.{partCount, partAt, heldIn, heldOf, countOf, placeOf, bufferParts}
+use Rattle.journal.specs.Form.{partCount, partAt, heldIn, countOf, placeOf, bufferParts}
 use Rattle.journal.specs.declared.form.Part.{Part}
 use Rattle.journal.proofs.FormLaws.{buffer-at}
 

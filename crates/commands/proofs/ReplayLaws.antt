@@ -15,7 +15,6 @@ use Rattle.journal.specs.Cursor.{brokenAt, Onward}
 use Rattle.journal.specs.Form.{partCount, formAfter, formParts}
 use Rattle.journal.specs.Command.{commandForm, commandAfter}
 use Rattle.journal.specs.declared.cursor.Cursor.{Cursor}
-use Rattle.journal.specs.declared.command.Command.{Command}
 use Rattle.journal.specs.declared.command.CommandRead.{CommandRead}
 use Rattle.journal.proofs.TokenLaws.{token-start-least, token-start-most, token-end-least, token-some}
 use Rattle.journal.proofs.CursorLaws.{onward-same}

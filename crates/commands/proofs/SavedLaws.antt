@@ -2,13 +2,12 @@
 use mathlib.Core.Path.{_≡_, refl, sym, _∙_, ap}
 use mathlib.Core.Bool.{true}
 use mathlib.Core.List.{List, [], _∷_, _++_, append-assoc}
-use Prim.Native.Nat.{ℕ, _+_, _*_, _-_, _^_, _<_, _≤_}
+use Prim.Native.Nat.{ℕ, _*_, _-_, _^_, _<_, _≤_}
 use native.Mathlib.Nat.{sub-zero}
 use native.Mathlib.Omega.{arith}
 use lib.ListN.{length, take, drop, length-take}
 use mir.Syntax.{w64}
 use mir.Val.{SFits}
-use borrow.Author.Tests.{ne-eqb}
 use Rattle.numbers.specs.Bounded.{allBelow, listBelow}
 use Rattle.numbers.specs.Sizes.{mostDistributors, sectorCount, sectorPlaces}
 use Rattle.settlement.specs.Month.{moneyAt}
@@ -25,7 +24,8 @@ use Rattle.journal.specs.Form.{partCount, partAt, Held, heldIn, partAfter, form
 use Rattle.journal.specs.Command.{loadForm, emptyForm, commandRows, commandAmong, commandAfter}
 use Rattle.journal.specs.declared.cursor.Cursor.{Cursor}
 use Rattle.journal.specs.declared.command.Command.the-variants.{Load, End}
-use Rattle.journal.proofs.TextLaws.{line-gap, gap-ends, Ends, Plain, place-within, start-same, end-same, start-none, end-none}
+use Rattle.journal.proofs.TextLaws.{line-gap, gap-ends, Ends, Plain, place-within, start-same, end-same, start-none}
+use Rattle.journal.proofs.TextLaws.{end-none}
 use Rattle.journal.proofs.StandsLaws.{Ahead, texts-ends}
 use Rattle.journal.proofs.CommandLaws.{commandRead, command-none, command-some}
 use Rattle.journal.proofs.FormLaws.{each-part}

@@ -2,8 +2,8 @@
 -- Assumes nothing.
 use mathlib.Core.Path.{_≡_, refl, sym, _∙_, ap, ap₂}
 use mathlib.Core.Bool.{Bool, true, false, not, _&&_}
-use mathlib.Core.List.{List, [], _∷_, _++_, append-assoc, append-nil}
-use Prim.Native.Nat.{ℕ, zero, suc, _≤_, _<_}
+use mathlib.Core.List.{List, [], _∷_, _++_, append-assoc}
+use Prim.Native.Nat.{ℕ, _≤_, _<_}
 use native.Mathlib.Omega.{arith}
 use lib.Dec.{ltb}
 use lib.ListN.{length, getD}
@@ -15,6 +15,7 @@ use Rattle.numbers.proofs.ListLaws.{list-same}
 use Rattle.text.specs.Text.{lineEnd, word, wordBy, wordsBy, textBelow, nameText}
 use Rattle.journal.specs.Token.{byteAt, endsToken}
 use Rattle.journal.specs.Cursor.{mostWord}
+use Rattle.journal.specs.List.{listAfter, listWords}
 use Rattle.journal.specs.Form.{partCount, partAt, Held, heldOf, heldIn, boundBy, countBy, greatestBy, partBy}
 use Rattle.journal.specs.Form.{partAfter, formAfter, heldAt, formParts, Takes, listText, partTextBy, partText}
 use Rattle.journal.specs.declared.cursor.Cursor.{Cursor}
@@ -54,8 +55,8 @@ no-words (x ∷ words) e = absurd (omega arith)
 
 -- a list's text with what stands after it
 list-tail : (name : List ℕ) (signed : Bool) (number : ℕ) (words tail : List ℕ) →
-    listText name signed number words ++ tail ≡ lineEnd ∷ (nameText name ++ (wordBy false number ++ (wordsBy signed words
-    ++ tail)))
+    listText name signed number words ++ tail ≡ lineEnd ∷ (nameText name ++ (wordBy false number
+    ++ (wordsBy signed words ++ tail)))
 unfolding listText wordBy
 list-tail name signed number words tail =
     ap (λ (text : List ℕ). lineEnd ∷ text)
@@ -85,6 +86,22 @@ none-tail e = rw e refl
 module _ (held : Held) (name text : List ℕ) (cursor : Cursor) (tail : List ℕ) (e : Ends tail)
     (short : held .number ≤ mostWord)
     (small : (i : ℕ) → i < length (held .words) → getD (held .words) i 0 ≤ mostWord) where
+  list-back : (longest : ℕ) (signed : Bool) (most : ℕ) → plainTest (nameText name) ≡ true → held .number ≤ longest →
+      length (held .words) ≡ held .number →
+      ((i : ℕ) → i < length (held .words) → getD (held .words) i 0 ≤ most) →
+      Ahead text cursor (listText name signed (held .number) (held .words) ++ tail) →
+      (heldOf (listAfter text cursor (nameText name) longest signed most .value)
+      (listWords text cursor (nameText name) longest signed most) ≡ held) × Ahead text
+      (listAfter text cursor (nameText name) longest signed most .next) tail
+  list-back longest signed most s b count w a =
+      let read = list-stands text cursor (nameText name) (plain-of (nameText name) s) longest signed most (held .words)
+      tail (rw count b) (rw count short) w small e
+      (record {
+        whole = a .whole;
+        after = rw count (a .after ∙ list-tail name signed (held .number) (held .words) tail);
+      }) in
+      (ap₂ heldOf (read .count ∙ count) (read .words), read .next)
+
   part-back : (kind : Kind) → shownTest kind name ≡ true → held .number ≤ boundBy kind →
       length (held .words) ≡ countBy kind (held .number) →
       ((i : ℕ) → i < length (held .words) → getD (held .words) i 0 ≤ greatestBy kind) →
@@ -92,26 +109,16 @@ module _ (held : Held) (name text : List ℕ) (cursor : Cursor) (tail : List ℕ
       (partBy kind (nameText name) text cursor .held ≡ held) × Ahead text
       (partBy kind (nameText name) text cursor .next) tail
   unfolding wordBy
-  part-back Nothing s b c w a =
-      (ap₂ heldOf (omega (arith, b)) (sym (no-words (held .words) c)), a)
+  part-back Nothing s b c w a = (ap₂ heldOf (omega (arith, b)) (sym (no-words (held .words) c)), a)
   part-back (Number most) s b c w a =
       let read = number-stands text cursor false (held .number) most tail b short e a in
       (ap₂ heldOf (read .value) (sym (no-words (held .words) c)), read .next)
-  part-back (Words longest most) s b c w a =
-      let count : length (held .words) ≡ held .number = c in
-      let read = list-stands text cursor (nameText name) (plain-of (nameText name) s) longest false most (held .words) tail (rw count b)
-      (rw count short) w small e
-      (record { whole = a .whole; after = rw count (a .after ∙ list-tail name false (held .number) (held .words) tail) }) in
-      (ap₂ heldOf (read .count ∙ count) (read .words), read .next)
-  part-back (Signed longest) s b c w a =
-      let count : length (held .words) ≡ held .number = c in
-      let read = list-stands text cursor (nameText name) (plain-of (nameText name) s) longest true mostWord (held .words) tail (rw count b)
-      (rw count short) w small e
-      (record { whole = a .whole; after = rw count (a .after ∙ list-tail name true (held .number) (held .words) tail) }) in
-      (ap₂ heldOf (read .count ∙ count) (read .words), read .next)
+  part-back (Words longest most) s b c w a = list-back longest false most s b c w a
+  part-back (Signed longest) s b c w a = list-back longest true mostWord s b c w a
   part-back (Length longest) s b c w a =
       let none : held .words ≡ [] = no-words (held .words) c in
-      let read = count-stands text cursor (nameText name) (plain-of (nameText name) s) longest (held .number) tail b short e
+      let read = count-stands text cursor (nameText name) (plain-of (nameText name) s) longest (held .number) tail b
+      short e
       (record {
         whole = a .whole;
         after = a .after ∙ list-tail name false (held .number) (held .words) tail
@@ -121,7 +128,8 @@ module _ (held : Held) (name text : List ℕ) (cursor : Cursor) (tail : List ℕ
 
 -- the parts of a form that stand in a text are read as what they hold
 module _ (form : List Part) (parts : List Held) (text : List ℕ) (cursor : Cursor) (tail : List ℕ) where
-  pub form-back : namesPlain form ≡ true → ((k : ℕ) → k < partCount → Takes (partAt form k) (heldIn parts k)) → Ends tail →
+  pub form-back : namesPlain form ≡ true → ((k : ℕ) → k < partCount → Takes (partAt form k) (heldIn parts k)) →
+      Ends tail →
       Ahead text cursor (textBelow partCount (λ k. partText (partAt form k) (heldIn parts k)) ++ tail) →
       (formParts form text cursor ≡ listBelow partCount (heldIn parts)) × Ahead text
       (formAfter partCount form text cursor) tail

@@ -1,6 +1,6 @@
 -- Laws of the commands' names: a token's command is by a row, or by one after it, and the next command's cursor lies
 -- within the text. Assumes nothing.
-use mathlib.Core.Path.{_≡_, refl, sym, _∙_}
+use mathlib.Core.Path.{_≡_}
 use mathlib.Core.Bool.{Bool, true, false, cond}
 use mathlib.Core.List.{List, [], _∷_}
 use Prim.Native.Nat.{ℕ, _+_, _≤_, _<_}

@@ -2,7 +2,7 @@
 -- Assumes nothing.
 use mathlib.Core.Path.{_≡_, refl, sym, _∙_, ap}
 use mathlib.Core.Bool.{Bool, true, false}
-use mathlib.Core.List.{List, [], _∷_, _++_, append-assoc}
+use mathlib.Core.List.{List, [], _++_, append-assoc}
 use Prim.Native.Nat.{ℕ, zero, suc, _+_, _-_, _≤_, _<_}
 use native.Mathlib.Numerals.{add-one}
 use native.Mathlib.Omega.{arith}
@@ -12,12 +12,12 @@ use borrow.Rule.Slice.PartMut.{putMid, mid-len, same-len-mid}
 use Rattle.numbers.proofs.BoolLaws.{by-last}
 use Rattle.numbers.proofs.SumLaws.{sum-step, sum-mono}
 use Rattle.numbers.proofs.ListLaws.{list-at, list-same, filled-none, filled-next, filled-at}
-use Rattle.numbers.specs.Bounded.{sumBelow, listBelow, filledBelow}
+use Rattle.numbers.specs.Bounded.{sumBelow, filledBelow}
 use Rattle.text.specs.Text.{nameText}
 use Rattle.journal.specs.Cursor.{numberAfter, mostWord, Onward}
 use Rattle.journal.specs.List.{countAfter, listAfter, listWords}
-use Rattle.journal.specs.Form.{partCount, partAt, heldOf, heldIn, boundBy, boundOf, countBy, countOf, roomOf, placeOf}
-use Rattle.journal.specs.Form.{partBy, partAfter}
+use Rattle.journal.specs.Form.{partCount, partAt, heldOf, heldIn, boundBy, boundOf, countBy, countOf, roomOf}
+use Rattle.journal.specs.Form.{placeOf, partBy, partAfter}
 use Rattle.journal.specs.Form.{formAfter, heldAt, formParts, bufferHeld, bufferParts, PartFollows}
 use Rattle.journal.specs.Form.{FormHeld, FormFollows}
 use Rattle.journal.specs.declared.cursor.Cursor.{Cursor}
@@ -61,23 +61,24 @@ module _ (part : Part) (text : List ℕ) (cursor : Cursor) (read : NumberRead) (
   -- a list into as many places as it may have words
   module _ (longest : ℕ) (signed : Bool) (most : ℕ) (left : List ℕ) (room : length found ≡ longest)
       (e : read ≡ listAfter text cursor (nameText (part .0)) (length found) signed most)
-      (w : left ≡ listWords text cursor (nameText (part .0)) (length found) signed most ++ drop (read .value) found) where
-    pub follows-list : part .1 ≡ Words longest most → signed ≡ false → PartFollows part text cursor read found left
-    unfolding partAfter
-    follows-list k s = record {
-      number = rw k (ap (λ r. r .value) (rw (room, s) at e));
-      next = rw k (ap (λ r. r .next) (rw (room, s) at e));
-      words = rw k (rw (room, s) at w);
-    }
+      (w : left ≡ listWords text cursor (nameText (part .0)) (length found) signed most ++ drop (read .value) found)
+    where
+      pub follows-list : part .1 ≡ Words longest most → signed ≡ false → PartFollows part text cursor read found left
+      unfolding partAfter
+      follows-list k s = record {
+        number = rw k (ap (λ r. r .value) (rw (room, s) at e));
+        next = rw k (ap (λ r. r .next) (rw (room, s) at e));
+        words = rw k (rw (room, s) at w);
+      }
 
-    pub follows-signed : part .1 ≡ Signed longest → signed ≡ true → most ≡ mostWord →
-        PartFollows part text cursor read found left
-    unfolding partAfter
-    follows-signed k s m = record {
-      number = rw k (ap (λ r. r .value) (rw (room, s, m) at e));
-      next = rw k (ap (λ r. r .next) (rw (room, s, m) at e));
-      words = rw k (rw (room, s, m) at w);
-    }
+      pub follows-signed : part .1 ≡ Signed longest → signed ≡ true → most ≡ mostWord →
+          PartFollows part text cursor read found left
+      unfolding partAfter
+      follows-signed k s m = record {
+        number = rw k (ap (λ r. r .value) (rw (room, s, m) at e));
+        next = rw k (ap (λ r. r .next) (rw (room, s, m) at e));
+        words = rw k (rw (room, s, m) at w);
+      }
 
 -- onward by a part
 then-part : {text : List ℕ} {cursor middle : Cursor} → Onward text cursor middle → (part : Part) →
@@ -181,8 +182,7 @@ follows-long part text cursor read found left f room =
     rw (room, f .number) (count-room part _ (part-bounded part text cursor)) in
     rw (f .words) (length-front found words (countOf part (read .value)) (count ∙ sym (length-take-le _ found few)))
 
--- the first k parts are read: the cursor after them, their numbers, and each list where the longest ones before it would
--- end
+-- the first k parts are read: the cursor after them, their numbers, and each list where the longest before it would end
 pub record FormSoFar (form : List Part) (text : List ℕ) (cursor : Cursor) (numbers words : List ℕ) (size : ℕ)
     (next : Cursor) (at k : ℕ) : Type 0 where
   pub most : k ≤ partCount

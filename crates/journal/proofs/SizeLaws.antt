@@ -1,7 +1,7 @@
 -- How long the text of a form is at most. Assumes nothing.
 use mathlib.Core.Path.{_≡_}
 use mathlib.Core.Bool.{Bool, true, false}
-use mathlib.Core.List.{List, [], _∷_, _++_}
+use mathlib.Core.List.{List}
 use Prim.Native.Nat.{ℕ, _+_, _*_, _≤_, _<_}
 use native.Mathlib.Omega.{arith}
 use lib.Dec.{leb}
@@ -9,7 +9,6 @@ use lib.ListN.{length, length-append}
 use borrow.Author.Tests.{leb-true}
 use Rattle.numbers.specs.Bounded.{allBelow}
 use Rattle.numbers.proofs.TestLaws.{all-at}
-use Rattle.text.specs.Text.{nameText, word, wordsBy}
 use Rattle.text.proofs.SizeLaws.{name-size, word-size, words-size, texts-size-below}
 use Rattle.journal.specs.Form.{partCount, partAt, Held, heldIn, listText, partTextBy, partText, formText}
 use Rattle.journal.specs.declared.form.Kind.{Kind}

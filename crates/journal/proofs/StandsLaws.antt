@@ -2,7 +2,7 @@
 use mathlib.Core.Path.{_≡_, refl, _∙_}
 use mathlib.Core.Bool.{Bool, true, false, cond}
 use mathlib.Core.List.{List, _∷_, _++_, append-assoc}
-use Prim.Native.Nat.{ℕ, zero, suc, _^_, _<_, _≤_}
+use Prim.Native.Nat.{ℕ, zero, suc, _<_, _≤_}
 use native.Mathlib.Omega.{arith}
 use lib.ListN.{length, getD, drop}
 use lib.Seq.{ext-getD}
@@ -17,7 +17,7 @@ use Rattle.journal.specs.List.{cursorAfter, numberAt, countAfter, listAf
 use Rattle.journal.specs.declared.cursor.Cursor.{Cursor}
 use Rattle.journal.specs.declared.cursor.NumberRead.{NumberRead}
 use Rattle.journal.proofs.CursorLaws.{number-small, word-after-same, number-after-token}
-use Rattle.journal.proofs.TextLaws.{Gap, blank-gap, line-gap, Ends, gap-ends, Plain, TokenStands, token-next}
+use Rattle.journal.proofs.TextLaws.{blank-gap, line-gap, Ends, gap-ends, Plain, TokenStands, token-next}
 use Rattle.journal.proofs.TextLaws.{token-after, token-word}
 use Rattle.journal.proofs.DecimalLaws.{text-token, text-in}
 

@@ -30,4 +30,5 @@ listAfter text cursor name longest signed most =
 -- its numbers
 unfoldable pub listWords : List ℕ → Cursor → List ℕ → ℕ → Bool → ℕ → List ℕ
 listWords text cursor name longest signed most =
-    let count = countAfter text cursor name longest in listBelow (count .value) (numberAt text (count .next) signed most)
+    let count = countAfter text cursor name longest in
+    listBelow (count .value) (numberAt text (count .next) signed most)

@@ -1,6 +1,6 @@
 -- What an accepted call passed: each check of its list. Assumes nothing.
-use mathlib.Core.Path.{_≡_, refl, sym, _∙_}
-use mathlib.Core.Bool.{Bool, true, false, cond, _&&_}
+use mathlib.Core.Path.{_≡_, sym, _∙_}
+use mathlib.Core.Bool.{true, _&&_}
 use Prim.Native.Nat.{ℕ, _*_, _%_, _≤_}
 use lib.Dec.{eqb}
 use lib.ListN.{length}
@@ -14,14 +14,12 @@ use Rattle.numbers.specs.declared.refusal.Refusal.the-variants.{PositionBeyond}
 use Rattle.numbers.specs.declared.refusal.Verdict.the-variants.{Passed}
 use Rattle.numbers.proofs.BoolLaws.{and-left, and-right, and-three}
 use Rattle.numbers.proofs.CheckLaws.{FirstPass, passed-test, verdict-from, all-passed, is-passed}
-use Rattle.numbers.proofs.ListLaws.{list-length}
 use Rattle.numbers.proofs.UnitLaws.{between-high}
 use Rattle.series.specs.Series.{wordCount}
 use Rattle.supply.specs.Line.{lineWords, mostLines, lineCount}
 use Rattle.fixing.specs.Limit.{InRange}
 use Rattle.fixing.specs.Input.{inputVerdict, inputDistributors}
 use Rattle.fixing.specs.Required.{RightLengths}
-use Rattle.fixing.specs.Fixing.{fixingOf}
 use Rattle.fixing.proofs.VerdictLaws.{input-range}
 use Rattle.settlement.specs.Amount.{billingInRange}
 use Rattle.settlement.specs.Settlement.{positionsInRange}
@@ -30,7 +28,6 @@ use Rattle.ledger.specs.Ledger.{anySettled, nextMonth, billedUnder}
 use Rattle.ledger.specs.Sound.{sound}
 use Rattle.ledger.specs.Turn.{fixingTurn}
 use Rattle.ledger.specs.Fix.{FixingCall, linesWhole, fixingLengths, callLengths, fixingChecks, fixingVerdict}
-use Rattle.ledger.specs.Fix.{priceList, fixingList}
 use Rattle.ledger.specs.Settle.{SettlementCall, settlementChecks, settlementVerdict, positionsOf}
 use Rattle.ledger.specs.Required.{Due}
 use Rattle.ledger.specs.declared.ledger.Ledger.{Ledger}
@@ -70,20 +67,6 @@ length-parts n call h =
     let prices = eqb (length (call .prices)) (n * 3) in
     let three = and-three series lines sectors (and-left (series && lines && sectors) prices h) in
     (three .0, three .1, three .2, and-right (series && lines && sectors) prices h)
-
--- the list of a fixing is as long as the list lent
-pub fixing-list-length : (ledger : Ledger) (call : FixingCall) → length (fixingList ledger call) ≡ length (call .prices)
-unfolding fixingList priceList
-fixing-list-length ledger call = kept (isPassed (fixingVerdict ledger call)) refl
-  where
-    kept : (b : Bool) → isPassed (fixingVerdict ledger call) ≡ b →
-        length (cond b (priceList (ledger .n) (fixingOf (ledger .n) (call .input))) (call .prices)) ≡ length
-        (call .prices)
-    kept true e =
-        list-length _ (ledger .n * 3) ∙ sym
-        (eqb-true (length (call .prices)) (ledger .n * 3)
-        (length-parts (ledger .n) call (fixing-passed ledger call e .lengths) .3))
-    kept false e = refl
 
 -- the lengths as facts
 pub right-lengths : (n : ℕ) (call : FixingCall) → 1 ≤ n → n ≤ mostDistributors → callLengths n call ≡ true →

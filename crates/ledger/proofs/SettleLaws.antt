@@ -1,7 +1,7 @@
 -- Laws of the open call of settlement: what a month that is due is worked from, and what is promised where the call
 -- refuses and where it settles. Assumes nothing.
 use mathlib.Core.Path.{_≡_, refl, sym, _∙_, ap}
-use mathlib.Core.Bool.{Bool, true, false, cond}
+use mathlib.Core.Bool.{true, false}
 use mathlib.Core.List.{List, []}
 use Prim.Native.Nat.{_*_}
 use lib.Dec.{eqb}
@@ -10,7 +10,6 @@ use lib.IntN.{ℤ}
 use borrow.Author.Tests.{eqb-true}
 use Rattle.numbers.specs.Bounded.{listBelow}
 use Rattle.numbers.specs.Checks.{verdictOf}
-use Rattle.numbers.specs.Refusal.{isPassed}
 use Rattle.numbers.specs.declared.refusal.Refusal.{Refusal}
 use Rattle.numbers.specs.declared.refusal.Refusal.the-variants.{Unsound, WrongLength, OutOfTurn, NoFixing, WrongReading}
 use Rattle.numbers.specs.declared.refusal.Refusal.the-variants.{PositionBeyond}
@@ -18,7 +17,6 @@ use Rattle.numbers.specs.declared.refusal.Verdict.the-variants.{Passed, Refused
 use Rattle.numbers.specs.declared.units.Pesos.{Pesos}
 use Rattle.numbers.proofs.BoolLaws.{and-three}
 use Rattle.numbers.proofs.CheckLaws.{FirstPass, AllTold, passes, check-told, verdict-from, verdict-passed}
-use Rattle.numbers.proofs.ListLaws.{list-length}
 use Rattle.numbers.proofs.CheckLaws.{refused-unless, judged}
 use Rattle.settlement.specs.Amount.{billingInRange}
 use Rattle.settlement.specs.Required.{BillingLists, Billed}
@@ -35,7 +33,6 @@ use Rattle.ledger.specs.Required.{Due}
 use Rattle.ledger.specs.declared.ledger.Ledger.{Ledger}
 use Rattle.ledger.specs.declared.settle.SettlementOutcome.{SettlementOutcome}
 use Rattle.ledger.proofs.SoundLaws.{sound-few, sound-charges}
-use Rattle.ledger.proofs.CallLaws.{settlement-passed}
 
 module _ (ledger : Ledger) (call : SettlementCall) where
   -- every verdict has the number and values of the checks
@@ -155,16 +152,3 @@ module _ (ledger : Ledger) (call : SettlementCall) where
                 booked = q ∙ ap (λ (s : SettledMonth). settledLedger ledger (call .month) (s .balances)) month ∙ rw v;
                 listed = r ∙ ap (λ (s : SettledMonth). listBelow (ledger .n) (moneyAt (s .transfers))) month ∙ rw v;
               }
-
--- the list of a settlement is as long as the list lent
-pub settlement-list-length : (ledger : Ledger) (call : SettlementCall) →
-    length (settlementList ledger call) ≡ length (call .transfers)
-unfolding settlementList
-settlement-list-length ledger call = kept (isPassed (settlementVerdict ledger call)) refl
-  where
-    kept : (b : Bool) → isPassed (settlementVerdict ledger call) ≡ b →
-        length (cond b (listBelow (ledger .n) (moneyAt (settledMonth (ledger .n) (positionsOf ledger call) .transfers)))
-        (call .transfers)) ≡ length (call .transfers)
-    kept true e =
-        list-length _ (ledger .n) ∙ sym (transfers-length ledger call (settlement-passed ledger call e .due))
-    kept false e = refl

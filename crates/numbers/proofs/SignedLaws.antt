@@ -336,23 +336,8 @@ word-signed (pos n) f = signed-small n (f .sfits)
 word-signed (negsuc n) f =
     signed-large (2 ^ 64 - 1 - n) (omega (arith, f .sfits)) ∙ ap negsuc (omega (arith, f .sfits))
 
--- a word is found again from its number
-pub signed-word : (w : ℕ) → w < 2 ^ 64 → wordOf (signedOf w) ≡ w
-unfolding wordOf
-signed-word w h = go (decLt w (2 ^ 63))
-  where
-    go : Dec (w < 2 ^ 63) → wordOf (signedOf w) ≡ w
-    go (yes p) = ap wordOf (signed-small w p)
-    go (no p) = ap wordOf (signed-large w (omega arith)) ∙ omega arith
-
 -- the word of a number that fits in an i64 has 64 bits
 pub word-fits : (z : ℤ) → SFits w64 z → wordOf z < 2 ^ 64
 unfolding wordOf
 word-fits (pos n) f = omega (arith, f .sfits)
 word-fits (negsuc n) f = omega arith
-
--- only zero has the word 0
-pub word-zero : (z : ℤ) → SFits w64 z → wordOf z ≡ 0 → z ≡ pos 0
-unfolding wordOf
-word-zero (pos n) f h = ap pos h
-word-zero (negsuc n) f h = absurd (omega (arith, f .sfits))

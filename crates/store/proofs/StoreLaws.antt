@@ -18,7 +18,7 @@ use Rattle.numbers.specs.Units.{noMoney}
 use Rattle.numbers.specs.declared.units.Pesos.{Pesos}
 use Rattle.numbers.specs.Signed.{wordOf, signedOf}
 use Rattle.numbers.specs.Sizes.{mostDistributors, sectorCount, sectorPlaces}
-use Rattle.numbers.proofs.BoolLaws.{and-left, and-right, or-else, by-last}
+use Rattle.numbers.proofs.BoolLaws.{and-left, and-right, or-else}
 use Rattle.numbers.proofs.SignedLaws.{signed-small, word-signed, word-fits}
 use Rattle.numbers.proofs.TestLaws.{all-at}
 use Rattle.numbers.proofs.ListLaws.{list-length, list-at, filled-length, filled-at, filled-past}
@@ -30,7 +30,7 @@ use Rattle.journal.specs.Form.{partCount, nothing, partAt, boundOf, countOf, pl
 use Rattle.journal.specs.Form.{bufferHeld, bufferParts, FormHeld, greatestBy, Takes}
 use Rattle.journal.specs.declared.form.Part.{Part}
 use Rattle.journal.specs.Command.{loadForm}
-use Rattle.journal.proofs.FormLaws.{buffer-at}
+use Rattle.journal.proofs.FormLaws.{buffer-at, each-part}
 use Rattle.store.specs.Store.{truthWord, wordTruth, presentWords, chargeWords, balanceWords, zeroPast}
 use Rattle.store.specs.Store.{keptAmong, keptCount, keptWords, ledgerParts, Saved, loadedLedger}
 
@@ -136,13 +136,6 @@ kept-among n present charges balances = go few refl
       charged = λ p. absurd (omega arith);
       balanced = λ p. absurd (omega arith);
     }
-
--- what is said of each of the twelve parts
-each-part : (P : ℕ → Type 0) → P 0 → P 1 → P 2 → P 3 → P 4 → P 5 → P 6 → P 7 → P 8 → P 9 → P 10 → P 11 →
-    (k : ℕ) → k < partCount → P k
-each-part P a b c d e f g h i j k l =
-    by-last 11 P (by-last 10 P (by-last 9 P (by-last 8 P (by-last 7 P (by-last 6 P (by-last 5 P (by-last 4 P
-    (by-last 3 P (by-last 2 P (by-last 1 P (by-last 0 P (λ m p. absurd (omega arith)) a) b) c) d) e) f) g) h) i) j) k) l
 
 -- a number, and the words of a function, as parts take them
 takes-number : (part : Part) (number : ℕ) → countOf part number ≡ 0 → number ≤ boundOf part → number ≤ mostWord →

@@ -10,7 +10,8 @@ unfolding answerText
 returns c =
     let r = c .before .before in
     let t = r .before .before in
-    rw (t .if1 .taken) (written-after _ _ _ _ _ (t .before .before .before .write-line .ensures) (r .write-rows .ensures))
+    rw (t .if1 .taken)
+    (written-after _ _ _ _ _ (t .before .before .before .write-line .ensures) (r .write-rows .ensures))
 
 returns-2 : tie.Need-returns-2
 unfolding answerText

@@ -1,8 +1,8 @@
 -- Each arm makes its command with the parts of its form.
-use mathlib.Core.Path.{_≡_, refl, sym}
+use mathlib.Core.Path.{refl, sym}
 use Prim.Native.Nat.{_≤_}
 use native.Mathlib.Omega.{arith}
-use lib.ListN.{length, getD}
+use lib.ListN.{getD}
 use lib.Seq.{length-take-le}
 use Rattle.text.specs.Buffer.{written}
 use Rattle.journal.specs.Command.{openForm}
@@ -58,7 +58,8 @@ returns c =
     (r .run-open .ensures)
 
 returns-2 : tie.Need-returns-2
-returns-2 c = let r = c .before .before .before in rw (r .before .before .before .enum-told2 .given .1) (r .run-fix .ensures)
+returns-2 c =
+    let r = c .before .before .before in rw (r .before .before .before .enum-told2 .given .1) (r .run-fix .ensures)
 
 returns-3 : tie.Need-returns-3
 returns-3 c =

@@ -1,8 +1,5 @@
 -- The form of the command that was read is read, and the command is made of its parts unless it is broken.
-use mathlib.Core.Path.{_≡_}
-use Prim.Native.Nat.{_≤_}
 use native.Mathlib.Omega.{arith}
-use lib.ListN.{length}
 use Rattle.journal.specs.Form.{FormFollows}
 use Rattle.journal.specs.Command.{commandForm}
 use Rattle.journal.specs.declared.command.CommandRead.{CommandRead}

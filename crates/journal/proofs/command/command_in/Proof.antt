@@ -1,8 +1,8 @@
 -- The invariant: the token's command is among the rows from k on.
 use mathlib.Core.Path.{_≡_, refl, sym, _∙_}
-use Prim.Native.Nat.{_≤_, _<_, _-_}
+use Prim.Native.Nat.{_≤_, _-_}
 use native.Mathlib.Omega.{arith}
-use lib.ListN.{length, drop}
+use lib.ListN.{drop}
 use Rattle.journal.specs.Command.{commandRows, commandAmong}
 use Rattle.journal.proofs.CommandLaws.{among-here, among-on, among-none}
 use borrow.Author.Needs.{needs}

@@ -1,12 +1,12 @@
 -- The invariant: the name and the first k parts are written.
 use mathlib.Core.Path.{_≡_, refl, sym, _∙_, ap, ap₂}
-use Prim.Native.Nat.{ℕ, _+_, _*_, _-_, _^_, _≤_, _<_}
+use Prim.Native.Nat.{_+_, _*_, _-_, _^_, _≤_, _<_}
 use native.Mathlib.Omega.{arith}
 use lib.ListN.{length, getD, take, drop}
 use Rattle.text.specs.Text.{textBelow}
 use Rattle.text.specs.Buffer.{bufferOf, written}
 use Rattle.text.proofs.BufferLaws.{texts-none, texts-more, written-after, after-byte}
-use Rattle.journal.specs.Form.{partAt, heldIn, heldOf, countOf, roomOf, placeOf, bufferParts, partText, formText}
+use Rattle.journal.specs.Form.{partAt, heldIn, heldOf, countOf, placeOf, bufferParts, partText, formText}
 use Rattle.journal.proofs.FormLaws.{place-none, place-next, buffer-at, buffer-room, buffer-fits}
 use borrow.Author.Needs.{needs}
 use Rattle.journal.proofs.form.write_form.Statement.{statement}
@@ -35,7 +35,12 @@ module _ (r : tie.After-count-of Inv-loop μ-loop) where
 
   fits : a .loop .at + r .count-of .result ≤ length (s .args .words .now)
   fits =
-      omega (arith, a .loop .inv .2, r .count-of .ensures, buffer-fits (s .args .t4) (s .args .t5) (s .args .words .now) (s .pre) (a .loop .k) (omega arith))
+      omega (
+        arith,
+        a .loop .inv .2,
+        r .count-of .ensures,
+        buffer-fits (s .args .t4) (s .args .t5) (s .args .words .now) (s .pre) (a .loop .k) (omega arith),
+      )
 
   short : length (s .args .words .now) * 8 < 2 ^ 63
   short = s .good .1 .1 .1 .1 .1 .0 .1

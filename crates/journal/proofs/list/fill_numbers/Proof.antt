@@ -26,7 +26,7 @@ loop-holds c =
       refl,
       s .pre,
       cursor-none _ _ _ _,
-      list-none (numberAt (s .args .text .now) (s .args .cursor) (s .args .signed) (s .args .most)) (s .args .into .now),
+      list-none _ (s .args .into .now),
     )
 
 next-number-requires : tie.Need-next-number-requires Inv-loop μ-loop
@@ -44,7 +44,7 @@ loop-again c =
       simp length-set (l .loop .inv .1),
       number-within _ _ (l .loop .inv .2) _ _ _ (n .next-number .ensures),
       cursor-next _ _ _ _ _ _ (l .loop .inv .3) _ (n .next-number .ensures),
-      list-more (numberAt (s .args .text .now) (s .args .cursor) (s .args .signed) (s .args .most)) (l .loop .into) (l .loop .k) _
+      list-more _ (l .loop .into) (l .loop .k) _
           (omega arith) (l .loop .inv .4)
           (number-here _ _ _ _ _ _ (l .loop .inv .3) _ (n .next-number .ensures)),
     )

@@ -1,7 +1,6 @@
 -- The name and the count, and as many numbers into the first places.
 use mathlib.Core.Path.{sym, ap}
 use mathlib.Core.List.{_++_}
-use native.Mathlib.Omega.{arith}
 use lib.ListN.{drop}
 use lib.Seq.{length-take-le}
 use Rattle.journal.proofs.ListLaws.{count-most, count-within, list-read, words-read}
