@@ -1,30 +1,32 @@
 // The commands: each is made from what its numbers and words hold, and answered in the buffer.
 ghost use mathlib.Core.Path.{_≡_};
-ghost use lib.ListN.{length, getD};
+ghost use lib.ListN.{length};
 ghost use Rattle.ledger.specs.Ledger.{openingLedger};
 ghost use Rattle.ledger.specs.Fix.{fixingLedger};
 ghost use Rattle.ledger.specs.Settle.{settlementLedger};
 ghost use Rattle.store.specs.Store.{loadedLedger};
-ghost use Rattle.journal.specs.Form.{FormHeld, bufferParts};
+ghost use Rattle.journal.specs.Form.{FormHeld, numberOf, partsIn};
 ghost use Rattle.journal.specs.Command.{fixForm, settleForm, loadForm};
-ghost use Rattle.commands.specs.Replay.{fixingCall, settlementCall, openingText, fixingText, settlementText};
-ghost use Rattle.commands.specs.Replay.{savingText, loadingText, CommandMade};
-use crate::call::make_fixing;
-use crate::call::make_settlement;
+ghost use Rattle.commands.specs.Replay.{unwritten, fixingCall, settlementCall, openingText, fixingText};
+ghost use Rattle.commands.specs.Replay.{settlementText, savingText, loadingText, CommandMade};
 use answers::answer::amounts;
 use answers::answer::write_answer;
 use answers::line::fixing_line;
 use answers::line::outcome_line;
 use journal::command::load_form;
-use journal::form::PARTS;
+use journal::form::Parts;
+use journal::form::words_of;
 use journal::form::write_form;
+use ledger::fix::fix;
 use ledger::fix::fixing_number;
 use ledger::ledger::Ledger;
 use ledger::open::open;
+use ledger::settle::settle;
 use numbers::refusal::verdict_number;
 use store::load::load;
 use store::save::KEPT_WORDS;
 use store::save::save;
+use supply::market::FixingNumbers;
 use text::line::write_line;
 
 // The ledger after a command, and how many bytes its answer has.
@@ -47,19 +49,28 @@ pub(crate) fn run_open(n: usize, buffer: &mut [u8]) -> Made
 
 // Makes a fixing with its lent list.
 pub(crate) fn run_fix(
-    numbers: [u64; PARTS],
+    parts: Parts,
     ledger: Ledger,
     words: &[u64],
     prices: &mut [i64],
     buffer: &mut [u8],
 ) -> Made
-    requires { ⌜ FormHeld fixForm numbers (length (now words)) ⌝ ∗ ⌜ length (now prices) ≡ getD numbers 7 0 ⌝ }
-    ensures { λ r. ⌜ CommandMade r
-        (fixingLedger ledger (fixingCall (bufferParts fixForm numbers (now (words .entry)))))
-        (fixingText ledger (fixingCall (bufferParts fixForm numbers (now (words .entry)))))
-        (now (buffer .entry)) (now (buffer .exit)) ⌝ }
+    requires { ⌜ FormHeld fixForm parts (length (now words)) ⌝ ∗ ⌜ now prices ≡ unwritten (numberOf parts 7) ⌝ }
+    ensures { λ r. ⌜ CommandMade r (fixingLedger ledger (fixingCall (partsIn parts (now (words .entry)))))
+        (fixingText ledger (fixingCall (partsIn parts (now (words .entry))))) (now (buffer .entry))
+        (now (buffer .exit)) ⌝ }
 {
-    let outcome = make_fixing(ledger, numbers, words, prices);
+    let numbers = parts.numbers;
+    let call = FixingNumbers {
+        month: numbers[0],
+        dollar: numbers[1],
+        reference_factor: numbers[2],
+        first_month: numbers[3],
+    };
+    let series = words_of(parts, words, 4);
+    let lines = words_of(parts, words, 5);
+    let sectors = words_of(parts, words, 6);
+    let outcome = fix(ledger, call, series, lines, sectors, prices);
     let answer = outcome.answer;
     let line = fixing_line(*b"fix         ", answer);
     let accepted = fixing_number(answer) == 0;
@@ -71,19 +82,21 @@ pub(crate) fn run_fix(
 
 // Makes a settlement with its lent list.
 pub(crate) fn run_settle(
-    numbers: [u64; PARTS],
+    parts: Parts,
     ledger: Ledger,
     words: &[u64],
     transfers: &mut [i64],
     buffer: &mut [u8],
 ) -> Made
-    requires { ⌜ FormHeld settleForm numbers (length (now words)) ⌝ ∗ ⌜ length (now transfers) ≡ getD numbers 3 0 ⌝ }
-    ensures { λ r. ⌜ CommandMade r
-        (settlementLedger ledger (settlementCall (bufferParts settleForm numbers (now (words .entry)))))
-        (settlementText ledger (settlementCall (bufferParts settleForm numbers (now (words .entry)))))
-        (now (buffer .entry)) (now (buffer .exit)) ⌝ }
+    requires { ⌜ FormHeld settleForm parts (length (now words)) ⌝ ∗ ⌜ now transfers ≡ unwritten (numberOf parts 3) ⌝ }
+    ensures { λ r. ⌜ CommandMade r (settlementLedger ledger (settlementCall (partsIn parts (now (words .entry)))))
+        (settlementText ledger (settlementCall (partsIn parts (now (words .entry))))) (now (buffer .entry))
+        (now (buffer .exit)) ⌝ }
 {
-    let outcome = make_settlement(ledger, numbers, words, transfers);
+    let numbers = parts.numbers;
+    let readings = words_of(parts, words, 1);
+    let losses = words_of(parts, words, 2);
+    let outcome = settle(ledger, numbers[0], readings, losses, transfers);
     let verdict = outcome.verdict;
     let ledger = outcome.ledger;
     let number = verdict_number(verdict);
@@ -100,19 +113,19 @@ pub(crate) fn run_save(ledger: Ledger, buffer: &mut [u8]) -> Made
     ensures { λ r. ⌜ CommandMade r ledger (savingText ledger) (now (buffer .entry)) (now (buffer .exit)) ⌝ }
 {
     let mut words = [0u64; KEPT_WORDS];
-    let numbers = save(ledger, &mut words);
+    let parts = save(ledger, &mut words);
     let form = load_form();
-    let count = write_form(buffer, 0, *b"load        ", form, numbers, &words);
+    let count = write_form(buffer, 0, *b"load        ", form, parts, &words);
     Made { ledger, count }
 }
 
 // Loads a kept ledger.
-pub(crate) fn run_load(numbers: [u64; PARTS], words: &[u64], buffer: &mut [u8]) -> Made
-    requires { ⌜ FormHeld loadForm numbers (length (now words)) ⌝ }
-    ensures { λ r. ⌜ CommandMade r (loadedLedger (bufferParts loadForm numbers (now (words .entry)))) loadingText
+pub(crate) fn run_load(parts: Parts, words: &[u64], buffer: &mut [u8]) -> Made
+    requires { ⌜ FormHeld loadForm parts (length (now words)) ⌝ }
+    ensures { λ r. ⌜ CommandMade r (loadedLedger (partsIn parts (now (words .entry)))) loadingText
         (now (buffer .entry)) (now (buffer .exit)) ⌝ }
 {
-    let ledger = load(numbers, words);
+    let ledger = load(parts, words);
     let line = outcome_line(*b"load        ", 0);
     let count = write_line(buffer, 0, line);
     Made { ledger, count }

@@ -2,7 +2,7 @@
 ghost use mathlib.Core.Path.{_≡_};
 ghost use Prim.Native.Nat.{_≤_};
 ghost use lib.ListN.{length};
-ghost use Rattle.journal.specs.Form.{FormHeld, bufferParts};
+ghost use Rattle.journal.specs.Form.{FormHeld, partsIn};
 ghost use Rattle.journal.specs.Command.{longestList, commandForm};
 ghost use Rattle.commands.specs.Replay.{wordRoom, commandLedger, commandAnswer, stepAfter, answerAfter, replayed};
 ghost use Rattle.commands.specs.Replay.{longestAnswer, longestText, CommandMade, CommandAnswered};
@@ -12,6 +12,7 @@ use crate::answer::run_load;
 use crate::answer::run_open;
 use crate::answer::run_save;
 use crate::answer::run_settle;
+use crate::call::lent;
 use answers::line::error_line;
 use journal::command::Command;
 use journal::command::form_of;
@@ -19,7 +20,7 @@ use journal::command::next_command;
 use journal::cursor::Cursor;
 use journal::cursor::broken_at;
 use journal::cursor::read_to;
-use journal::form::PARTS;
+use journal::form::Parts;
 use journal::form::read_form;
 use ledger::ledger::Ledger;
 use ledger::open::open;
@@ -60,33 +61,27 @@ fn answer_buffer() -> [u8; 262144]
     [0; 262144]
 }
 
-// Makes a command of what its numbers and words hold.
+// Makes a command of its parts.
 fn make_command(
     command: Command,
-    numbers: [u64; PARTS],
+    parts: Parts,
     ledger: Ledger,
     words: &[u64],
     list: &mut [i64],
     buffer: &mut [u8],
 ) -> Made
-    requires { ⌜ FormHeld (commandForm command) numbers (length (now words)) ⌝ ∗ ⌜ length (now list) ≡ longestList ⌝ }
-    ensures { λ r. ⌜ CommandMade r
-        (commandLedger command (bufferParts (commandForm command) numbers (now (words .entry))) ledger)
-        (commandAnswer command (bufferParts (commandForm command) numbers (now (words .entry))) ledger)
-        (now (buffer .entry)) (now (buffer .exit)) ⌝ }
+    requires { ⌜ FormHeld (commandForm command) parts (length (now words)) ⌝ ∗ ⌜ length (now list) ≡ longestList ⌝ }
+    ensures { λ r. ⌜ CommandMade r (commandLedger command (partsIn parts (now (words .entry))) ledger)
+        (commandAnswer command (partsIn parts (now (words .entry))) ledger) (now (buffer .entry))
+        (now (buffer .exit)) ⌝ }
 {
+    let numbers = parts.numbers;
     match command {
         Command::Open => run_open(numbers[0] as usize, buffer),
-        Command::Fix => {
-            let lent = numbers[7] as usize;
-            run_fix(numbers, ledger, words, &mut list[..lent], buffer)
-        }
-        Command::Settle => {
-            let lent = numbers[3] as usize;
-            run_settle(numbers, ledger, words, &mut list[..lent], buffer)
-        }
+        Command::Fix => run_fix(parts, ledger, words, lent(list, numbers[7]), buffer),
+        Command::Settle => run_settle(parts, ledger, words, lent(list, numbers[3]), buffer),
         Command::Save => run_save(ledger, buffer),
-        Command::Load => run_load(numbers, words, buffer),
+        Command::Load => run_load(parts, words, buffer),
         Command::Unknown => Made { ledger, count: 0 },
         Command::End => Made { ledger, count: 0 },
     }
@@ -103,14 +98,14 @@ fn run_command(text: &[u8], at: usize, ledger: Ledger, buffer: &mut [u8]) -> Com
     let read = next_command(text, at);
     let command = read.command;
     let form = form_of(command);
-    let parts = read_form(text, read.next, form, &mut words);
-    let next = parts.next;
+    let held = read_form(text, read.next, form, &mut words);
+    let next = held.next;
     if next.broken {
         let step = Step { ledger, next };
         return CommandOutcome { step, count: 0 };
     }
-    let numbers = parts.numbers;
-    let made = make_command(command, numbers, ledger, &words, &mut list, buffer);
+    let parts = held.parts;
+    let made = make_command(command, parts, ledger, &words, &mut list, buffer);
     let ledger = made.ledger;
     let step = Step { ledger, next };
     CommandOutcome {

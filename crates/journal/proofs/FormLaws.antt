@@ -1,6 +1,6 @@
 -- Laws of a form's reading: part by part, how far it reaches, what each part takes, and where its words stand.
 -- Assumes nothing.
-use mathlib.Core.Path.{_≡_, refl, sym, _∙_, ap}
+use mathlib.Core.Path.{_≡_, refl, sym, _∙_, ap, ap₂}
 use mathlib.Core.Bool.{Bool, true, false}
 use mathlib.Core.List.{List, [], _++_, append-assoc}
 use Prim.Native.Nat.{ℕ, zero, suc, _+_, _-_, _≤_, _<_}
@@ -17,15 +17,14 @@ use Rattle.text.specs.Text.{nameText}
 use Rattle.journal.specs.Cursor.{numberAfter, mostWord, Onward}
 use Rattle.journal.specs.List.{countAfter, listAfter, listWords}
 use Rattle.journal.specs.Form.{partCount, partAt, heldOf, heldIn, boundBy, boundOf, countBy, countOf, roomOf}
-use Rattle.journal.specs.Form.{placeOf, partBy, partAfter}
-use Rattle.journal.specs.Form.{formAfter, heldAt, formParts, bufferHeld, bufferParts, PartFollows}
-use Rattle.journal.specs.Form.{FormHeld, FormFollows}
+use Rattle.journal.specs.Form.{placeOf, partBy, partAfter, formAfter, heldAt, formParts, numberOf, startOf}
+use Rattle.journal.specs.Form.{endOf, wordsIn, partsIn, FormHeld, PartFollows, FormFollows}
 use Rattle.journal.specs.declared.cursor.Cursor.{Cursor}
 use Rattle.journal.specs.declared.cursor.NumberRead.{NumberRead}
 use Rattle.journal.specs.declared.form.Kind.{Kind}
 use Rattle.journal.specs.declared.form.Kind.the-variants.{Nothing, Number, List as Words, Signed, Length}
 use Rattle.journal.specs.declared.form.Part.{Part}
-use Rattle.journal.specs.declared.form.FormRead.{FormRead}
+use Rattle.journal.specs.declared.form.Parts.{Parts}
 use Rattle.journal.proofs.CursorLaws.{numberRead, onward-same, then-number, number-most}
 use Rattle.journal.proofs.ListLaws.{count-most, list-most, words-length, then-count, then-list}
 
@@ -182,14 +181,20 @@ follows-long part text cursor read found left f room =
     rw (room, f .number) (count-room part _ (part-bounded part text cursor)) in
     rw (f .words) (length-front found words (countOf part (read .value)) (count ∙ sym (length-take-le _ found few)))
 
+abbrev pub partsBy : List ℕ → List ℕ → List ℕ → Parts
+partsBy numbers starts ends = record { numbers = numbers; starts = starts; ends = ends }
+
 -- the first k parts are read: the cursor after them, their numbers, and each list where the longest before it would end
-pub record FormSoFar (form : List Part) (text : List ℕ) (cursor : Cursor) (numbers words : List ℕ) (size : ℕ)
-    (next : Cursor) (at k : ℕ) : Type 0 where
+pub record FormSoFar (form : List Part) (text : List ℕ) (cursor : Cursor) (numbers starts ends words : List ℕ)
+    (size : ℕ) (next : Cursor) (at k : ℕ) : Type 0 where
   pub most : k ≤ partCount
   pub long : length words ≡ size
   pub place : at ≡ placeOf form k
   pub following : next ≡ formAfter k form text cursor
   pub counts : numbers ≡ filledBelow partCount 0 k (λ j. heldAt form text cursor j .number)
+  pub begins : starts ≡ filledBelow partCount 0 k (placeOf form)
+  pub closes : ends ≡ filledBelow partCount 0 k
+      (λ j. placeOf form j + countOf (partAt form j) (heldAt form text cursor j .number))
   pub lists : (j : ℕ) → j < k →
       take (length (heldAt form text cursor j .words)) (drop (placeOf form j) words) ≡ heldAt form text cursor j .words
 
@@ -206,7 +211,9 @@ module _ (form : List Part) (text : List ℕ) (cursor : Cursor) where
         count-room (partAt form j) _ (part-bounded (partAt form j) text middle),
       )
 
-  pub form-none : (words : List ℕ) → FormSoFar form text cursor (replicate partCount 0) words (length words) cursor 0 0
+  pub form-none : (words : List ℕ) →
+      FormSoFar form text cursor (replicate partCount 0) (replicate partCount 0) (replicate partCount 0) words
+      (length words) cursor 0 0
   unfolding placeOf sumBelow formAfter
   form-none words = record {
     most = omega arith;
@@ -214,81 +221,119 @@ module _ (form : List Part) (text : List ℕ) (cursor : Cursor) where
     place = refl;
     following = refl;
     counts = filled-none partCount 0 _;
+    begins = filled-none partCount 0 _;
+    closes = filled-none partCount 0 _;
     lists = λ j p. absurd (omega arith);
   }
 
-  module _ {numbers words : List ℕ} {size : ℕ} {next : Cursor} {at k : ℕ}
-      (f : FormSoFar form text cursor numbers words size next at k) (room : placeOf form partCount ≤ size) where
+  module _ {numbers starts ends words : List ℕ} {size : ℕ} {next : Cursor} {at k : ℕ}
+      (f : FormSoFar form text cursor numbers starts ends words size next at k)
+      (room : placeOf form partCount ≤ size) where
     pub form-within : cursor .at ≤ length text → next .at ≤ length text
     form-within p = rw (f .following) (then-form (onward-same text cursor p) form k .within)
 
     pub form-fits : k < partCount → at + roomOf (partAt form k) ≤ length words
     form-fits p = rw (f .long) (omega (arith, f .place, place-within form k partCount p))
 
-    pub form-more : k < partCount → (read : NumberRead) (left : List ℕ) (end : ℕ) →
-        end ≡ at + roomOf (partAt form k) →
-        PartFollows (partAt form k) text next read (take (end - at) (drop at words)) left →
-        FormSoFar form text cursor (set numbers k (read .value)) (putMid at (end - at) words left) size (read .next)
-        end (k + 1)
-    unfolding formAfter heldAt
-    form-more p read left end e q =
-        let fits : end ≤ length words = rw e (form-fits p) in
-        let here : at ≤ length words = omega (arith, fits, e) in
-        let size-is : length (take (end - at) (drop at words)) ≡ roomOf (partAt form k) =
-        mid-len at end words fits ∙ omega (arith, e) in
-        record {
-          most = omega arith;
-          long = same-len-mid at (end - at) words left (follows-long _ _ _ _ _ _ q size-is) ∙ f .long;
-          place = e ∙ ap (λ a. a + roomOf (partAt form k)) (f .place) ∙ sym (place-next form k);
-          following = rw add-one (q .next ∙ ap (λ c. partAfter (partAt form k) text c .next) (f .following));
-          counts = filled-next partCount 0 k _ numbers (read .value) p (f .counts)
-              (q .number ∙ ap (λ c. partAfter (partAt form k) text c .held .number) (f .following));
-          lists = λ j r. by-last k
-              (λ i. take (length (heldAt form text cursor i .words))
-              (drop (placeOf form i) (putMid at (end - at) words left)) ≡ heldAt form text cursor i .words)
-              (λ i s. within-kept (length (heldAt form text cursor i .words)) (placeOf form i) at words
-              (left ++ drop (end - at) (drop at words))
-              (omega (arith, f .place, held-within i k s)) here
-              ∙ f .lists i s)
-              (rw (← f .place, q .words, f .following)
-              (after-first at words (partAfter (partAt form k) text (formAfter k form text cursor) .held .words)
-              (drop (countOf (partAt form k) (read .value)) (take (end - at) (drop at words)))
-              (drop (end - at) (drop at words)) here))
-              j (omega arith);
-        }
+    module _ (p : k < partCount) (read : NumberRead) (left : List ℕ) (end : ℕ) (e : end ≡ at + roomOf (partAt form k))
+        (q : PartFollows (partAt form k) text next read (take (end - at) (drop at words)) left) where
+      -- what was read is part k, and has no more words than there is room for
+      number-here : read .value ≡ heldAt form text cursor k .number
+      unfolding heldAt
+      number-here = q .number ∙ ap (λ c. partAfter (partAt form k) text c .held .number) (f .following)
 
-    pub form-whole : partCount ≤ k → (read : FormRead) → read .numbers ≡ numbers → read .next ≡ next →
-        (found : List ℕ) → length found ≡ size → FormFollows form text cursor read found words
-    unfolding bufferParts formParts bufferHeld heldAt
-    form-whole p read n x found s =
+      pub few-words : at + countOf (partAt form k) (read .value) ≤ length words
+      few-words =
+          let few : countOf (partAt form k) (read .value) ≤ roomOf (partAt form k) =
+          rw (q .number) (count-room (partAt form k) _ (part-bounded (partAt form k) text next)) in
+          omega (arith, form-fits p, few)
+
+      pub form-more : (close : ℕ) → close ≡ at + countOf (partAt form k) (read .value) →
+          FormSoFar form text cursor (set numbers k (read .value)) (set starts k at) (set ends k close)
+          (putMid at (end - at) words left) size (read .next) end (k + 1)
+      unfolding formAfter heldAt
+      form-more close c =
+          let fits : end ≤ length words = rw e (form-fits p) in
+          let here : at ≤ length words = omega (arith, fits, e) in
+          let size-is : length (take (end - at) (drop at words)) ≡ roomOf (partAt form k) =
+          mid-len at end words fits ∙ omega (arith, e) in
+          record {
+            most = omega arith;
+            long = same-len-mid at (end - at) words left (follows-long _ _ _ _ _ _ q size-is) ∙ f .long;
+            place = e ∙ ap (λ a. a + roomOf (partAt form k)) (f .place) ∙ sym (place-next form k);
+            following = rw add-one (q .next ∙ ap (λ c. partAfter (partAt form k) text c .next) (f .following));
+            counts = filled-next partCount 0 k _ numbers (read .value) p (f .counts) number-here;
+            begins = filled-next partCount 0 k _ starts at p (f .begins) (f .place);
+            closes = filled-next partCount 0 k _ ends close p (f .closes)
+                (c ∙ ap₂ (λ a n. a + countOf (partAt form k) n) (f .place) number-here);
+            lists = λ j r. by-last k
+                (λ i. take (length (heldAt form text cursor i .words))
+                (drop (placeOf form i) (putMid at (end - at) words left)) ≡ heldAt form text cursor i .words)
+                (λ i s. within-kept (length (heldAt form text cursor i .words)) (placeOf form i) at words
+                (left ++ drop (end - at) (drop at words)) (omega (arith, f .place, held-within i k s)) here
+                ∙ f .lists i s)
+                (rw (← f .place, q .words, f .following)
+                (after-first at words (partAfter (partAt form k) text (formAfter k form text cursor) .held .words)
+                (drop (countOf (partAt form k) (read .value)) (take (end - at) (drop at words)))
+                (drop (end - at) (drop at words)) here))
+                j (omega arith);
+          }
+
+    pub form-whole : partCount ≤ k → (next₁ : Cursor) → next₁ ≡ next →
+        FormFollows form text cursor (record { parts = partsBy numbers starts ends; next = next₁ }) words
+    unfolding partsIn formParts heldAt
+    form-whole p next₁ x =
         let all : k ≡ partCount = omega (arith, f .most) in
-        let counts : (j : ℕ) → j < partCount → getD (read .numbers) j 0 ≡ heldAt form text cursor j .number =
-        λ j q. rw (n, f .counts, all) (filled-at partCount 0 _ partCount j q q) in
+        let number : (j : ℕ) → j < partCount → getD numbers j 0 ≡ heldAt form text cursor j .number =
+        λ j q. rw (f .counts, all) (filled-at partCount 0 _ partCount j q q) in
+        let start : (j : ℕ) → j < partCount → getD starts j 0 ≡ placeOf form j =
+        λ j q. rw (f .begins, all) (filled-at partCount 0 (placeOf form) partCount j q q) in
+        let end : (j : ℕ) → j < partCount →
+        getD ends j 0 ≡ placeOf form j + countOf (partAt form j) (heldAt form text cursor j .number) =
+        λ j q. rw (f .closes, all) (filled-at partCount 0 _ partCount j q q) in
+        let middle : ℕ → Cursor = λ j. formAfter j form text cursor in
         record {
           parts = list-same partCount _ _ (λ j q.
-              let middle = formAfter j form text cursor in
-              rw (counts j q, ← part-counted (partAt form j) text middle) (ap (heldOf _) (f .lists j (rw all q))));
+              let size-is : getD ends j 0 - getD starts j 0 ≡ length (heldAt form text cursor j .words) =
+              omega (arith, start j q, end j q, part-counted (partAt form j) text (middle j)) in
+              rw (number j q, size-is, start j q) (ap (heldOf _) (f .lists j (rw all q))));
           next = x ∙ f .following ∙ ap (λ m. formAfter m form text cursor) all;
           held = record {
-            bounded = λ j q. rw (counts j q) (part-bounded (partAt form j) text (formAfter j form text cursor));
-            room = rw (f .long) room;
+            bounded = λ j q. rw (number j q) (part-bounded (partAt form j) text (middle j));
+            counted = λ j q. rw (number j q, start j q, end j q) refl;
+            within = λ j q. omega (
+              arith,
+              end j q,
+              f .long,
+              room,
+              place-within form j partCount q,
+              count-room (partAt form j) _ (part-bounded (partAt form j) text (middle j)),
+            );
           };
-          size = f .long ∙ sym s;
         }
 
--- what numbers and lent words hold of part k, and that it lies within them
-module _ (form : List Part) (numbers words : List ℕ) where
-  pub buffer-at : (k : ℕ) → k < partCount → heldIn (bufferParts form numbers words) k ≡ heldOf (getD numbers k 0)
-      (take (countOf (partAt form k) (getD numbers k 0)) (drop (placeOf form k) words))
-  unfolding bufferParts bufferHeld
-  buffer-at k p = list-at (bufferHeld form numbers words) partCount (heldOf 0 []) k p
+-- what parts hold of part k
+module _ (parts : Parts) (words : List ℕ) (k : ℕ) (p : k < partCount) where
+  pub part-held : heldIn (partsIn parts words) k ≡ heldOf (numberOf parts k) (wordsIn parts words k)
+  unfolding partsIn
+  part-held = list-at (λ j. heldOf (numberOf parts j) (wordsIn parts words j)) partCount (heldOf 0 []) k p
 
-  module _ (h : FormHeld form numbers (length words)) (k : ℕ) (p : k < partCount) where
-    pub buffer-room : placeOf form k + roomOf (partAt form k) ≤ length words
-    buffer-room = omega (arith, place-within form k partCount p, h .room)
+  pub number-at : numberOf parts k ≡ heldIn (partsIn parts words) k .number
+  number-at = rw part-held refl
 
-    pub buffer-fits : placeOf form k + countOf (partAt form k) (getD numbers k 0) ≤ length words
-    buffer-fits = omega (arith, buffer-room, count-room (partAt form k) (getD numbers k 0) (h .bounded k p))
+  pub words-at : wordsIn parts words k ≡ heldIn (partsIn parts words) k .words
+  words-at = rw part-held refl
+
+-- a part of a form lies within the words, and has no more words than there is room for
+module _ (form : List Part) (parts : Parts) (words : List ℕ) (h : FormHeld form parts (length words)) (k : ℕ)
+    (p : k < partCount) where
+  pub part-lies : (k < partCount) × ((startOf parts k ≤ endOf parts k) × (endOf parts k ≤ length words))
+  part-lies = (p, (omega (arith, h .counted k p), h .within k p))
+
+  pub part-few : length (wordsIn parts words k) ≤ roomOf (partAt form k)
+  part-few =
+      rw (mid-len (startOf parts k) (endOf parts k) words (h .within k p))
+      (omega (arith, h .counted k p, count-room (partAt form k) (numberOf parts k) (h .bounded k p)))
 
 -- what is said of each of the twelve parts
 pub each-part : (P : ℕ → Type 0) → P 0 → P 1 → P 2 → P 3 → P 4 → P 5 → P 6 → P 7 → P 8 → P 9 → P 10 → P 11 →

@@ -3,7 +3,7 @@
 use mathlib.Core.Bool.{Bool, true, false}
 use mathlib.Core.Path.{_≡_}
 use mathlib.Core.List.{List, [], _∷_, _++_}
-use Prim.Native.Nat.{ℕ, zero, suc, _≤_, _<_}
+use Prim.Native.Nat.{ℕ, zero, suc, _+_, _-_, _≤_, _<_}
 use Prim.Native.String.{String}
 use lib.ListN.{length, getD, take, drop}
 use Rattle.numbers.specs.Bounded.{sumBelow, listBelow}
@@ -15,6 +15,7 @@ use Rattle.journal.specs.declared.cursor.NumberRead.{NumberRead}
 use Rattle.journal.specs.declared.form.Kind.{Kind}
 use Rattle.journal.specs.declared.form.Kind.the-variants.{Nothing, Number, List as Words, Signed, Length}
 use Rattle.journal.specs.declared.form.Part.{Part}
+use Rattle.journal.specs.declared.form.Parts.{Parts}
 use Rattle.journal.specs.declared.form.FormRead.{FormRead}
 
 -- a part by its name of 12 bytes
@@ -68,7 +69,7 @@ countOf part number = countBy (part .1) number
 abbrev pub roomOf : Part → ℕ
 roomOf part = countOf part (boundOf part)
 
--- where the words of part k stand in the lent words: after the longest lists before it
+-- where the words of part k are read to: after the longest lists before it
 unfoldable pub placeOf : List Part → ℕ → ℕ
 placeOf form k = sumBelow k (λ j. roomOf (partAt form j))
 
@@ -105,19 +106,29 @@ heldAt form text cursor k = partAfter (partAt form k) text (formAfter k form tex
 unfoldable pub formParts : List Part → List ℕ → Cursor → List Held
 formParts form text cursor = listBelow partCount (heldAt form text cursor)
 
--- what numbers and lent words hold of the parts
-unfoldable pub bufferHeld : List Part → List ℕ → List ℕ → ℕ → Held
-bufferHeld form numbers words k =
-    let number = getD numbers k 0 in
-    heldOf number (take (countOf (partAt form k) number) (drop (placeOf form k) words))
+-- the number of part k, and where its words start and end in the lent ones
+abbrev pub numberOf : Parts → ℕ → ℕ
+numberOf parts k = getD (parts .numbers) k 0
 
-unfoldable pub bufferParts : List Part → List ℕ → List ℕ → List Held
-bufferParts form numbers words = listBelow partCount (bufferHeld form numbers words)
+abbrev pub startOf : Parts → ℕ → ℕ
+startOf parts k = getD (parts .starts) k 0
 
--- numbers that the parts take, and room for the longest lists
-pub record FormHeld (form : List Part) (numbers : List ℕ) (size : ℕ) : Type 0 where
-  pub bounded : (k : ℕ) → k < partCount → getD numbers k 0 ≤ boundOf (partAt form k)
-  pub room : placeOf form partCount ≤ size
+abbrev pub endOf : Parts → ℕ → ℕ
+endOf parts k = getD (parts .ends) k 0
+
+abbrev pub wordsIn : Parts → List ℕ → ℕ → List ℕ
+wordsIn parts words k = take (endOf parts k - startOf parts k) (drop (startOf parts k) words)
+
+-- what parts hold
+unfoldable pub partsIn : Parts → List ℕ → List Held
+partsIn parts words = listBelow partCount (λ k. heldOf (numberOf parts k) (wordsIn parts words k))
+
+-- parts as a form has them: numbers that it takes, and as many words as they say, within the lent ones
+pub record FormHeld (form : List Part) (parts : Parts) (size : ℕ) : Type 0 where
+  pub bounded : (k : ℕ) → k < partCount → numberOf parts k ≤ boundOf (partAt form k)
+  pub counted : (k : ℕ) → k < partCount →
+      endOf parts k ≡ startOf parts k + countOf (partAt form k) (numberOf parts k)
+  pub within : (k : ℕ) → k < partCount → endOf parts k ≤ size
 
 -- the greatest word of a part's list
 abbrev pub greatestBy : Kind → ℕ
@@ -143,12 +154,11 @@ pub record PartFollows (part : Part) (text : List ℕ) (cursor : Cursor) (read :
   pub words : left ≡ partAfter part text cursor .held .words ++ drop (countOf part (read .value)) found
 
 -- a form that was read: its parts, and how far the text is read, or the byte of what cannot be read
-pub record FormFollows (form : List Part) (text : List ℕ) (cursor : Cursor) (read : FormRead) (found left : List ℕ)
-    : Type 0 where
-  pub parts : bufferParts form (read .numbers) left ≡ formParts form text cursor
-  pub next : read .next ≡ formAfter partCount form text cursor
-  pub held : FormHeld form (read .numbers) (length left)
-  pub size : length left ≡ length found
+pub record FormFollows (form : List Part) (text : List ℕ) (cursor : Cursor) (read : FormRead) (words : List ℕ) : Type 0
+  where
+    pub parts : partsIn (read .parts) words ≡ formParts form text cursor
+    pub next : read .next ≡ formAfter partCount form text cursor
+    pub held : FormHeld form (read .parts) (length words)
 
 -- a list or a length on a line of its own
 unfoldable pub listText : List ℕ → Bool → ℕ → List ℕ → List ℕ

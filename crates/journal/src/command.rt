@@ -19,7 +19,7 @@ use numbers::sizes::PLACES;
 use text::name::NAME;
 
 // The longest list that a call is ever lent.
-pub const LONGEST_LIST: u64 = 8192;
+const LONGEST_LIST: u64 = 8192;
 
 // The commands.
 const COMMANDS: usize = 5;

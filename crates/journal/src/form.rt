@@ -1,10 +1,10 @@
 // A form: the parts of a command's text in their order, as data. One reader and one writer serve every form.
 ghost use mathlib.Core.Path.{_≡_};
-ghost use Prim.Native.Nat.{_≤_};
+ghost use Prim.Native.Nat.{_<_, _≤_};
 ghost use lib.ListN.{length};
 ghost use Rattle.text.specs.Buffer.{bufferOf, written};
-ghost use Rattle.journal.specs.Form.{partCount, heldOf, roomOf, countOf, placeOf, PartFollows, FormFollows};
-ghost use Rattle.journal.specs.Form.{FormHeld, bufferParts, listText, partText, formText};
+ghost use Rattle.journal.specs.Form.{partCount, heldOf, roomOf, countOf, placeOf, startOf, endOf, wordsIn};
+ghost use Rattle.journal.specs.Form.{PartFollows, FormFollows, FormHeld, partsIn, listText, partText, formText};
 use crate::cursor::Cursor;
 use crate::cursor::NumberRead;
 use crate::cursor::next_number;
@@ -38,11 +38,27 @@ pub enum Kind {
 // A part of a form: its name, which a number does not show, and what it is.
 pub struct Part(pub [u8; NAME], pub Kind);
 
-// The numbers of a form's parts, of a list its count, and how far the text is read. The words of the lists stand in the
-// lent words, each list where the longest ones before it would end.
-pub struct FormRead {
+// What the parts of a form hold: a number, of a list its count, and where a list's words start and end in lent words.
+pub struct Parts {
     pub numbers: [u64; PARTS],
+    pub starts: [usize; PARTS],
+    pub ends: [usize; PARTS],
+}
+
+// The parts of a form, and how far the text is read.
+pub struct FormRead {
+    pub parts: Parts,
     pub next: Cursor,
+}
+
+// The words of part k.
+pub fn words_of<'a>(parts: Parts, words: &'a [u64], k: usize) -> &'a [u64]
+    requires { ⌜ k < partCount ⌝ ∗ ⌜ startOf parts k ≤ endOf parts k ⌝ ∗ ⌜ endOf parts k ≤ length (now words) ⌝ }
+    ensures { λ r. ⌜ now r ≡ wordsIn parts (now (words .entry)) k ⌝ }
+{
+    let start = parts.starts[k];
+    let end = parts.ends[k];
+    &words[start..end]
 }
 
 // How many words a part may have.
@@ -92,12 +108,14 @@ fn read_part(text: &[u8], cursor: Cursor, part: Part, into: &mut [u64]) -> Numbe
     }
 }
 
-// Reads the parts of a form.
+// Reads the parts of a form; the words of a list stand where the longest lists before it would end.
 pub fn read_form(text: &[u8], cursor: Cursor, form: [Part; PARTS], words: &mut [u64]) -> FormRead
     requires { ⌜ cursor .at ≤ length (now text) ⌝ ∗ ⌜ placeOf form partCount ≤ length (now words) ⌝ }
-    ensures { λ r. ⌜ FormFollows form (now (text .entry)) cursor r (now (words .entry)) (now (words .exit)) ⌝ }
+    ensures { λ r. ⌜ FormFollows form (now (text .entry)) cursor r (now (words .exit)) ⌝ }
 {
     let mut numbers = [0u64; PARTS];
+    let mut starts = [0usize; PARTS];
+    let mut ends = [0usize; PARTS];
     let mut next = cursor;
     let mut at: usize = 0;
     let mut k: usize = 0;
@@ -107,11 +125,18 @@ pub fn read_form(text: &[u8], cursor: Cursor, form: [Part; PARTS], words: &mut [
         let read = read_part(text, next, part, &mut words[at..end]);
         let value = read.value;
         numbers[k] = value;
+        starts[k] = at;
+        ends[k] = at + count_of(part, value);
         next = read.next;
         at = end;
         k += 1;
     }
-    FormRead { numbers, next }
+    let parts = Parts {
+        numbers,
+        starts,
+        ends,
+    };
+    FormRead { parts, next }
 }
 
 // Writes a list, or a length, as a line of its own: its name, its number and its words.
@@ -154,22 +179,19 @@ pub fn write_form(
     count: usize,
     name: [u8; NAME],
     form: [Part; PARTS],
-    numbers: [u64; PARTS],
+    parts: Parts,
     words: &[u64],
 ) -> usize
-    requires { ⌜ FormHeld form numbers (length (now words)) ⌝ }
+    requires { ⌜ FormHeld form parts (length (now words)) ⌝ }
     ensures { λ r. ⌜ bufferOf (now (buffer .exit)) r ≡ written
-        (formText name form (bufferParts form numbers (now (words .entry)))) (bufferOf (now (buffer .entry)) count) ⌝ }
+        (formText name form (partsIn parts (now (words .entry)))) (bufferOf (now (buffer .entry)) count) ⌝ }
 {
     let mut end = write_name(buffer, count, name);
-    let mut at: usize = 0;
     let mut k: usize = 0;
     while k < PARTS {
         let part = form[k];
-        let number = numbers[k];
-        let last = at + count_of(part, number);
-        end = write_part(buffer, end, part, number, &words[at..last]);
-        at += room_of(part);
+        let number = parts.numbers[k];
+        end = write_part(buffer, end, part, number, words_of(parts, words, k));
         k += 1;
     }
     write_byte(buffer, end, b'\n')

@@ -2,7 +2,7 @@
 use mathlib.Core.Path.{_≡_, refl, sym, _∙_, ap}
 use mathlib.Core.Bool.{Bool, true, false, cond, _&&_, _||_}
 use mathlib.Core.List.{List, [], _∷_, _++_, map, append-nil, append-assoc}
-use Prim.Native.Nat.{ℕ, _*_, _^_, _<_, _≤_}
+use Prim.Native.Nat.{ℕ, _+_, _-_, _*_, _^_, _<_, _≤_}
 use native.Mathlib.Omega.{arith}
 use native.Mathlib.Decide.{decLt}
 use lib.Dec.{leb, ltb, eqb}
@@ -13,7 +13,7 @@ use mir.Syntax.{w64}
 use mir.Val.{SFits}
 use borrow.Rule.Slice.PartMut.{putMid}
 use borrow.Author.Tests.{le-ltb, leb-true, eqb-true}
-use Rattle.numbers.specs.Bounded.{sumBelow, listBelow, filledBelow}
+use Rattle.numbers.specs.Bounded.{listBelow, filledBelow}
 use Rattle.numbers.specs.Units.{noMoney}
 use Rattle.numbers.specs.declared.units.Pesos.{Pesos}
 use Rattle.numbers.specs.Signed.{wordOf, signedOf}
@@ -26,11 +26,12 @@ use Rattle.settlement.specs.Month.{moneyAt, moneyBelow}
 use Rattle.ledger.specs.Sound.{presentIn, chargeIn}
 use Rattle.ledger.specs.declared.ledger.Ledger.{Ledger}
 use Rattle.journal.specs.Cursor.{mostWord}
-use Rattle.journal.specs.Form.{partCount, nothing, partAt, boundOf, countOf, placeOf, heldOf, heldIn}
-use Rattle.journal.specs.Form.{bufferHeld, bufferParts, FormHeld, greatestBy, Takes}
+use Rattle.journal.specs.Form.{partCount, nothing, partAt, boundOf, countOf, heldOf, heldIn}
+use Rattle.journal.specs.Form.{numberOf, startOf, endOf, partsIn, FormHeld, greatestBy, Takes}
 use Rattle.journal.specs.declared.form.Part.{Part}
 use Rattle.journal.specs.Command.{loadForm}
-use Rattle.journal.proofs.FormLaws.{buffer-at, each-part}
+use Rattle.journal.specs.declared.form.Parts.{Parts}
+use Rattle.journal.proofs.FormLaws.{partsBy, each-part}
 use Rattle.store.specs.Store.{truthWord, wordTruth, presentWords, chargeWords, balanceWords, zeroPast}
 use Rattle.store.specs.Store.{keptAmong, keptCount, keptWords, ledgerParts, Saved, loadedLedger}
 
@@ -81,26 +82,6 @@ module _ (size : ℕ) (word : ℕ → ℕ) (k : ℕ) where
           filled-at size _ _ k j p q ∙ ap value (getD-take k _ j 0 p ∙ list-at word size 0 j q) ∙ h j q
       at j q (no p) =
           filled-past size _ _ k j (omega arith) q ∙ sym none ∙ ap value (sym (zero-at past j (omega arith) q)) ∙ h j q
-
--- how many words the form of a kept ledger may have
-load-room : placeOf loadForm partCount ≡ keptWords
-unfolding placeOf sumBelow
-load-room = refl
-
--- numbers that the form of a kept ledger takes, and room for its words
-pub record LoadHeld (numbers words : List ℕ) : Type 0 where
-  pub present : getD numbers 5 0 ≤ sectorPlaces
-  pub charges : getD numbers 6 0 ≤ sectorPlaces
-  pub balances : getD numbers 7 0 ≤ mostDistributors
-  pub room : keptWords ≤ length words
-
-pub load-held : (numbers words : List ℕ) → FormHeld loadForm numbers (length words) → LoadHeld numbers words
-load-held numbers words h = record {
-  present = h .bounded 5 (omega arith);
-  charges = h .bounded 6 (omega arith);
-  balances = h .bounded 7 (omega arith);
-  room = rw load-room at (h .room);
-}
 
 -- how many distributors' words are kept: at most all, and past fewer the words are zero
 record Kept (present charges balances : List ℕ) (count : ℕ) : Type 0 where
@@ -252,15 +233,17 @@ module _ (ledger : Ledger) where
   kept-stands words e = rw (e, present-stands, charges-stand, balances-stand)
 
   -- the numbers of its parts; with all words they are the ledger's parts
-  abbrev pub numbersOf : ℕ → ℕ → List ℕ
-  numbersOf count fixed =
-      ledger .n ∷ ledger .months ∷ ledger .last ∷ fixed ∷ ledger .month ∷ count * sectorCount
-      ∷ count * sectorCount ∷ count ∷ 0 ∷ 0 ∷ 0 ∷ 0 ∷ []
+  abbrev pub partsOf : ℕ → ℕ → Parts
+  partsOf count fixed =
+      partsBy
+      (ledger .n ∷ ledger .months ∷ ledger .last ∷ fixed ∷ ledger .month ∷ (count * sectorCount)
+      ∷ (count * sectorCount) ∷ count ∷ 0 ∷ 0 ∷ 0 ∷ 0 ∷ [])
+      (0 ∷ 0 ∷ 0 ∷ 0 ∷ 0 ∷ 0 ∷ 320 ∷ 640 ∷ 0 ∷ 0 ∷ 0 ∷ 0 ∷ [])
+      (0 ∷ 0 ∷ 0 ∷ 0 ∷ 0 ∷ (count * sectorCount) ∷ (320 + count * sectorCount) ∷ (640 + count) ∷ 0 ∷ 0 ∷ 0 ∷ 0 ∷ [])
 
-  buffer-saved : bufferParts loadForm (numbersOf (keptCount ledger) (truthWord (ledger .fixed))) allWords
-      ≡ ledgerParts ledger
-  unfolding bufferParts bufferHeld listBelow placeOf sumBelow ledgerParts
-  buffer-saved =
+  parts-saved : partsIn (partsOf (keptCount ledger) (truthWord (ledger .fixed))) allWords ≡ ledgerParts ledger
+  unfolding partsIn listBelow ledgerParts
+  parts-saved =
       let count = keptCount ledger in
       let places = count * sectorCount in
       let few : places ≤ sectorPlaces = omega (arith, kept-most) in
@@ -270,7 +253,10 @@ module _ (ledger : Ledger) where
       first-of places 320 _ _ few charges-stand in
       let balances : take count (drop 640 allWords) ≡ take count (balanceWords (ledger .balances)) =
       first-of count 40 _ _ kept-most balances-stand in
-      rw (present, charges, balances)
+      let first : places - 0 ≡ places = omega arith in
+      let second : 320 + places - 320 ≡ places = omega arith in
+      let third : 640 + count - 640 ≡ count = omega arith in
+      rw (first, second, third, present, charges, balances)
 
   -- "what `save` prints, `load` takes back as the same ledger"
   pub loaded-back : length (ledger .force .present) ≡ sectorPlaces → length (ledger .force .charges) ≡ sectorPlaces →
@@ -305,31 +291,25 @@ module _ (ledger : Ledger) where
   -- numbers of 64 bits are such as the parts take
   module _ (n : ledger .n < 2 ^ 64) (months : ledger .months < 2 ^ 64) (last : ledger .last < 2 ^ 64)
       (month : ledger .month < 2 ^ 64) where
-    number-taken : (k : ℕ) → k < partCount → heldIn (ledgerParts ledger) k .number ≤ boundOf (partAt loadForm k)
-    unfolding ledgerParts
-    number-taken =
-        each-part (λ k. heldIn (ledgerParts ledger) k .number ≤ boundOf (partAt loadForm k))
-        (omega (arith, n)) (omega (arith, months)) (omega (arith, last)) (truth-small (ledger .fixed))
-        (omega (arith, month)) (omega (arith, kept-most)) (omega (arith, kept-most)) kept-most
-        (omega arith) (omega arith) (omega arith) (omega arith)
+    parts-held : FormHeld loadForm (partsOf (keptCount ledger) (truthWord (ledger .fixed))) keptWords
+    parts-held =
+        let parts : Parts = partsOf (keptCount ledger) (truthWord (ledger .fixed)) in
+        let none : 0 ≤ keptWords = omega arith in
+        record {
+          bounded = each-part (λ k. numberOf parts k ≤ boundOf (partAt loadForm k))
+              (omega (arith, n)) (omega (arith, months)) (omega (arith, last)) (truth-small (ledger .fixed))
+              (omega (arith, month)) (omega (arith, kept-most)) (omega (arith, kept-most)) kept-most
+              (omega arith) (omega arith) (omega arith) (omega arith);
+          counted = each-part
+              (λ k. endOf parts k ≡ startOf parts k + countOf (partAt loadForm k) (numberOf parts k))
+              refl refl refl refl refl (omega arith) refl refl refl refl refl refl;
+          within = each-part (λ k. endOf parts k ≤ keptWords) none none none none none (omega (arith, kept-most))
+              (omega (arith, kept-most)) (omega (arith, kept-most)) none none none none;
+        }
 
     pub saved : (count fixed : ℕ) (words : List ℕ) → words ≡ allWords → count ≡ keptCount ledger →
-        fixed ≡ truthWord (ledger .fixed) → Saved ledger (numbersOf count fixed) words
-    saved count fixed words e f g = rw (e, f, g) (record {
-      parts = buffer-saved;
-      held = record {
-        bounded = λ k p. rw (← number-at k p) (number-taken k p);
-        room = rw (load-room, all-long) (omega arith);
-      };
-    })
-      where
-        numbers : List ℕ
-        numbers = numbersOf (keptCount ledger) (truthWord (ledger .fixed))
-
-        number-at : (k : ℕ) → k < partCount → heldIn (ledgerParts ledger) k .number ≡ getD numbers k 0
-        number-at k p =
-            ap (λ parts. heldIn parts k .number) (sym buffer-saved)
-            ∙ ap (λ held. held .number) (buffer-at loadForm numbers allWords k p)
+        fixed ≡ truthWord (ledger .fixed) → Saved ledger (partsOf count fixed) words
+    saved count fixed words e f g = rw (e, f, g) (record { parts = parts-saved; held = rw all-long parts-held })
 
   -- and the form takes what its parts hold
   pub parts-taken : ledger .n < 2 ^ 64 → ledger .months < 2 ^ 64 → ledger .last < 2 ^ 64 → ledger .month < 2 ^ 64 →

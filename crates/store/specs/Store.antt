@@ -15,8 +15,9 @@ use Rattle.fixing.specs.declared.sector.SectorCharges.{SectorCharges}
 use Rattle.settlement.specs.Month.{moneyAt, moneyBelow}
 use Rattle.ledger.specs.Sound.{presentIn, chargeIn}
 use Rattle.ledger.specs.declared.ledger.Ledger.{Ledger}
-use Rattle.journal.specs.Form.{Held, heldOf, heldIn, bufferParts, FormHeld}
+use Rattle.journal.specs.Form.{Held, heldOf, heldIn, partsIn, FormHeld}
 use Rattle.journal.specs.Command.{loadForm}
+use Rattle.journal.specs.declared.form.Parts.{Parts}
 
 -- "FIXED and the words of `present` are 0 or 1"
 abbrev pub truthWord : Bool → ℕ
@@ -69,10 +70,10 @@ ledgerParts ledger =
     ∷ heldOf places (take places (chargeWords (ledger .force)))
     ∷ heldOf count (take count (balanceWords (ledger .balances))) ∷ replicate 4 (heldOf 0 [])
 
--- a ledger that was saved: what the numbers and the lent words hold are its parts
-pub record Saved (ledger : Ledger) (numbers words : List ℕ) : Type 0 where
-  pub parts : bufferParts loadForm numbers words ≡ ledgerParts ledger
-  pub held : FormHeld loadForm numbers (length words)
+-- a ledger that was saved: its parts
+pub record Saved (ledger : Ledger) (saved : Parts) (words : List ℕ) : Type 0 where
+  pub parts : partsIn saved words ≡ ledgerParts ledger
+  pub held : FormHeld loadForm saved (length words)
 
 -- "`load` sets the ledger as given, sound or not, parts not given being zero"
 unfoldable pub loadedLedger : List Held → Ledger

@@ -8,12 +8,12 @@ ghost use Rattle.numbers.specs.Bounded.{filledBelow};
 ghost use Rattle.numbers.specs.Signed.{signedOf};
 ghost use Rattle.numbers.specs.Sizes.{mostDistributors, sectorPlaces};
 ghost use Rattle.settlement.specs.Month.{moneyBelow};
-ghost use Rattle.journal.specs.Form.{FormHeld, bufferParts};
+ghost use Rattle.journal.specs.Form.{FormHeld, partsIn};
 ghost use Rattle.journal.specs.Command.{loadForm};
 ghost use Rattle.store.specs.Store.{wordTruth, loadedLedger};
-use crate::save::BALANCES;
 use fixing::sector::SectorCharges;
-use journal::form::PARTS;
+use journal::form::Parts;
+use journal::form::words_of;
 use ledger::ledger::Ledger;
 use numbers::signed::signed_of;
 use numbers::sizes::MOST_DISTRIBUTORS;
@@ -73,17 +73,15 @@ fn load_balances(words: &[u64]) -> [Pesos; MOST_DISTRIBUTORS]
 }
 
 // The ledger of the parts.
-pub fn load(numbers: [u64; PARTS], words: &[u64]) -> Ledger
-    requires { ⌜ FormHeld loadForm numbers (length (now words)) ⌝ }
-    ensures { λ r. ⌜ r ≡ loadedLedger (bufferParts loadForm numbers (now (words .entry))) ⌝ }
+pub fn load(parts: Parts, words: &[u64]) -> Ledger
+    requires { ⌜ FormHeld loadForm parts (length (now words)) ⌝ }
+    ensures { λ r. ⌜ r ≡ loadedLedger (partsIn parts (now (words .entry))) ⌝ }
 {
-    let placed = numbers[5] as usize;
-    let charged = PLACES + numbers[6] as usize;
-    let balanced = BALANCES + numbers[7] as usize;
-    let present = load_present(&words[..placed]);
-    let charges = load_charges(&words[PLACES..charged]);
-    let balances = load_balances(&words[BALANCES..balanced]);
+    let present = load_present(words_of(parts, words, 5));
+    let charges = load_charges(words_of(parts, words, 6));
+    let balances = load_balances(words_of(parts, words, 7));
     let force = SectorCharges { present, charges };
+    let numbers = parts.numbers;
     Ledger {
         n: numbers[0] as usize,
         months: numbers[1],

@@ -6,7 +6,7 @@ ghost use Rattle.numbers.specs.Sizes.{mostDistributors, sectorPlaces};
 ghost use Rattle.store.specs.Store.{truthWord, zeroPast, keptAmong, presentWords, chargeWords, balanceWords};
 ghost use Rattle.store.specs.Store.{keptWords, Saved};
 use fixing::sector::SectorCharges;
-use journal::form::PARTS;
+use journal::form::Parts;
 use ledger::ledger::Ledger;
 use numbers::signed::word_of;
 use numbers::sizes::MOST_DISTRIBUTORS;
@@ -15,7 +15,7 @@ use numbers::sizes::SECTORS;
 use numbers::units::Pesos;
 
 // Where the balances stand, after presences and charges.
-pub(crate) const BALANCES: usize = PLACES + PLACES;
+const BALANCES: usize = PLACES + PLACES;
 
 // How many words there are at most.
 pub const KEPT_WORDS: usize = BALANCES + MOST_DISTRIBUTORS;
@@ -95,8 +95,8 @@ fn save_balances(balances: [Pesos; MOST_DISTRIBUTORS], into: &mut [u64])
     }
 }
 
-// The ledger's parts: its words into the lent ones, and its numbers.
-pub fn save(ledger: Ledger, words: &mut [u64]) -> [u64; PARTS]
+// The ledger's parts: its words into the lent ones, its numbers, and where the words stand.
+pub fn save(ledger: Ledger, words: &mut [u64]) -> Parts
     requires { ⌜ length (now words) ≡ keptWords ⌝ }
     ensures { λ r. ⌜ Saved ledger r (now (words .exit)) ⌝ }
 {
@@ -112,19 +112,28 @@ pub fn save(ledger: Ledger, words: &mut [u64]) -> [u64; PARTS]
         &saved[PLACES..BALANCES],
         &saved[BALANCES..KEPT_WORDS],
     );
-    let places = (kept * SECTORS) as u64;
-    [
+    let places = kept * SECTORS;
+    let numbers = [
         ledger.n as u64,
         ledger.months,
         ledger.last,
         truth_word(ledger.fixed),
         ledger.month,
-        places,
-        places,
+        places as u64,
+        places as u64,
         kept as u64,
         0,
         0,
         0,
         0,
-    ]
+    ];
+    let charged = PLACES + places;
+    let balanced = BALANCES + kept;
+    let starts = [0, 0, 0, 0, 0, 0, PLACES, BALANCES, 0, 0, 0, 0];
+    let ends = [0, 0, 0, 0, 0, places, charged, balanced, 0, 0, 0, 0];
+    Parts {
+        numbers,
+        starts,
+        ends,
+    }
 }

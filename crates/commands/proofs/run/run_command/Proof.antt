@@ -31,7 +31,7 @@ module _ (r : tie.After-read-form) where
   read = n .next-command .result
 
   follows : FormFollows (commandForm (read .command)) (s .args .text .now) (read .next) (r .read-form .result)
-      (n .before .before .word-buffer .result) (r .read-form .last .1 .1 .1 .0)
+      (r .read-form .last .1 .1 .1 .0)
   follows = rw (r .before .before .form-of .ensures) at (r .read-form .ensures)
 
 returns : tie.Need-returns

@@ -4,17 +4,18 @@ use Prim.Native.Nat.{_+_, _*_, _-_, _^_, _≤_, _<_}
 use native.Mathlib.Omega.{arith}
 use lib.ListN.{length}
 use borrow.Rule.Slice.PartMut.{mid-len}
-use Rattle.journal.proofs.FormLaws.{FormSoFar, form-none, form-fits, form-within, form-more, form-whole}
+use Rattle.journal.proofs.FormLaws.{FormSoFar, form-none, form-fits, form-within, few-words, form-more}
+use Rattle.journal.proofs.FormLaws.{form-whole}
 use borrow.Author.Needs.{needs}
 use Rattle.journal.proofs.form.read_form.Statement.{statement}
 use Rattle.journal.proofs.form.read_form.Tie as tie
 
 abbrev Inv-loop : tie.InvT-loop
-Inv-loop text words₀ form numbers₀ next₀ at₀ k₀ words numbers next at k =
-    FormSoFar form text next₀ numbers words (length words₀) next at k
+Inv-loop text words₀ form numbers₀ starts₀ ends₀ next₀ at₀ k₀ words numbers starts ends next at k =
+    FormSoFar form text next₀ numbers starts ends words (length words₀) next at k
 
 abbrev μ-loop : tie.MeasureT-loop
-μ-loop text words₀ form numbers₀ next₀ at₀ k₀ words numbers next at k = 12 - k
+μ-loop text words₀ form numbers₀ starts₀ ends₀ next₀ at₀ k₀ words numbers starts ends next at k = 12 - k
 
 loop-holds : tie.Need-loop-holds Inv-loop μ-loop
 loop-holds c = form-none _ _ _ _
@@ -45,13 +46,28 @@ read-part-requires c κs =
       mid-len _ _ _ (fits r) ∙ omega (arith, r .room-of .ensures),
     )
 
-loop-again : tie.Need-loop-again Inv-loop μ-loop
-loop-again c =
+add-ends : tie.Need-add-ends Inv-loop μ-loop
+add-ends c =
     let p = c .before .before .before in
     let r = p .before .before in
     let a = r .before .before .before in
+    omega (
+      arith,
+      short a,
+      c .count-of .ensures,
+      few-words _ _ _ (a .loop .inv) (a .before .before .before .pre .1) (omega arith) _ _ _
+          (ap (λ room. a .loop .at + room) (r .room-of .ensures)) (p .read-part .ensures),
+    )
+
+loop-again : tie.Need-loop-again Inv-loop μ-loop
+loop-again c =
+    let n = c .before in
+    let p = n .before .before .before in
+    let r = p .before .before in
+    let a = r .before .before .before in
     form-more _ _ _ (a .loop .inv) (a .before .before .before .pre .1) (omega arith) _ _ _
-    (ap (λ room. a .loop .at + room) (r .room-of .ensures)) (p .read-part .ensures)
+    (ap (λ room. a .loop .at + room) (r .room-of .ensures)) (p .read-part .ensures) _
+    (ap (λ count. a .loop .at + count) (n .count-of .ensures))
 
 same-length : tie.Need-same-length Inv-loop μ-loop
 same-length c = c .before .loop .inv .long
@@ -59,7 +75,7 @@ same-length c = c .before .loop .inv .long
 returns : tie.Need-returns Inv-loop μ-loop
 returns c =
     let a = c .before in
-    form-whole _ _ _ (a .loop .inv) (a .before .before .before .pre .1) (omega arith) _ refl refl _ refl
+    form-whole _ _ _ (a .loop .inv) (a .before .before .before .pre .1) (omega arith) _ refl
 
 pub read-form-spec : {M : Type 1} → statement M
 read-form-spec =
@@ -74,6 +90,8 @@ read-form-spec =
     (λ c. omega arith) (λ c. omega arith)
     fits
     read-part-requires
+    (λ c. omega arith) (λ c. omega arith) (λ c. omega arith) (λ c. omega arith) (λ c κs. search needs)
+    add-ends
     (λ c. omega arith) (λ c. omega arith) (λ c. omega arith) (λ c. omega arith)
     loop-again
     same-length

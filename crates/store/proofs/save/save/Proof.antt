@@ -67,6 +67,12 @@ sized : (s : tie.Start) → (s .args .ledger .n < 2 ^ 64) × (s .args .ledger .m
     (s .args .ledger .last < 2 ^ 64) × (s .args .ledger .month < 2 ^ 64)
 sized s = (search needs, search needs, search needs, search needs)
 
+add-charged : tie.Need-add-charged
+add-charged c = let k = c .before in omega (arith, kept-is k, kept-most (ledger (balanced k)))
+
+add-balanced : tie.Need-add-balanced
+add-balanced c = let k = c .before in omega (arith, kept-is k, kept-most (ledger (balanced k)))
+
 returns : tie.Need-returns
 returns c =
     let b = balanced (c .before) in
@@ -86,5 +92,8 @@ save-spec =
     (λ c. search needs) (λ c. search needs) (λ c. search needs)
     (λ c. search needs) (λ c. search needs) (λ c. search needs) (λ c κs. search needs)
     mul-places
-    (λ c κs. search needs) (λ c. search needs)
+    (λ c κs. search needs)
+    add-charged
+    add-balanced
+    (λ c. search needs)
     returns)
