@@ -77,13 +77,13 @@ fn make_command(
 {
     let numbers = parts.numbers;
     match command {
+        Command::End => Made { ledger, count: 0 },
+        Command::Unknown => Made { ledger, count: 0 },
         Command::Open => run_open(numbers[0] as usize, buffer),
-        Command::Fix => run_fix(parts, ledger, words, lent(list, numbers[7]), buffer),
-        Command::Settle => run_settle(parts, ledger, words, lent(list, numbers[3]), buffer),
         Command::Save => run_save(ledger, buffer),
         Command::Load => run_load(parts, words, buffer),
-        Command::Unknown => Made { ledger, count: 0 },
-        Command::End => Made { ledger, count: 0 },
+        Command::Fix => run_fix(parts, ledger, words, lent(list, numbers[7]), buffer),
+        Command::Settle => run_settle(parts, ledger, words, lent(list, numbers[3]), buffer),
     }
 }
 

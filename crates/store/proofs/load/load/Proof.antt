@@ -1,7 +1,9 @@
 -- Each list is a part of the form, and no longer than there is room for.
+use Prim.Native.Nat.{ℕ, _≤_, _<_}
 use native.Mathlib.Omega.{arith}
+use lib.ListN.{length}
 use Rattle.numbers.specs.Bounded.{listBelow}
-use Rattle.journal.specs.Form.{partsIn}
+use Rattle.journal.specs.Form.{partCount, partAt, roomOf, startOf, endOf, wordsIn, partsIn}
 use Rattle.journal.specs.Command.{loadForm}
 use Rattle.journal.proofs.FormLaws.{part-lies, part-few}
 use Rattle.store.specs.Store.{loadedLedger}
@@ -9,27 +11,33 @@ use borrow.Author.Needs.{needs}
 use Rattle.store.proofs.load.load.Statement.{statement}
 use Rattle.store.proofs.load.load.Tie as tie
 
+-- part k of the form
+module _ (s : tie.Start) (k : ℕ) (p : k < partCount) where
+  lies : (k < partCount) × ((startOf (s .args .parts) k ≤ endOf (s .args .parts) k) ×
+      (endOf (s .args .parts) k ≤ length (s .args .words .now)))
+  lies = part-lies loadForm (s .args .parts) (s .args .words .now) (s .pre) k p
+
+  few : length (wordsIn (s .args .parts) (s .args .words .now) k) ≤ roomOf (partAt loadForm k)
+  few = part-few loadForm (s .args .parts) (s .args .words .now) (s .pre) k p
+
 words-of-requires : tie.Need-words-of-requires
-words-of-requires c κs = part-lies loadForm (c .before .args .parts) (c .before .args .words .now) (c .before .pre) 5 (omega arith)
+words-of-requires c κs = lies (c .before) 5 (omega arith)
 
 load-present-requires : tie.Need-load-present-requires
-load-present-requires c κs =
-    rw (c .words-of .ensures) (part-few loadForm (c .before .before .args .parts) (c .before .before .args .words .now) (c .before .before .pre) 5 (omega arith))
+load-present-requires c κs = rw (c .words-of .ensures) (few (c .before .before) 5 (omega arith))
 
 words-of-requires-2 : tie.Need-words-of-requires-2
-words-of-requires-2 c κs = part-lies loadForm (c .before .before .before .args .parts) (c .before .before .before .args .words .now) (c .before .before .before .pre) 6 (omega arith)
+words-of-requires-2 c κs = lies (c .before .before .before) 6 (omega arith)
 
 load-charges-requires : tie.Need-load-charges-requires
-load-charges-requires c κs =
-    rw (c .words-of2 .ensures) (part-few loadForm (c .before .before .before .before .args .parts) (c .before .before .before .before .args .words .now) (c .before .before .before .before .pre) 6 (omega arith))
+load-charges-requires c κs = rw (c .words-of2 .ensures) (few (c .before .before .before .before) 6 (omega arith))
 
 words-of-requires-3 : tie.Need-words-of-requires-3
-words-of-requires-3 c κs = part-lies loadForm (c .before .before .before .before .before .args .parts) (c .before .before .before .before .before .args .words .now) (c .before .before .before .before .before .pre) 7 (omega arith)
+words-of-requires-3 c κs = lies (c .before .before .before .before .before) 7 (omega arith)
 
 load-balances-requires : tie.Need-load-balances-requires
 load-balances-requires c κs =
-    rw (c .words-of3 .ensures)
-    (part-few loadForm (c .before .before .before .before .before .before .args .parts) (c .before .before .before .before .before .before .args .words .now) (c .before .before .before .before .before .before .pre) 7 (omega arith))
+    rw (c .words-of3 .ensures) (few (c .before .before .before .before .before .before) 7 (omega arith))
 
 returns : tie.Need-returns
 unfolding loadedLedger partsIn listBelow
