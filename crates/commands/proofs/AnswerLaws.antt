@@ -21,10 +21,10 @@ use Rattle.journal.specs.declared.command.Command.{Command}
 use Rattle.journal.specs.declared.command.Command.the-variants.{Open, Fix, Settle, Save, Load, Unknown, End}
 use Rattle.journal.specs.declared.command.CommandRead.{CommandRead}
 use Rattle.ledger.specs.Ledger.{openingVerdict}
-use Rattle.ledger.specs.Fix.{fixingAnswer, fixingAnswered, fixingList}
+use Rattle.ledger.specs.Fix.{FixingCall, fixingAnswer, fixingAnswered, fixingList}
 use Rattle.ledger.specs.Settle.{settlementVerdict, settlementLedger, settlementList}
 use Rattle.ledger.specs.declared.ledger.Ledger.{Ledger}
-use Rattle.answers.specs.Answer.{outcomeLine, fixingLine}
+use Rattle.answers.specs.Answer.{outcomeLine, fixingLine, answerText}
 use Rattle.answers.proofs.SizeLaws.{outcome-size, fixing-line-size, answer-size}
 use Rattle.commands.specs.Replay.{fixingCall, settlementCall, openingText, fixingText, settlementText}
 use Rattle.commands.specs.Replay.{loadingText}
@@ -50,19 +50,25 @@ form-room Unknown = omega arith
 form-room End = omega arith
 
 -- no answer is longer than the buffer
+fixing-fits : (name : List ℕ) → length name ≤ 12 → (ledger : Ledger) (call : FixingCall) →
+    let answer = fixingAnswer ledger call in
+    length (answerText (fixingLine name answer) (eqb (fixingAnswered answer .number) 0) (fixingList ledger call) 3 [])
+    ≤ longestAnswer
+fixing-fits name p ledger call =
+    let answer = fixingAnswer ledger call in
+    omega (
+      arith,
+      answer-size (fixingLine name answer) (eqb (fixingAnswered answer .number) 0) (fixingList ledger call) 3 []
+          (fixing-line-size name answer p),
+    )
+
 answer-fits : (command : Command) (parts : List Held) (ledger : Ledger) →
     length (commandAnswer command parts ledger) ≤ longestAnswer
 unfolding openingText fixingText settlementText loadingText
 answer-fits Open parts ledger =
     let number = verdictAnswered [] (openingVerdict (heldIn parts 0 .number)) .number in
     omega (arith, outcome-size (bytes "open        ") number (omega arith))
-answer-fits Fix parts ledger =
-    let answer = fixingAnswer ledger (fixingCall parts) in
-    omega (
-      arith,
-      answer-size (fixingLine (bytes "fix         ") answer) (eqb (fixingAnswered answer .number) 0)
-          (fixingList ledger (fixingCall parts)) 3 [] (fixing-line-size (bytes "fix         ") answer (omega arith)),
-    )
+answer-fits Fix parts ledger = fixing-fits (bytes "fix         ") (omega arith) ledger (fixingCall parts)
 answer-fits Settle parts ledger =
     let call = settlementCall parts in
     let number = verdictAnswered [] (settlementVerdict ledger call) .number in

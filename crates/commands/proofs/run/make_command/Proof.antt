@@ -34,7 +34,8 @@ run-fix-requires c κs =
 
 lent-requires-2 : tie.Need-lent-requires-2
 lent-requires-2 c κs =
-    few (c .before .before .before .before .before .before) Settle (c .before .enum-told7 .given .1) 3 (omega arith) refl
+    few (c .before .before .before .before .before .before) Settle (c .before .enum-told7 .given .1) 3 (omega arith)
+    refl
 
 run-settle-requires : tie.Need-run-settle-requires
 run-settle-requires c κs =
