@@ -12,55 +12,47 @@ use text::line::Item;
 use text::line::Shown;
 use text::name::NAME;
 
+// No item.
+const NOTHING: Item = Item(*b"            ", Shown::Nothing);
+
 // The line of a command that was accepted, or refused with this number.
 pub fn outcome_line(name: [u8; NAME], number: u64) -> [Item; ITEMS]
     ensures { λ r. ⌜ r ≡ outcomeLine name number ⌝ }
 {
-    let none = Item(*b"            ", Shown::Nothing);
     let command = Item(name, Shown::Word);
     if number == 0 {
         let accepted = Item(*b"accepted    ", Shown::Word);
-        return [command, accepted, none, none, none, none];
+        return [command, accepted, NOTHING, NOTHING, NOTHING, NOTHING];
     }
     let refused = Item(*b"refused     ", Shown::Number(number));
-    [command, refused, none, none, none, none]
+    [command, refused, NOTHING, NOTHING, NOTHING, NOTHING]
 }
 
 // The line of a journal that cannot be read at this byte.
 pub fn error_line(at: usize) -> [Item; ITEMS]
     ensures { λ r. ⌜ r ≡ errorLine at ⌝ }
 {
-    let none = Item(*b"            ", Shown::Nothing);
-    [
-        Item(*b"journal     ", Shown::Word),
-        Item(*b"error       ", Shown::Word),
-        Item(*b"at          ", Shown::Word),
-        Item(*b"byte        ", Shown::Number(at as u64)),
-        none,
-        none,
-    ]
+    let mut line = [NOTHING; ITEMS];
+    line[0] = Item(*b"journal     ", Shown::Word);
+    line[1] = Item(*b"error       ", Shown::Word);
+    line[2] = Item(*b"at          ", Shown::Word);
+    line[3] = Item(*b"byte        ", Shown::Number(at as u64));
+    line
 }
 
 // The line of a list that a refused call changed.
 pub(crate) fn changed_line() -> [Item; ITEMS]
     ensures { λ r. ⌜ r ≡ changedLine ⌝ }
 {
-    let none = Item(*b"            ", Shown::Nothing);
-    [
-        Item(*b"changed     ", Shown::Word),
-        none,
-        none,
-        none,
-        none,
-        none,
-    ]
+    let mut line = [NOTHING; ITEMS];
+    line[0] = Item(*b"changed     ", Shown::Word);
+    line
 }
 
 // The line of a refusal, with its place where it has one.
 fn refusal_line(name: [u8; NAME], refusal: Refusal) -> [Item; ITEMS]
     ensures { λ r. ⌜ r ≡ refusalLine name refusal ⌝ }
 {
-    let none = Item(*b"            ", Shown::Nothing);
     let command = Item(name, Shown::Word);
     let number = refusal_number(refusal);
     let refused = Item(*b"refused     ", Shown::Number(number));
@@ -68,13 +60,13 @@ fn refusal_line(name: [u8; NAME], refusal: Refusal) -> [Item; ITEMS]
         Refusal::MonthMissing { line, term } => {
             let line = Item(*b"line        ", Shown::Number(line as u64));
             let term = Item(*b"term        ", Shown::Number(term as u64));
-            [command, refused, line, term, none, none]
+            [command, refused, line, term, NOTHING, NOTHING]
         }
         Refusal::OutOfBounds { line } => {
             let line = Item(*b"line        ", Shown::Number(line as u64));
-            [command, refused, line, none, none, none]
+            [command, refused, line, NOTHING, NOTHING, NOTHING]
         }
-        _ => [command, refused, none, none, none, none],
+        _ => [command, refused, NOTHING, NOTHING, NOTHING, NOTHING],
     }
 }
 
@@ -87,15 +79,12 @@ pub fn values_line(
 ) -> [Item; ITEMS]
     ensures { λ r. ⌜ r ≡ valuesLine limit surcharge rounds residue ⌝ }
 {
-    let none = Item(*b"            ", Shown::Nothing);
-    [
-        Item(*b"limit       ", Shown::Number(limit.0)),
-        Item(*b"surcharge   ", Shown::Number(surcharge.0)),
-        Item(*b"rounds      ", Shown::Number(rounds)),
-        Item(*b"residue     ", Shown::Number(residue.0)),
-        none,
-        none,
-    ]
+    let mut line = [NOTHING; ITEMS];
+    line[0] = Item(*b"limit       ", Shown::Number(limit.0));
+    line[1] = Item(*b"surcharge   ", Shown::Number(surcharge.0));
+    line[2] = Item(*b"rounds      ", Shown::Number(rounds));
+    line[3] = Item(*b"residue     ", Shown::Number(residue.0));
+    line
 }
 
 // The line of an accepted fixing.

@@ -21,6 +21,9 @@ use text::name::NAME;
 // The longest list that a call is ever lent.
 const LONGEST_LIST: u64 = 8192;
 
+// No part.
+const NOTHING: Part = Part(*b"            ", Kind::Nothing);
+
 // The commands.
 const COMMANDS: usize = 5;
 
@@ -46,88 +49,57 @@ pub struct CommandRead {
 fn empty_form() -> [Part; PARTS]
     ensures { λ r. ⌜ r ≡ emptyForm ⌝ }
 {
-    [Part(*b"            ", Kind::Nothing); PARTS]
+    [NOTHING; PARTS]
 }
 
 fn open_form() -> [Part; PARTS]
     ensures { λ r. ⌜ r ≡ openForm ⌝ }
 {
-    let none = Part(*b"            ", Kind::Nothing);
-    [
-        Part(*b"N           ", Kind::Number(MOST_WORD)),
-        none,
-        none,
-        none,
-        none,
-        none,
-        none,
-        none,
-        none,
-        none,
-        none,
-        none,
-    ]
+    let mut form = [NOTHING; PARTS];
+    form[0] = Part(*b"N           ", Kind::Number(MOST_WORD));
+    form
 }
 
 fn fix_form() -> [Part; PARTS]
     ensures { λ r. ⌜ r ≡ fixForm ⌝ }
 {
-    let none = Part(*b"            ", Kind::Nothing);
-    [
-        Part(*b"MONTH       ", Kind::Number(MOST_WORD)),
-        Part(*b"DOLLAR      ", Kind::Number(MOST_WORD)),
-        Part(*b"FACTOR      ", Kind::Number(MOST_WORD)),
-        Part(*b"FIRST       ", Kind::Number(MOST_WORD)),
-        Part(*b"series      ", Kind::List(LONGEST_LIST, MOST_WORD)),
-        Part(*b"lines       ", Kind::List(LONGEST_LIST, MOST_WORD)),
-        Part(*b"sectors     ", Kind::List(LONGEST_LIST, MOST_WORD)),
-        Part(*b"prices      ", Kind::Length(LONGEST_LIST)),
-        none,
-        none,
-        none,
-        none,
-    ]
+    let mut form = [NOTHING; PARTS];
+    form[0] = Part(*b"MONTH       ", Kind::Number(MOST_WORD));
+    form[1] = Part(*b"DOLLAR      ", Kind::Number(MOST_WORD));
+    form[2] = Part(*b"FACTOR      ", Kind::Number(MOST_WORD));
+    form[3] = Part(*b"FIRST       ", Kind::Number(MOST_WORD));
+    form[4] = Part(*b"series      ", Kind::List(LONGEST_LIST, MOST_WORD));
+    form[5] = Part(*b"lines       ", Kind::List(LONGEST_LIST, MOST_WORD));
+    form[6] = Part(*b"sectors     ", Kind::List(LONGEST_LIST, MOST_WORD));
+    form[7] = Part(*b"prices      ", Kind::Length(LONGEST_LIST));
+    form
 }
 
 fn settle_form() -> [Part; PARTS]
     ensures { λ r. ⌜ r ≡ settleForm ⌝ }
 {
-    let none = Part(*b"            ", Kind::Nothing);
-    [
-        Part(*b"MONTH       ", Kind::Number(MOST_WORD)),
-        Part(*b"readings    ", Kind::List(LONGEST_LIST, MOST_WORD)),
-        Part(*b"losses      ", Kind::List(LONGEST_LIST, MOST_WORD)),
-        Part(*b"transfers   ", Kind::Length(LONGEST_LIST)),
-        none,
-        none,
-        none,
-        none,
-        none,
-        none,
-        none,
-        none,
-    ]
+    let mut form = [NOTHING; PARTS];
+    form[0] = Part(*b"MONTH       ", Kind::Number(MOST_WORD));
+    form[1] = Part(*b"readings    ", Kind::List(LONGEST_LIST, MOST_WORD));
+    form[2] = Part(*b"losses      ", Kind::List(LONGEST_LIST, MOST_WORD));
+    form[3] = Part(*b"transfers   ", Kind::Length(LONGEST_LIST));
+    form
 }
 
 // The form of a kept ledger.
 pub fn load_form() -> [Part; PARTS]
     ensures { λ r. ⌜ r ≡ loadForm ⌝ }
 {
-    let none = Part(*b"            ", Kind::Nothing);
-    [
-        Part(*b"N           ", Kind::Number(MOST_WORD)),
-        Part(*b"MONTHS      ", Kind::Number(MOST_WORD)),
-        Part(*b"LAST        ", Kind::Number(MOST_WORD)),
-        Part(*b"FIXED       ", Kind::Number(1)),
-        Part(*b"MONTH       ", Kind::Number(MOST_WORD)),
-        Part(*b"present     ", Kind::List(PLACES as u64, 1)),
-        Part(*b"charges     ", Kind::Signed(PLACES as u64)),
-        Part(*b"balances    ", Kind::Signed(MOST_DISTRIBUTORS as u64)),
-        none,
-        none,
-        none,
-        none,
-    ]
+    let mut form = [NOTHING; PARTS];
+    form[0] = Part(*b"N           ", Kind::Number(MOST_WORD));
+    form[1] = Part(*b"MONTHS      ", Kind::Number(MOST_WORD));
+    form[2] = Part(*b"LAST        ", Kind::Number(MOST_WORD));
+    form[3] = Part(*b"FIXED       ", Kind::Number(1));
+    form[4] = Part(*b"MONTH       ", Kind::Number(MOST_WORD));
+    form[5] = Part(*b"present     ", Kind::List(PLACES as u64, 1));
+    form[6] = Part(*b"charges     ", Kind::Signed(PLACES as u64));
+    form[7] = Part(*b"balances    ", Kind::Signed(MOST_DISTRIBUTORS as u64));
+    form
 }
 
 // The form of what follows a command's word.

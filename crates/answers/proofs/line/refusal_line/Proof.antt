@@ -17,7 +17,7 @@ returns-2 c =
 returns-3 : tie.Need-returns-3
 returns-3 c =
     let n = c .before .before .before in
-    rw (n .refusal-number .ensures, place-none (n .before .before .before .args .refusal) (c .match .keys3))
+    rw (n .refusal-number .ensures, place-none (n .before .args .refusal) (c .match .keys3))
 
 pub refusal-line-spec : {M : Type 1} → statement M
 refusal-line-spec =
