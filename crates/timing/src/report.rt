@@ -6,6 +6,7 @@ use ledger::fix::FixingAnswer;
 use libc::STDOUT_FILENO;
 use numbers::sizes::MOST_DISTRIBUTORS;
 use numbers::units::Pesos;
+use text::line::ITEMS;
 use text::line::Item;
 use text::line::Shown;
 use text::line::write_line;
@@ -23,15 +24,9 @@ fn print(text: &[u8], count: usize) {
 
 fn print_counts(fixings: u64, settlements: u64) {
     let mut text = io::buffer();
-    let none = Item(*b"            ", Shown::Nothing);
-    let counts = [
-        Item(*b"fixings     ", Shown::Number(fixings)),
-        Item(*b"settlements ", Shown::Number(settlements)),
-        none,
-        none,
-        none,
-        none,
-    ];
+    let mut counts = [Item(*b"            ", Shown::Nothing); ITEMS];
+    counts[0] = Item(*b"fixings     ", Shown::Number(fixings));
+    counts[1] = Item(*b"settlements ", Shown::Number(settlements));
     let end = write_line(&mut text, 0, counts);
     print(&text, end);
 }
