@@ -1,7 +1,7 @@
 -- Laws of the commands of a journal: a command's step, that each command reads on, and that command after command the
 -- journal's ledger is reached. Assumes nothing.
 use mathlib.Core.Path.{_≡_, refl, sym, _∙_, ap}
-use mathlib.Core.Bool.{Bool, true, false, cond, false≢true}
+use mathlib.Core.Bool.{Bool, true, false, cond}
 use mathlib.Core.List.{List}
 use Prim.Native.Nat.{ℕ, zero, suc, _-_, _+_, _<_, _≤_}
 use native.Mathlib.Omega.{arith}
@@ -10,16 +10,13 @@ use lib.ListN.{length}
 use borrow.Author.Tests.{lt-ltb, le-ltb}
 use Rattle.numbers.specs.Checks.{verdictOf}
 use Rattle.numbers.specs.Units.{between}
-use Rattle.journal.specs.Token.{tokenStart, tokenEnd}
-use Rattle.journal.specs.Cursor.{brokenAt, Onward}
+use Rattle.journal.specs.Cursor.{brokenAt}
 use Rattle.journal.specs.Form.{partCount, formAfter, formParts}
 use Rattle.journal.specs.Command.{commandForm, commandAfter}
 use Rattle.journal.specs.declared.cursor.Cursor.{Cursor}
 use Rattle.journal.specs.declared.command.CommandRead.{CommandRead}
-use Rattle.journal.proofs.TokenLaws.{token-start-least, token-start-most, token-end-least, token-some}
-use Rattle.journal.proofs.CursorLaws.{onward-same}
 use Rattle.journal.proofs.FormLaws.{then-form}
-use Rattle.journal.proofs.CommandLaws.{command-cursor, command-within}
+use Rattle.journal.proofs.CommandLaws.{command-past}
 use Rattle.ledger.specs.Ledger.{emptyLedger, openingChecks, openingVerdict, openingLedger}
 use Rattle.ledger.specs.declared.ledger.Ledger.{Ledger}
 use Rattle.commands.specs.Replay.{commandLedger, stepOf, stepAfter, readWith, replayFrom, longestText, replayed}
@@ -41,32 +38,12 @@ module _ (text : List ℕ) (at : ℕ) (ledger : Ledger) (read : CommandRead) (e 
   unfolding stepAfter stepOf
   step-made b after h = rw (← e, ← n, b, h)
 
--- a command's word ends past where it was sought, and the command reads on
-module _ (text : List ℕ) (at : ℕ) (p : at < length text) where
-  abbrev start : ℕ
-  start = tokenStart text at
-
-  ends-later : Dec (start < length text) → at < tokenEnd text start
-  ends-later (yes q) = omega (arith, token-start-least text at, token-some text at q)
-  ends-later (no q) = omega (arith, token-start-most text at (omega arith), token-end-least text start)
-
-  word-later : commandAfter text at .next .broken ≡ false → at < commandAfter text at .next .at
-  word-later =
-      command-cursor text at (λ cursor. cursor .broken ≡ false → at < cursor .at)
-      (λ h. ends-later (decLt start (length text))) (λ h. absurd (false≢true (sym h)))
-
-  module _ (ledger : Ledger) where
-    onward : Onward text (commandAfter text at .next) (stepAfter text at ledger .next)
-    unfolding stepAfter stepOf
-    onward =
-        then-form (onward-same text (commandAfter text at .next) (command-within text at (omega arith)))
-        (commandForm (commandAfter text at .command)) partCount
-
-    step-within : stepAfter text at ledger .next .at ≤ length text
-    step-within = onward .within
-
-    step-later : stepAfter text at ledger .next .broken ≡ false → at < stepAfter text at ledger .next .at
-    step-later h = omega (arith, word-later (onward .whole h), onward .later h)
+-- a command reads on
+step-later : (text : List ℕ) (at : ℕ) → at < length text → (ledger : Ledger) →
+    stepAfter text at ledger .next .broken ≡ false → at < stepAfter text at ledger .next .at
+unfolding stepAfter stepOf
+step-later text at p ledger h =
+    omega (arith, then-form (command-past text at p) (commandForm (commandAfter text at .command)) partCount .later h)
 
 -- past the text no command is made
 pub replay-none : (left : ℕ) (text : List ℕ) (at : ℕ) (ledger : Ledger) → length text ≤ at →
@@ -110,9 +87,6 @@ module _ (text : List ℕ) (at : ℕ) (p : at < length text) (ledger : Ledger) (
     (e : step ≡ stepAfter text at ledger) where
   unrolled : replayFrom (length text - at) text at ledger ≡ replayFrom (suc (length text - (at + 1))) text at ledger
   unrolled = ap (λ k. replayFrom k text at ledger) (omega arith)
-
-  pub next-within : step .next .at ≤ length text
-  next-within = rw e (step-within text at p ledger)
 
   pub next-later : step .next .broken ≡ false → at < step .next .at
   next-later = rw e (step-later text at p ledger)

@@ -24,8 +24,7 @@ use Rattle.journal.specs.Form.{partCount, partAt, Held, heldIn, partAfter, form
 use Rattle.journal.specs.Command.{loadForm, emptyForm, commandRows, commandAmong, commandAfter}
 use Rattle.journal.specs.declared.cursor.Cursor.{Cursor}
 use Rattle.journal.specs.declared.command.Command.the-variants.{Load, End}
-use Rattle.journal.proofs.TextLaws.{line-gap, gap-ends, Ends, Plain, place-within, start-same, end-same, start-none}
-use Rattle.journal.proofs.TextLaws.{end-none}
+use Rattle.journal.proofs.TextLaws.{line-gap, gap-ends, Ends, Plain, place-within, token-same, token-none}
 use Rattle.journal.proofs.StandsLaws.{Ahead, texts-ends}
 use Rattle.journal.proofs.CommandLaws.{commandRead, command-none, command-some}
 use Rattle.journal.proofs.FormLaws.{each-part}
@@ -76,7 +75,8 @@ load-shows = refl
 
 -- the word `load` at the start of a text
 load-among : (tail : List ℕ) →
-    commandAmong (loadName ++ tail) 0 (length loadName) commandRows ≡ commandRead Load (readTo (length loadName))
+    commandAmong (loadName ++ tail) (record { start = 0; end = length loadName }) commandRows ≡ commandRead Load
+    (readTo (length loadName))
 unfolding commandAmong isWord sameByte allBelow nameText
 load-among tail = refl
 
@@ -84,16 +84,14 @@ load-command : (tail : List ℕ) → Ends tail →
     commandRead Load (readTo (length loadName)) ≡ commandAfter (loadName ++ tail) 0
 load-command tail e =
     sym (load-among tail)
-    ∙ command-some (loadName ++ tail) 0 0 (length loadName)
-    (sym (start-same (loadName ++ tail) 0 loadName tail load-plain e refl))
-    (sym (end-same (loadName ++ tail) 0 loadName tail load-plain e refl)) (λ q. omega (arith, q))
+    ∙ command-some (loadName ++ tail) 0 _ (token-same (loadName ++ tail) 0 loadName tail load-plain e refl (omega arith))
+    (λ q. omega (arith, q))
 
 -- only a line end is left: no command follows, and none is read
 end-command : (text : List ℕ) (at : ℕ) → drop at text ≡ lineEnd ∷ [] →
     commandRead End (readTo (length text)) ≡ commandAfter text at
 end-command text at h =
-    command-none text at (length text) (length text) (sym (start-none text at lineEnd line-gap h)) (sym (end-none text))
-    refl (readTo (length text)) refl
+    command-none text at _ (token-none text at lineEnd line-gap h) refl (readTo (length text)) refl
 
 end-read : (text : List ℕ) (cursor : Cursor) → cursor ≡ formAfter partCount emptyForm text cursor
 unfolding formAfter partAfter

@@ -89,7 +89,7 @@ fn make_command(
 
 // One command, from its word on, and its answer as the first bytes of the buffer.
 fn run_command(text: &[u8], at: usize, ledger: Ledger, buffer: &mut [u8]) -> CommandOutcome
-    requires { ⌜ at ≤ length (now text) ⌝ ∗ ⌜ length (now buffer) ≡ longestAnswer ⌝ }
+    requires { ⌜ length (now buffer) ≡ longestAnswer ⌝ }
     ensures { λ r. ⌜ CommandAnswered r (stepAfter (now (text .entry)) at ledger)
         (answerAfter (now (text .entry)) at ledger) (now (buffer .exit)) ⌝ }
 {

@@ -8,30 +8,32 @@ use native.Mathlib.Omega.{arith}
 use lib.Dec.{leb}
 use lib.ListN.{length}
 use borrow.Author.Tests.{le-leb, lt-leb, leb-true}
-use Rattle.journal.specs.Token.{tokenStart, tokenEnd}
+use Rattle.journal.specs.Token.{tokenAfter}
 use Rattle.journal.specs.Word.{isWord}
 use Rattle.journal.specs.Number.{readingIn}
-use Rattle.journal.specs.Cursor.{readTo, brokenAt, wordAfter, numberFrom, numberAfter, Onward}
+use Rattle.journal.specs.Cursor.{readTo, brokenAt, wordAfter, numberFrom, numberAfter}
 use Rattle.journal.specs.declared.number.Reading.{Reading}
 use Rattle.journal.specs.declared.number.Reading.the-variants.{Number, Unreadable}
+use Rattle.journal.specs.declared.token.Token.{Token}
 use Rattle.journal.specs.declared.cursor.Cursor.{Cursor}
 use Rattle.journal.specs.declared.cursor.NumberRead.{NumberRead}
-use Rattle.journal.proofs.TokenLaws.{token-start-least, token-start-most, token-end-least, token-end-most}
+use Rattle.journal.proofs.TokenLaws.{token-ordered, token-within, token-later}
 
 abbrev pub numberRead : ℕ → Cursor → NumberRead
 numberRead value next = record { value = value; next = next }
 
 -- a reading is a number that is small enough, one that is too large, or none
-module _ (reading : Reading) (most start end : ℕ) (next : Cursor) where
-  pub number-small : (value : ℕ) → reading ≡ Number value → value ≤ most → next ≡ readTo end →
-      numberRead value next ≡ numberFrom reading most start end
+module _ (reading : Reading) (most : ℕ) (token : Token) (next : Cursor) where
+  pub number-small : (value : ℕ) → reading ≡ Number value → value ≤ most → next ≡ readTo (token .end) →
+      numberRead value next ≡ numberFrom reading most token
   number-small value e p q = rw (e, le-leb value most p, q) refl
 
-  pub number-large : (value : ℕ) → reading ≡ Number value → most < value → next ≡ brokenAt start →
-      numberRead 0 next ≡ numberFrom reading most start end
+  pub number-large : (value : ℕ) → reading ≡ Number value → most < value → next ≡ brokenAt (token .start) →
+      numberRead 0 next ≡ numberFrom reading most token
   number-large value e p q = rw (e, lt-leb value most p, q) refl
 
-  pub number-none : reading ≡ Unreadable → next ≡ brokenAt start → numberRead 0 next ≡ numberFrom reading most start end
+  pub number-none : reading ≡ Unreadable → next ≡ brokenAt (token .start) →
+      numberRead 0 next ≡ numberFrom reading most token
   number-none e q = rw (e, q) refl
 
 -- nothing is read after what is broken
@@ -45,125 +47,91 @@ module _ (text : List ℕ) (cursor : Cursor) (h : cursor .broken ≡ true) where
   number-after-broken signed most = rw h
 
 -- what is read is the next token
-module _ (text : List ℕ) (cursor : Cursor) (h : cursor .broken ≡ false) (start end : ℕ)
-    (s : start ≡ tokenStart text (cursor .at)) (e : end ≡ tokenEnd text start) where
-  pub word-after-same : (word : List ℕ) → isWord text start end word ≡ true → readTo end ≡ wordAfter text cursor word
+module _ (text : List ℕ) (cursor : Cursor) (h : cursor .broken ≡ false) (token : Token)
+    (e : token ≡ tokenAfter text (cursor .at)) where
+  pub word-after-same : (word : List ℕ) → isWord text (token .start) (token .end) word ≡ true →
+      readTo (token .end) ≡ wordAfter text cursor word
   unfolding wordAfter
-  word-after-same word w = rw (h, ← s, ← e, w)
+  word-after-same word w = rw (h, ← e, w)
 
-  pub word-after-other : (word : List ℕ) → isWord text start end word ≡ false →
-      brokenAt start ≡ wordAfter text cursor word
+  pub word-after-other : (word : List ℕ) → isWord text (token .start) (token .end) word ≡ false →
+      brokenAt (token .start) ≡ wordAfter text cursor word
   unfolding wordAfter
-  word-after-other word w = rw (h, ← s, ← e, w)
+  word-after-other word w = rw (h, ← e, w)
 
   pub number-after-token : (signed : Bool) (most : ℕ) →
-      numberFrom (readingIn signed text start end) most start end ≡ numberAfter text cursor signed most
+      numberFrom (readingIn signed text (token .start) (token .end)) most token ≡ numberAfter text cursor signed most
   unfolding numberAfter
-  number-after-token signed most = rw (h, ← s, ← e)
+  number-after-token signed most = rw (h, ← e)
 
--- a cursor is onward of itself, and of those before it
-pub onward-same : (text : List ℕ) (cursor : Cursor) → cursor .at ≤ length text → Onward text cursor cursor
-onward-same text cursor p = record { within = p; later = λ h. omega arith; whole = λ h. h }
+-- a cursor within the text and, where it is not broken, at a place or past it
+pub record Past (text : List ℕ) (place : ℕ) (cursor : Cursor) : Type 0 where
+  pub within : cursor .at ≤ length text
+  pub later : cursor .broken ≡ false → place ≤ cursor .at
 
-onward-join : (text : List ℕ) (a b c : Cursor) → Onward text a b → Onward text b c → Onward text a c
-onward-join text a b c p q = record {
-  within = q .within;
-  later = λ h. omega (arith, p .later (q .whole h), q .later h);
-  whole = λ h. p .whole (q .whole h);
-}
+-- so is the cursor after one more word or number
+module _ {text : List ℕ} {place : ℕ} {cursor : Cursor} (o : Past text place cursor) where
+  abbrev token : Token
+  token = tokenAfter text (cursor .at)
 
-module _ (text : List ℕ) (cursor : Cursor) (p : cursor .at ≤ length text) where
-  abbrev start : ℕ
-  start = tokenStart text (cursor .at)
-
-  abbrev end : ℕ
-  end = tokenEnd text start
-
-  onward-read : cursor .broken ≡ false → Onward text cursor (readTo end)
-  onward-read h = record {
-    within = token-end-most text start (token-start-most text (cursor .at) p);
-    later = λ q. omega (arith, token-start-least text (cursor .at), token-end-least text start);
-    whole = λ q. h;
+  past-read : cursor .broken ≡ false → Past text place (readTo (token .end))
+  past-read h = record {
+    within = token-within text (cursor .at);
+    later = λ q. omega (
+      arith,
+      o .later h,
+      token-later text (cursor .at) (o .within),
+      token-ordered text (cursor .at),
+    );
   }
 
-  onward-broken : Onward text cursor (brokenAt start)
-  onward-broken = record {
-    within = token-start-most text (cursor .at) p;
+  past-broken : Past text place (brokenAt (token .start))
+  past-broken = record {
+    within = omega (arith, token-ordered text (cursor .at), token-within text (cursor .at));
     later = λ q. absurd (true≢false q);
-    whole = λ q. absurd (true≢false q);
   }
 
-  -- what is read where nothing is broken
-  onward-if : (next : Cursor) → (cursor .broken ≡ false → Onward text cursor next) →
-      Onward text cursor (cond (cursor .broken) cursor next)
-  onward-if next h = go (cursor .broken) refl
-    where
-      go : (b : Bool) → cursor .broken ≡ b → Onward text cursor (cond b cursor next)
-      go true e = onward-same text cursor p
-      go false e = h e
-
-  onward-word : (word : List ℕ) → Onward text cursor (wordAfter text cursor word)
+  pub then-word : (word : List ℕ) → Past text place (wordAfter text cursor word)
   unfolding wordAfter
-  onward-word word =
-      onward-if (cond (isWord text start end word) (readTo end) (brokenAt start))
-      (λ h. go h (isWord text start end word))
+  then-word word = go (cursor .broken) refl (isWord text (token .start) (token .end) word)
     where
-      go : cursor .broken ≡ false → (b : Bool) → Onward text cursor (cond b (readTo end) (brokenAt start))
-      go h true = onward-read h
-      go h false = onward-broken
+      go : (b : Bool) → cursor .broken ≡ b → (same : Bool) →
+          Past text place (cond b cursor (cond same (readTo (token .end)) (brokenAt (token .start))))
+      go true h same = o
+      go false h true = past-read h
+      go false h false = past-broken
 
-  onward-number : (signed : Bool) (most : ℕ) → Onward text cursor (numberAfter text cursor signed most .next)
+  pub then-number : (signed : Bool) (most : ℕ) → Past text place (numberAfter text cursor signed most .next)
   unfolding numberAfter
-  onward-number signed most = go (cursor .broken) refl (readingIn signed text start end)
+  then-number signed most = go (cursor .broken) refl (readingIn signed text (token .start) (token .end))
     where
       within : cursor .broken ≡ false → (value : ℕ) (b : Bool) →
-          Onward text cursor (cond b (numberRead value (readTo end)) (numberRead 0 (brokenAt start)) .next)
-      within h value true = onward-read h
-      within h value false = onward-broken
+          Past text place (cond b (numberRead value (readTo (token .end))) (numberRead 0 (brokenAt (token .start)))
+          .next)
+      within h value true = past-read h
+      within h value false = past-broken
 
       go : (b : Bool) → cursor .broken ≡ b → (reading : Reading) →
-          Onward text cursor (cond b (numberRead 0 cursor) (numberFrom reading most start end) .next)
-      go true h reading = onward-same text cursor p
+          Past text place (cond b (numberRead 0 cursor) (numberFrom reading most token) .next)
+      go true h reading = o
       go false h (Number value) = within h value (leb value most)
-      go false h Unreadable = onward-broken
-
--- onward by one more word or number
-module _ {text : List ℕ} {cursor middle : Cursor} (o : Onward text cursor middle) where
-  pub then-word : (word : List ℕ) → Onward text cursor (wordAfter text middle word)
-  then-word word = onward-join text cursor middle _ o (onward-word text middle (o .within) word)
-
-  pub then-number : (signed : Bool) (most : ℕ) → Onward text cursor (numberAfter text middle signed most .next)
-  then-number signed most = onward-join text cursor middle _ o (onward-number text middle (o .within) signed most)
-
--- a cursor that the code read lies within the text
-module _ (text : List ℕ) (cursor : Cursor) (p : cursor .at ≤ length text) where
-  pub word-within : (word : List ℕ) (next : Cursor) → next ≡ wordAfter text cursor word → next .at ≤ length text
-  word-within word next e = rw e (onward-word text cursor p word .within)
-
-  pub number-within : (signed : Bool) (most : ℕ) (read : NumberRead) → read ≡ numberAfter text cursor signed most →
-      read .next .at ≤ length text
-  number-within signed most read e = rw e (onward-number text cursor p signed most .within)
+      go false h Unreadable = past-broken
 
 -- a number is not above the most
 pub number-most : (text : List ℕ) (cursor : Cursor) (signed : Bool) (most : ℕ) →
     numberAfter text cursor signed most .value ≤ most
 unfolding numberAfter
 number-most text cursor signed most =
-    go (cursor .broken)
-    (readingIn signed text (tokenStart text (cursor .at)) (tokenEnd text (tokenStart text (cursor .at))))
+    let token : Token = tokenAfter text (cursor .at) in
+    go token (cursor .broken) (readingIn signed text (token .start) (token .end))
   where
-    start : ℕ
-    start = tokenStart text (cursor .at)
+    within : (token : Token) (value : ℕ) (b : Bool) → leb value most ≡ b →
+        cond b (numberRead value (readTo (token .end))) (numberRead 0 (brokenAt (token .start))) .value ≤ most
+    within token value true h = leb-true value most h
+    within token value false h = omega arith
 
-    end : ℕ
-    end = tokenEnd text start
-
-    within : (value : ℕ) (b : Bool) → leb value most ≡ b →
-        cond b (numberRead value (readTo end)) (numberRead 0 (brokenAt start)) .value ≤ most
-    within value true h = leb-true value most h
-    within value false h = omega arith
-
-    go : (b : Bool) (reading : Reading) → cond b (numberRead 0 cursor) (numberFrom reading most start end) .value ≤ most
-    go true reading = omega arith
-    go false (Number value) = within value (leb value most) refl
-    go false Unreadable = omega arith
+    go : (token : Token) (b : Bool) (reading : Reading) →
+        cond b (numberRead 0 cursor) (numberFrom reading most token) .value ≤ most
+    go token true reading = omega arith
+    go token false (Number value) = within token value (leb value most) refl
+    go token false Unreadable = omega arith

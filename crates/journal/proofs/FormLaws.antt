@@ -14,7 +14,7 @@ use Rattle.numbers.proofs.SumLaws.{sum-step, sum-mono}
 use Rattle.numbers.proofs.ListLaws.{list-at, list-same, filled-none, filled-next, filled-at}
 use Rattle.numbers.specs.Bounded.{sumBelow, filledBelow}
 use Rattle.text.specs.Text.{nameText}
-use Rattle.journal.specs.Cursor.{numberAfter, mostWord, Onward}
+use Rattle.journal.specs.Cursor.{numberAfter, mostWord}
 use Rattle.journal.specs.List.{countAfter, listAfter, listWords}
 use Rattle.journal.specs.Form.{partCount, partAt, heldOf, heldIn, boundBy, boundOf, countBy, countOf, roomOf}
 use Rattle.journal.specs.Form.{placeOf, partBy, partAfter, formAfter, heldAt, formParts, numberOf, startOf}
@@ -25,7 +25,7 @@ use Rattle.journal.specs.declared.form.Kind.{Kind}
 use Rattle.journal.specs.declared.form.Kind.the-variants.{Nothing, Number, List as Words, Signed, Length}
 use Rattle.journal.specs.declared.form.Part.{Part}
 use Rattle.journal.specs.declared.form.Parts.{Parts}
-use Rattle.journal.proofs.CursorLaws.{numberRead, onward-same, then-number, number-most}
+use Rattle.journal.proofs.CursorLaws.{numberRead, Past, then-number, number-most}
 use Rattle.journal.proofs.ListLaws.{count-most, list-most, words-length, then-count, then-list}
 
 -- a part by its kind, as the code reads it
@@ -79,13 +79,13 @@ module _ (part : Part) (text : List ℕ) (cursor : Cursor) (read : NumberRead) (
         words = rw k (rw (room, s, m) at w);
       }
 
--- onward by a part
-then-part : {text : List ℕ} {cursor middle : Cursor} → Onward text cursor middle → (part : Part) →
-    Onward text cursor (partAfter part text middle .next)
+-- past a place still by a part
+then-part : {text : List ℕ} {place : ℕ} {cursor : Cursor} → Past text place cursor → (part : Part) →
+    Past text place (partAfter part text cursor .next)
 unfolding partAfter
-then-part {text} {cursor} {middle} o part = go (part .1)
+then-part {text} {place} {cursor} o part = go (part .1)
   where
-    go : (kind : Kind) → Onward text cursor (partBy kind (nameText (part .0)) text middle .next)
+    go : (kind : Kind) → Past text place (partBy kind (nameText (part .0)) text cursor .next)
     go Nothing = o
     go (Number most) = then-number o false most
     go (Words longest most) = then-list o (nameText (part .0)) longest false most
@@ -93,8 +93,8 @@ then-part {text} {cursor} {middle} o part = go (part .1)
     go (Length longest) = then-count o (nameText (part .0)) longest
 
 -- by the first k parts
-pub then-form : {text : List ℕ} {cursor middle : Cursor} → Onward text cursor middle → (form : List Part) (k : ℕ) →
-    Onward text cursor (formAfter k form text middle)
+pub then-form : {text : List ℕ} {place : ℕ} {cursor : Cursor} → Past text place cursor → (form : List Part) (k : ℕ) →
+    Past text place (formAfter k form text cursor)
 unfolding formAfter
 then-form o form zero = o
 then-form o form (suc k) = then-part (then-form o form k) (partAt form k)
@@ -229,9 +229,6 @@ module _ (form : List Part) (text : List ℕ) (cursor : Cursor) where
   module _ {numbers starts ends words : List ℕ} {size : ℕ} {next : Cursor} {at k : ℕ}
       (f : FormSoFar form text cursor numbers starts ends words size next at k)
       (room : placeOf form partCount ≤ size) where
-    pub form-within : cursor .at ≤ length text → next .at ≤ length text
-    form-within p = rw (f .following) (then-form (onward-same text cursor p) form k .within)
-
     pub form-fits : k < partCount → at + roomOf (partAt form k) ≤ length words
     form-fits p = rw (f .long) (omega (arith, f .place, place-within form k partCount p))
 

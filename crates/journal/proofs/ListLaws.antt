@@ -7,11 +7,11 @@ use native.Mathlib.Numerals.{add-one}
 use lib.ListN.{length}
 use Rattle.numbers.specs.Bounded.{listBelow}
 use Rattle.numbers.proofs.ListLaws.{list-length}
-use Rattle.journal.specs.Cursor.{wordAfter, numberAfter, Onward}
+use Rattle.journal.specs.Cursor.{wordAfter, numberAfter}
 use Rattle.journal.specs.List.{cursorAfter, numberAt, countAfter, listAfter, listWords}
 use Rattle.journal.specs.declared.cursor.Cursor.{Cursor}
 use Rattle.journal.specs.declared.cursor.NumberRead.{NumberRead}
-use Rattle.journal.proofs.CursorLaws.{numberRead, onward-same, then-word, then-number, number-most}
+use Rattle.journal.proofs.CursorLaws.{numberRead, Past, then-word, then-number, number-most}
 
 module _ (text : List ℕ) (cursor : Cursor) (signed : Bool) (most : ℕ) where
   -- nothing is read yet
@@ -65,23 +65,18 @@ module _ (text : List ℕ) (cursor : Cursor) (name : List ℕ) (longest : ℕ) w
     unfolding listAfter listWords
     words-length = list-length _ (countAfter text cursor name longest .value)
 
--- onward by a list's name and count, by so many numbers, and by a list
-module _ {text : List ℕ} {cursor middle : Cursor} (o : Onward text cursor middle) where
-  pub then-count : (name : List ℕ) (longest : ℕ) → Onward text cursor (countAfter text middle name longest .next)
+-- past a place still by a list's name and count, by so many numbers, and by a list
+module _ {text : List ℕ} {place : ℕ} {cursor : Cursor} (o : Past text place cursor) where
+  pub then-count : (name : List ℕ) (longest : ℕ) → Past text place (countAfter text cursor name longest .next)
   unfolding countAfter
   then-count name longest = then-number (then-word o name) false longest
 
-  then-numbers : (k : ℕ) (signed : Bool) (most : ℕ) → Onward text cursor (cursorAfter k text middle signed most)
+  then-numbers : (k : ℕ) (signed : Bool) (most : ℕ) → Past text place (cursorAfter k text cursor signed most)
   unfolding cursorAfter
   then-numbers zero signed most = o
   then-numbers (suc k) signed most = then-number (then-numbers k signed most) signed most
 
-pub then-list : {text : List ℕ} {cursor middle : Cursor} → Onward text cursor middle → (name : List ℕ) (longest : ℕ)
-    (signed : Bool) (most : ℕ) → Onward text cursor (listAfter text middle name longest signed most .next)
+pub then-list : {text : List ℕ} {place : ℕ} {cursor : Cursor} → Past text place cursor → (name : List ℕ)
+    (longest : ℕ) (signed : Bool) (most : ℕ) → Past text place (listAfter text cursor name longest signed most .next)
 unfolding listAfter
 then-list o name longest signed most = then-numbers (then-count o name longest) _ signed most
-
--- a count that the code read lies within the text
-pub count-within : (text : List ℕ) (cursor : Cursor) → cursor .at ≤ length text → (name : List ℕ) (longest : ℕ)
-    (read : NumberRead) → read ≡ countAfter text cursor name longest → read .next .at ≤ length text
-count-within text cursor p name longest read e = rw e (then-count (onward-same text cursor p) name longest .within)

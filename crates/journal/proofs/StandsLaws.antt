@@ -10,10 +10,11 @@ use Rattle.numbers.specs.Bounded.{listBelow}
 use Rattle.numbers.proofs.BoolLaws.{by-last}
 use Rattle.numbers.proofs.ListLaws.{list-length, list-at, list-same}
 use Rattle.text.specs.Text.{blank, lineEnd, decimal, signedDecimal, word, wordBy, wordsBy, textBelow}
-use Rattle.journal.specs.Token.{tokenStart, tokenEnd}
+use Rattle.journal.specs.Token.{tokenAfter}
 use Rattle.journal.specs.Number.{readingIn}
 use Rattle.journal.specs.Cursor.{readTo, mostWord, wordAfter, numberAfter}
 use Rattle.journal.specs.List.{cursorAfter, numberAt, countAfter, listAfter, listWords}
+use Rattle.journal.specs.declared.token.Token.{Token}
 use Rattle.journal.specs.declared.cursor.Cursor.{Cursor}
 use Rattle.journal.specs.declared.cursor.NumberRead.{NumberRead}
 use Rattle.journal.proofs.CursorLaws.{number-small, word-after-same, number-after-token}
@@ -41,11 +42,8 @@ pub word-ends : (signed : Bool) (x : ℕ) (tail : List ℕ) → Ends (wordBy sig
 word-ends signed x tail = rw (word-begins signed x) (gap-ends blank _ blank-gap)
 
 module _ (text : List ℕ) (cursor : Cursor) where
-  abbrev start : ℕ
-  start = tokenStart text (cursor .at)
-
-  abbrev end : ℕ
-  end = tokenEnd text start
+  abbrev found : Token
+  found = tokenAfter text (cursor .at)
 
   -- a name after a line end
   pub word-stands : (name tail : List ℕ) → Plain name → Ends tail → Ahead text cursor (lineEnd ∷ (name ++ tail)) →
@@ -53,7 +51,7 @@ module _ (text : List ℕ) (cursor : Cursor) where
   word-stands name tail p e s =
       let t : TokenStands text (cursor .at) name tail = token-next text (cursor .at) name tail p e lineEnd line-gap
       (s .after) in
-      rw (← word-after-same text cursor (s .whole) start end refl refl name (token-word t))
+      rw (← word-after-same text cursor (s .whole) found refl name (token-word t))
       (record { whole = refl; after = token-after t })
 
   -- a number after a blank
@@ -63,10 +61,11 @@ module _ (text : List ℕ) (cursor : Cursor) where
       let token : List ℕ = cond signed (signedDecimal x) (decimal x) in
       let t : TokenStands text (cursor .at) token tail = token-next text (cursor .at) token tail
       (text-token x (omega arith) signed) e blank blank-gap (rw (word-begins signed x) at (s .after)) in
-      let reading = text-in x (omega arith) text start end signed tail (t .start) (t .end) in
+      let reading = text-in x (omega arith) text (found .start) (found .end) signed tail (t .start) (t .end) in
       rw (
-        ← number-after-token text cursor (s .whole) start end refl refl signed most,
-        ← number-small (readingIn signed text start end) most start end (readTo end) x reading p refl,
+        ← number-after-token text cursor (s .whole) found refl signed most,
+        ← number-small (readingIn signed text (found .start) (found .end)) most found (readTo (found .end)) x reading p
+            refl,
       )
       (record { value = refl; next = record { whole = refl; after = token-after t } })
 

@@ -2,7 +2,7 @@
 use mathlib.Core.Path.{_≡_, refl, sym, _∙_, ap}
 use mathlib.Core.Bool.{Bool, true, false}
 use mathlib.Core.List.{List, [], _∷_, _++_}
-use Prim.Native.Nat.{ℕ, suc, _+_, _-_, _<_}
+use Prim.Native.Nat.{ℕ, suc, _+_, _-_, _<_, _≤_}
 use native.Mathlib.Nat.{add-zero}
 use native.Mathlib.Omega.{arith}
 use lib.ListN.{length, getD, drop, length-drop, List·getD-append}
@@ -11,9 +11,9 @@ use borrow.Author.Tests.{eq-eqb}
 use Rattle.numbers.proofs.TestLaws.{all-of}
 use Rattle.text.specs.Text.{blank, lineEnd}
 use Rattle.journal.specs.Token.{byteAt, isBlank, endsToken, commentAfter, startFrom, tokenStart, endFrom}
-use Rattle.journal.specs.Token.{tokenEnd}
+use Rattle.journal.specs.Token.{tokenEnd, tokenAfter}
 use Rattle.journal.specs.Word.{sameByte, isWord}
-use Rattle.journal.proofs.TokenLaws.{end-here, end-on, start-here, start-on}
+use Rattle.journal.proofs.TokenLaws.{end-here, end-on, start-here, start-on, token-from}
 
 module _ (text : List ℕ) (k : ℕ) (tail : List ℕ) (h : drop k text ≡ tail) where
   -- the bytes from a place on
@@ -80,16 +80,17 @@ end-walked text (b ∷ token) tail k h p e =
 
 -- the token that is found from a place, and what stands after it
 pub record TokenStands (text : List ℕ) (from : ℕ) (token tail : List ℕ) : Type 0 where
-  pub start : drop (tokenStart text from) text ≡ token ++ tail
-  pub end : tokenEnd text (tokenStart text from) ≡ tokenStart text from + length token
+  pub start : drop (tokenAfter text from .start) text ≡ token ++ tail
+  pub end : tokenAfter text from .end ≡ tokenAfter text from .start + length token
 
 module _ (text : List ℕ) (k : ℕ) (token tail : List ℕ) (p : Plain token) (e : Ends tail) where
-  token-at : (start : ℕ) → tokenStart text k ≡ start → drop start text ≡ token ++ tail → TokenStands text k token tail
+  token-at : k ≤ length text → (start : ℕ) → tokenStart text k ≡ start → drop start text ≡ token ++ tail →
+      TokenStands text k token tail
   unfolding tokenEnd
-  token-at start s h =
+  token-at q start s h =
       record {
-        start = rw s h;
-        end = rw s (end-walked text token tail start h (p .plain) e);
+        start = rw (token-from text k q, s) h;
+        end = rw (token-from text k q, s) (end-walked text token tail start h (p .plain) e);
       }
 
   first-plain : (start : ℕ) → drop start text ≡ token ++ tail → endsToken (byteAt text start) ≡ false
@@ -99,13 +100,15 @@ module _ (text : List ℕ) (k : ℕ) (token tail : List ℕ) (p : Plain token) (
       ∙ p .plain 0 (p .some)
 
   -- a token that stands at the place itself
-  pub start-same : drop k text ≡ token ++ tail → tokenStart text k ≡ k
-  unfolding tokenStart
-  start-same h = start-here text k false (length text - k) (first-plain k h)
-
-  pub end-same : drop k text ≡ token ++ tail → tokenEnd text k ≡ k + length token
-  unfolding tokenEnd
-  end-same h = end-walked text token tail k h (p .plain) e
+  pub token-same : drop k text ≡ token ++ tail → k ≤ length text →
+      record { start = k; end = k + length token } ≡ tokenAfter text k
+  unfolding tokenStart tokenEnd
+  token-same h q =
+      sym (token-from text k q
+      ∙ rw (
+        start-here text k false (length text - k) (first-plain k h),
+        end-walked text token tail k h (p .plain) e,
+      ) refl)
 
   -- a token after a blank or a line end
   pub token-next : (gap : ℕ) → Gap gap → drop k text ≡ gap ∷ (token ++ tail) → TokenStands text k token tail
@@ -113,35 +116,43 @@ module _ (text : List ℕ) (k : ℕ) (token tail : List ℕ) (p : Plain token) (
   token-next gap g h =
       let after : drop (k + 1) text ≡ token ++ tail = one-after text k gap (token ++ tail) h in
       let byte : byteAt text k ≡ gap = byte-first text k (gap ∷ (token ++ tail)) h in
-      token-at (k + 1)
+      token-at (omega (arith, place-within text k gap (token ++ tail) h)) (k + 1)
       (start-on text k false (place-within text k gap (token ++ tail) h) (ap endsToken byte ∙ g .ends)
       ∙ ap (λ (c : Bool). startFrom (length text - (k + 1)) c text (k + 1)) (ap (commentAfter false) byte ∙ g .outside)
       ∙ start-here text (k + 1) false (length text - (k + 1)) (first-plain (k + 1) after))
       after
 
 -- only a blank or a line end is left: no token follows
-pub end-none : (text : List ℕ) → tokenEnd text (length text) ≡ length text
-unfolding tokenEnd endFrom
-end-none text =
-    let left : length text - length text ≡ 0 = omega arith in
-    rw left
-
-pub start-none : (text : List ℕ) (k gap : ℕ) → Gap gap → drop k text ≡ gap ∷ [] → tokenStart text k ≡ length text
-unfolding tokenStart startFrom
-start-none text k gap g h =
+pub token-none : (text : List ℕ) (k gap : ℕ) → Gap gap → drop k text ≡ gap ∷ [] →
+    record { start = length text; end = length text } ≡ tokenAfter text k
+unfolding tokenStart tokenEnd startFrom endFrom
+token-none text k gap g h =
+    let inside : k < length text = place-within text k gap [] h in
     let left : length text - (k + 1) ≡ 0 = omega (arith, tail-length text k (gap ∷ []) h) in
     let last : k + 1 ≡ length text = omega (arith, tail-length text k (gap ∷ []) h) in
-    start-on text k false (place-within text k gap [] h) (ap endsToken (byte-first text k (gap ∷ []) h) ∙ g .ends)
-    ∙ rw left last
+    let ended : length text - length text ≡ 0 = omega arith in
+    sym (token-from text k (omega arith)
+    ∙ rw (
+      start-on text k false inside (ap endsToken (byte-first text k (gap ∷ []) h) ∙ g .ends),
+      left,
+      last,
+      ended,
+    ) refl)
 
 module _ {text : List ℕ} {from : ℕ} {token tail : List ℕ} (t : TokenStands text from token tail) where
-  pub token-after : drop (tokenEnd text (tokenStart text from)) text ≡ tail
-  token-after = rw (t .end) (stands-after text (tokenStart text from) token tail (t .start))
+  abbrev start : ℕ
+  start = tokenAfter text from .start
+
+  abbrev end : ℕ
+  end = tokenAfter text from .end
+
+  pub token-after : drop end text ≡ tail
+  token-after = rw (t .end) (stands-after text start token tail (t .start))
 
   -- the token is the word that stands there
-  pub token-word : isWord text (tokenStart text from) (tokenEnd text (tokenStart text from)) token ≡ true
+  pub token-word : isWord text start end token ≡ true
   unfolding isWord sameByte
   token-word =
-      let size : tokenEnd text (tokenStart text from) - tokenStart text from ≡ length token = omega (arith, t .end) in
+      let size : end - start ≡ length token = omega (arith, t .end) in
       rw (eq-eqb _ (length token) size)
-      (all-of (length token) _ (λ i p. eq-eqb _ _ (byte-of text (tokenStart text from) token tail (t .start) i p)))
+      (all-of (length token) _ (λ i p. eq-eqb _ _ (byte-of text start token tail (t .start) i p)))

@@ -3,11 +3,12 @@
 use mathlib.Core.Path.{_≡_, refl}
 use mathlib.Core.Bool.{Bool, true, false, cond, _||_}
 use mathlib.Core.List.{List}
-use Prim.Native.Nat.{ℕ, zero, suc, _+_, _-_, _<_, _≤_}
+use Prim.Native.Nat.{ℕ, zero, suc, _+_, _-_, _<_, _≤_, min}
 use native.Mathlib.Omega.{arith}
 use lib.ListN.{length}
 use Rattle.numbers.proofs.BoolLaws.{or-right}
 use Rattle.journal.specs.Token.{byteAt, endsToken, commentAfter, startFrom, tokenStart, endFrom, tokenEnd}
+use Rattle.journal.specs.Token.{tokenAfter}
 
 module _ (text : List ℕ) (k : ℕ) where
   pub end-here : (left : ℕ) → endsToken (byteAt text k) ≡ true → endFrom left text k ≡ k
@@ -78,38 +79,54 @@ module _ (text : List ℕ) where
       go true h q r = r (omega arith)
       go false h q r = or-right comment (endsToken (byteAt text k)) h
 
-  pub token-start-least : (from : ℕ) → from ≤ tokenStart text from
+  start-least : (from : ℕ) → from ≤ tokenStart text from
   unfolding tokenStart
-  token-start-least from = start-walk (length text - from) false from .0
+  start-least from = start-walk (length text - from) false from .0
 
-  pub token-start-most : (from : ℕ) → from ≤ length text → tokenStart text from ≤ length text
+  pub start-most : (from : ℕ) → from ≤ length text → tokenStart text from ≤ length text
   unfolding tokenStart
-  token-start-most from p = omega (arith, start-walk (length text - from) false from .1)
+  start-most from p = omega (arith, start-walk (length text - from) false from .1)
 
-  pub token-end-least : (start : ℕ) → start ≤ tokenEnd text start
+  end-least : (start : ℕ) → start ≤ tokenEnd text start
   unfolding tokenEnd
-  token-end-least start = end-walk (length text - start) start .0
+  end-least start = end-walk (length text - start) start .0
 
-  pub token-end-most : (start : ℕ) → start ≤ length text → tokenEnd text start ≤ length text
+  end-most : (start : ℕ) → start ≤ length text → tokenEnd text start ≤ length text
   unfolding tokenEnd
-  token-end-most start p = omega (arith, end-walk (length text - start) start .1)
+  end-most start p = omega (arith, end-walk (length text - start) start .1)
 
   -- a token is not empty
   end-past : (start : ℕ) → start < length text → endsToken (byteAt text start) ≡ false → start < tokenEnd text start
   unfolding tokenEnd
   end-past start p h = rw (end-on text start p h) (omega (arith, end-walk (length text - (start + 1)) (start + 1) .0))
 
-  pub token-some : (from : ℕ) → tokenStart text from < length text →
+  start-past : (from : ℕ) → tokenStart text from < length text →
       tokenStart text from < tokenEnd text (tokenStart text from)
   unfolding tokenStart
-  token-some from p =
+  start-past from p =
       end-past (tokenStart text from) p
       (start-byte (length text - from) false from (omega (arith, start-walk (length text - from) false from .0)))
 
--- a token that the code found lies within the text
-module _ (text : List ℕ) (from start : ℕ) (p : from ≤ length text) (s : start ≡ tokenStart text from) where
-  pub start-within : start ≤ length text
-  start-within = rw s (token-start-most text from p)
+-- the next token lies within the text, after the place where it is sought, and is not empty where there is one
+module _ (text : List ℕ) (from : ℕ) where
+  pub token-from : from ≤ length text →
+      tokenAfter text from ≡ record { start = tokenStart text from; end = tokenEnd text (tokenStart text from) }
+  unfolding tokenAfter
+  token-from p =
+      let e : min from (length text) ≡ from = omega arith in
+      rw e
 
-  pub token-within : (end : ℕ) → end ≡ tokenEnd text start → (start ≤ end) × (end ≤ length text)
-  token-within end e = (rw e (token-end-least text start), rw e (token-end-most text start start-within))
+  pub token-ordered : tokenAfter text from .start ≤ tokenAfter text from .end
+  unfolding tokenAfter
+  token-ordered = end-least text _
+
+  pub token-within : tokenAfter text from .end ≤ length text
+  unfolding tokenAfter
+  token-within = end-most text _ (start-most text (min from (length text)) (omega arith))
+
+  pub token-later : from ≤ length text → from ≤ tokenAfter text from .start
+  token-later p = rw (token-from p) (start-least text from)
+
+  pub token-some : tokenAfter text from .start < length text → tokenAfter text from .start < tokenAfter text from .end
+  unfolding tokenAfter
+  token-some p = start-past text (min from (length text)) p

@@ -8,10 +8,11 @@ use lib.Dec.{eqb}
 use lib.ListN.{length, replicate}
 use Rattle.numbers.specs.Sizes.{mostDistributors, sectorPlaces}
 use Rattle.text.specs.Text.{bytes, nameText}
-use Rattle.journal.specs.Token.{tokenStart, tokenEnd}
+use Rattle.journal.specs.Token.{tokenAfter}
 use Rattle.journal.specs.Word.{isWord}
 use Rattle.journal.specs.Cursor.{readTo, brokenAt, mostWord}
 use Rattle.journal.specs.Form.{part, partCount, nothing}
+use Rattle.journal.specs.declared.token.Token.{Token}
 use Rattle.journal.specs.declared.command.Command.{Command}
 use Rattle.journal.specs.declared.command.Command.the-variants.{Open, Fix, Settle, Save, Load, Unknown, End}
 use Rattle.journal.specs.declared.command.CommandRead.{CommandRead}
@@ -78,17 +79,17 @@ commandRows =
     row "open        " Open ∷ row "fix         " Fix ∷ row "settle      " Settle ∷ row "save        " Save
     ∷ row "load        " Load ∷ []
 
--- the first command whose name is the token from start to before end; "an unknown word"
-unfoldable pub commandAmong : List ℕ → ℕ → ℕ → List CommandRow → CommandRead
-commandAmong text start end [] = record { command = Unknown; next = brokenAt start }
-commandAmong text start end (row ∷ rows) =
-    cond (isWord text start end (nameText (row .0))) (record { command = row .1; next = readTo end })
-    (commandAmong text start end rows)
+-- the first command whose name is the token; "an unknown word"
+unfoldable pub commandAmong : List ℕ → Token → List CommandRow → CommandRead
+commandAmong text token [] = record { command = Unknown; next = brokenAt (token .start) }
+commandAmong text token (row ∷ rows) =
+    cond (isWord text (token .start) (token .end) (nameText (row .0)))
+    (record { command = row .1; next = readTo (token .end) })
+    (commandAmong text token rows)
 
 -- the next token's command
 unfoldable pub commandAfter : List ℕ → ℕ → CommandRead
 commandAfter text at =
-    let start = tokenStart text at in
-    let end = tokenEnd text start in
-    cond (eqb start (length text)) (record { command = End; next = readTo end })
-    (commandAmong text start end commandRows)
+    let token = tokenAfter text at in
+    cond (eqb (token .start) (length text)) (record { command = End; next = readTo (token .end) })
+    (commandAmong text token commandRows)

@@ -1,9 +1,10 @@
 -- The tokens of a journal: blanks, comments, where a token starts and where it ends. Assumes nothing.
 use mathlib.Core.Bool.{Bool, false, cond, not, _&&_, _||_}
 use mathlib.Core.List.{List}
-use Prim.Native.Nat.{ℕ, zero, suc, _+_, _-_}
+use Prim.Native.Nat.{ℕ, zero, suc, _+_, _-_, min}
 use lib.Dec.{eqb}
 use lib.ListN.{length, getD}
+use Rattle.journal.specs.declared.token.Token.{Token}
 
 -- a text's byte; past its end 0
 abbrev pub byteAt : List ℕ → ℕ → ℕ
@@ -39,3 +40,9 @@ endFrom (suc left) text k = cond (endsToken (byteAt text k)) k (endFrom left tex
 -- where the token that starts at a place ends
 unfoldable pub tokenEnd : List ℕ → ℕ → ℕ
 tokenEnd text start = endFrom (length text - start) text start
+
+-- the next token from a place on; at the text's end where there is none
+unfoldable pub tokenAfter : List ℕ → ℕ → Token
+tokenAfter text from =
+    let start = tokenStart text (min from (length text)) in
+    record { start = start; end = tokenEnd text start }

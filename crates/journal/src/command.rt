@@ -11,8 +11,8 @@ use crate::form::Kind;
 use crate::form::MOST_WORD;
 use crate::form::PARTS;
 use crate::form::Part;
-use crate::token::token_end;
-use crate::token::token_start;
+use crate::token::Token;
+use crate::token::next_token;
 use crate::word::is_name;
 use numbers::sizes::MOST_DISTRIBUTORS;
 use numbers::sizes::PLACES;
@@ -130,10 +130,10 @@ fn command_rows() -> [CommandRow; COMMANDS]
     ]
 }
 
-// The command of the token from start to before end, or the byte of an unknown word.
-fn command_in(text: &[u8], start: usize, end: usize) -> CommandRead
-    requires { ⌜ start ≤ end ⌝ ∗ ⌜ end ≤ length (now text) ⌝ }
-    ensures { λ r. ⌜ r ≡ commandAmong (now (text .entry)) start end commandRows ⌝ }
+// The command of the token, or the byte of an unknown word.
+fn command_in(text: &[u8], token: Token) -> CommandRead
+    requires { ⌜ token .start ≤ token .end ⌝ ∗ ⌜ token .end ≤ length (now text) ⌝ }
+    ensures { λ r. ⌜ r ≡ commandAmong (now (text .entry)) token commandRows ⌝ }
 {
     let rows = command_rows();
     let mut k: usize = 0;
@@ -141,13 +141,13 @@ fn command_in(text: &[u8], start: usize, end: usize) -> CommandRead
         let row = rows[k];
         let name = row.0;
         let command = row.1;
-        if is_name(text, start, end, name) {
-            let next = read_to(end);
+        if is_name(text, token.start, token.end, name) {
+            let next = read_to(token.end);
             return CommandRead { command, next };
         }
         k += 1;
     }
-    let next = broken_at(start);
+    let next = broken_at(token.start);
     CommandRead {
         command: Command::Unknown,
         next,
@@ -156,17 +156,15 @@ fn command_in(text: &[u8], start: usize, end: usize) -> CommandRead
 
 // Reads the next command's word.
 pub fn next_command(text: &[u8], at: usize) -> CommandRead
-    requires { ⌜ at ≤ length (now text) ⌝ }
     ensures { λ r. ⌜ r ≡ commandAfter (now (text .entry)) at ⌝ }
 {
-    let start = token_start(text, at);
-    let end = token_end(text, start);
-    if start == text.len() {
-        let next = read_to(end);
+    let token = next_token(text, at);
+    if token.start == text.len() {
+        let next = read_to(token.end);
         return CommandRead {
             command: Command::End,
             next,
         };
     }
-    command_in(text, start, end)
+    command_in(text, token)
 }

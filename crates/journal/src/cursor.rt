@@ -1,14 +1,12 @@
 // Reading on from a place in a journal: the next word or number. What cannot be read is told by the byte where its
 // token starts, and after it nothing is read.
 ghost use mathlib.Core.Path.{_≡_};
-ghost use Prim.Native.Nat.{_≤_};
-ghost use lib.ListN.{length};
 ghost use Rattle.text.specs.Text.{nameText};
 ghost use Rattle.journal.specs.Cursor.{readTo, brokenAt, wordAfter, numberFrom, numberAfter};
 use crate::number::Reading;
 use crate::number::read_token;
-use crate::token::token_end;
-use crate::token::token_start;
+use crate::token::Token;
+use crate::token::next_token;
 use crate::word::is_name;
 use text::name::NAME;
 
@@ -39,35 +37,33 @@ pub fn broken_at(at: usize) -> Cursor
 
 // Reads the given name.
 pub(crate) fn next_name(text: &[u8], cursor: Cursor, name: [u8; NAME]) -> Cursor
-    requires { ⌜ cursor .at ≤ length (now text) ⌝ }
     ensures { λ r. ⌜ r ≡ wordAfter (now (text .entry)) cursor (nameText name) ⌝ }
 {
     if cursor.broken {
         return cursor;
     }
-    let start = token_start(text, cursor.at);
-    let end = token_end(text, start);
-    if is_name(text, start, end, name) {
-        return read_to(end);
+    let token = next_token(text, cursor.at);
+    if is_name(text, token.start, token.end, name) {
+        return read_to(token.end);
     }
-    broken_at(start)
+    broken_at(token.start)
 }
 
 // A token's reading as a number of at most `most`.
-fn number_from(reading: Reading, most: u64, start: usize, end: usize) -> NumberRead
-    ensures { λ r. ⌜ r ≡ numberFrom reading most start end ⌝ }
+fn number_from(reading: Reading, most: u64, token: Token) -> NumberRead
+    ensures { λ r. ⌜ r ≡ numberFrom reading most token ⌝ }
 {
     match reading {
         Reading::Number(value) => {
             if value <= most {
-                let next = read_to(end);
+                let next = read_to(token.end);
                 return NumberRead { value, next };
             }
-            let next = broken_at(start);
+            let next = broken_at(token.start);
             NumberRead { value: 0, next }
         }
         Reading::Unreadable => {
-            let next = broken_at(start);
+            let next = broken_at(token.start);
             NumberRead { value: 0, next }
         }
     }
@@ -75,7 +71,6 @@ fn number_from(reading: Reading, most: u64, start: usize, end: usize) -> NumberR
 
 // Reads a number of at most `most`, signed or not.
 pub fn next_number(text: &[u8], cursor: Cursor, signed: bool, most: u64) -> NumberRead
-    requires { ⌜ cursor .at ≤ length (now text) ⌝ }
     ensures { λ r. ⌜ r ≡ numberAfter (now (text .entry)) cursor signed most ⌝ }
 {
     if cursor.broken {
@@ -84,7 +79,10 @@ pub fn next_number(text: &[u8], cursor: Cursor, signed: bool, most: u64) -> Numb
             next: cursor,
         };
     }
-    let start = token_start(text, cursor.at);
-    let end = token_end(text, start);
-    number_from(read_token(text, start, end, signed), most, start, end)
+    let token = next_token(text, cursor.at);
+    number_from(
+        read_token(text, token.start, token.end, signed),
+        most,
+        token,
+    )
 }

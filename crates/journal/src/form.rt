@@ -91,7 +91,7 @@ fn count_of(part: Part, number: u64) -> usize
 
 // Reads a part: its number, and a list's words into the first places of the lent words.
 fn read_part(text: &[u8], cursor: Cursor, part: Part, into: &mut [u64]) -> NumberRead
-    requires { ⌜ cursor .at ≤ length (now text) ⌝ ∗ ⌜ length (now into) ≡ roomOf part ⌝ }
+    requires { ⌜ length (now into) ≡ roomOf part ⌝ }
     ensures { λ r. ⌜ PartFollows part (now (text .entry)) cursor r (now (into .entry)) (now (into .exit)) ⌝ }
 {
     let name = part.0;
@@ -110,7 +110,7 @@ fn read_part(text: &[u8], cursor: Cursor, part: Part, into: &mut [u64]) -> Numbe
 
 // Reads the parts of a form; the words of a list stand where the longest lists before it would end.
 pub fn read_form(text: &[u8], cursor: Cursor, form: [Part; PARTS], words: &mut [u64]) -> FormRead
-    requires { ⌜ cursor .at ≤ length (now text) ⌝ ∗ ⌜ placeOf form partCount ≤ length (now words) ⌝ }
+    requires { ⌜ placeOf form partCount ≤ length (now words) ⌝ }
     ensures { λ r. ⌜ FormFollows form (now (text .entry)) cursor r (now (words .exit)) ⌝ }
 {
     let mut numbers = [0u64; PARTS];

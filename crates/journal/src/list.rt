@@ -1,7 +1,6 @@
 // Lists of a journal: "its name, its count K and K numbers".
 ghost use mathlib.Core.Path.{_≡_};
 ghost use mathlib.Core.List.{_++_};
-ghost use Prim.Native.Nat.{_≤_};
 ghost use lib.ListN.{length, drop};
 ghost use Rattle.numbers.specs.Bounded.{listBelow};
 ghost use Rattle.text.specs.Text.{nameText};
@@ -14,7 +13,6 @@ use text::name::NAME;
 
 // Reads as many numbers as the lent list has places, each of at most `most`; zeros stand where they cannot be read.
 fn fill_numbers(text: &[u8], cursor: Cursor, signed: bool, most: u64, into: &mut [u64]) -> Cursor
-    requires { ⌜ cursor .at ≤ length (now text) ⌝ }
     ensures { λ r. ⌜ r ≡ cursorAfter (length (now (into .entry))) (now (text .entry)) cursor signed most ⌝ }
     ensures { λ r. ⌜ now (into .exit) ≡ listBelow (length (now (into .entry)))
         (numberAt (now (text .entry)) cursor signed most) ⌝ }
@@ -33,7 +31,6 @@ fn fill_numbers(text: &[u8], cursor: Cursor, signed: bool, most: u64, into: &mut
 
 // Reads a list's name and its count, or the length of a lent list.
 pub(crate) fn read_count(text: &[u8], cursor: Cursor, name: [u8; NAME], longest: u64) -> NumberRead
-    requires { ⌜ cursor .at ≤ length (now text) ⌝ }
     ensures { λ r. ⌜ r ≡ countAfter (now (text .entry)) cursor (nameText name) longest ⌝ }
 {
     let named = next_name(text, cursor, name);
@@ -49,7 +46,6 @@ pub(crate) fn read_list(
     most: u64,
     into: &mut [u64],
 ) -> NumberRead
-    requires { ⌜ cursor .at ≤ length (now text) ⌝ }
     ensures { λ r. ⌜ r ≡ listAfter (now (text .entry)) cursor (nameText name) (length (now (into .entry))) signed most
         ⌝ }
     ensures { λ r. ⌜ now (into .exit) ≡ listWords (now (text .entry)) cursor (nameText name)

@@ -4,6 +4,13 @@ ghost use mathlib.Core.Bool.{_||_};
 ghost use Prim.Native.Nat.{_≤_};
 ghost use lib.ListN.{length};
 ghost use Rattle.journal.specs.Token.{isBlank, endsToken, commentAfter, tokenStart, tokenEnd};
+ghost use Rattle.journal.specs.Token.{tokenAfter};
+
+// A token's place: its first byte, and the byte after its last.
+pub(crate) struct Token {
+    pub start: usize,
+    pub end: usize,
+}
 
 // Whether a byte is a blank.
 fn is_blank(byte: u8) -> bool
@@ -34,7 +41,7 @@ fn comment_after(comment: bool, byte: u8) -> bool
 }
 
 // Where the next token starts; the text's length where there is none.
-pub(crate) fn token_start(text: &[u8], from: usize) -> usize
+fn token_start(text: &[u8], from: usize) -> usize
     requires { ⌜ from ≤ length (now text) ⌝ }
     ensures { λ r. ⌜ r ≡ tokenStart (now (text .entry)) from ⌝ }
 {
@@ -52,7 +59,7 @@ pub(crate) fn token_start(text: &[u8], from: usize) -> usize
 }
 
 // Where the token that starts at a place ends.
-pub(crate) fn token_end(text: &[u8], start: usize) -> usize
+fn token_end(text: &[u8], start: usize) -> usize
     requires { ⌜ start ≤ length (now text) ⌝ }
     ensures { λ r. ⌜ r ≡ tokenEnd (now (text .entry)) start ⌝ }
 {
@@ -64,4 +71,15 @@ pub(crate) fn token_end(text: &[u8], start: usize) -> usize
         k += 1;
     }
     k
+}
+
+// The next token from a place on; at the text's end where there is none.
+pub(crate) fn next_token(text: &[u8], from: usize) -> Token
+    ensures { λ r. ⌜ r ≡ tokenAfter (now (text .entry)) from ⌝ }
+{
+    let size = text.len();
+    let place = if from < size { from } else { size };
+    let start = token_start(text, place);
+    let end = token_end(text, start);
+    Token { start, end }
 }

@@ -3,7 +3,6 @@ use native.Mathlib.Omega.{arith}
 use Rattle.journal.specs.Form.{FormFollows}
 use Rattle.journal.specs.Command.{commandForm}
 use Rattle.journal.specs.declared.command.CommandRead.{CommandRead}
-use Rattle.journal.proofs.CommandLaws.{command-within}
 use Rattle.commands.proofs.AnswerLaws.{form-room, command-broken, command-made}
 use borrow.Author.Needs.{needs}
 use Rattle.commands.proofs.run.run_command.Statement.{statement}
@@ -11,13 +10,9 @@ use Rattle.commands.proofs.run.run_command.Tie as tie
 
 read-form-requires : tie.Need-read-form-requires
 read-form-requires c κs =
-    let f = c .before in
-    let n = f .before in
-    let w = n .before .before in
-    let s = w .before .before .before in (
-      rw (n .next-command .ensures) (command-within _ _ (s .pre .0)),
-      rw (f .form-of .ensures) (omega (arith, form-room (n .next-command .result .command), w .word-buffer .ensures)),
-    )
+    let n = c .before .before in
+    rw (c .before .form-of .ensures)
+    (omega (arith, form-room (n .next-command .result .command), n .before .before .word-buffer .ensures))
 
 -- what was read of the form
 module _ (r : tie.After-read-form) where
@@ -49,7 +44,7 @@ returns-2 c =
     let m = c .before .before .before .before in
     let r = m .before .before .before .before .before .before .before .before in
     command-made _ _ _ (read r) (n r .next-command .ensures) _ (follows r .next)
-    (m .before .before .before .before .before .if1 .left) _ (follows r .parts) _ _ _ (s r .pre .1)
+    (m .before .before .before .before .before .if1 .left) _ (follows r .parts) _ _ _ (s r .pre)
     (m .make-command .ensures)
 
 pub run-command-spec : {M : Type 1} → statement M

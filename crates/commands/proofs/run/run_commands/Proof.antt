@@ -7,7 +7,7 @@ use lib.ListN.{length}
 use lib.Seq.{length-take-le}
 use Rattle.ledger.specs.Ledger.{emptyLedger}
 use Rattle.commands.specs.Replay.{longestAnswer, stepAfter, replayFrom}
-use Rattle.commands.proofs.ReplayLaws.{stepBy, next-within, next-later, replay-none, replay-broken, replay-on}
+use Rattle.commands.proofs.ReplayLaws.{stepBy, next-later, replay-none, replay-broken, replay-on}
 use Rattle.commands.proofs.ReplayLaws.{opened-none, short}
 use borrow.Author.Needs.{needs}
 use Rattle.commands.proofs.run.run_commands.Statement.{statement}
@@ -15,7 +15,7 @@ use Rattle.commands.proofs.run.run_commands.Tie as tie
 
 abbrev Inv-loop : tie.InvT-loop
 Inv-loop text buffer₀ ledger₀ at₀ buffer ledger at =
-    (at ≤ length text) × (length buffer ≡ longestAnswer) ×
+    (length buffer ≡ longestAnswer) ×
     (replayFrom (length text - at) text at ledger ≡ replayFrom (length text) text 0 (emptyLedger 0))
 
 abbrev μ-loop : tie.MeasureT-loop
@@ -39,16 +39,15 @@ loop-holds : tie.Need-loop-holds Inv-loop μ-loop
 loop-holds c =
     let text = c .before .before .before .before .args .text .now in
     let e : length text - 0 ≡ length text = omega arith in (
-      omega arith,
       c .before .before .answer-buffer .ensures,
       ap₂ (λ k ledger. replayFrom k text 0 ledger) e (c .before .open .ensures .opened ∙ opened-none),
     )
 
 slice-aggregate-run-command : tie.Need-slice-aggregate-run-command Inv-loop μ-loop
-slice-aggregate-run-command c = sym (c .before .before .loop .inv .1)
+slice-aggregate-run-command c = sym (c .before .before .loop .inv .0)
 
 run-command-requires : tie.Need-run-command-requires Inv-loop μ-loop
-run-command-requires c κs = let l = c .before .before in (l .loop .inv .0, l .loop .inv .1)
+run-command-requires c κs = c .before .before .loop .inv .0
 
 array-share-prefix-buffer : tie.Need-array-share-prefix-buffer Inv-loop μ-loop
 array-share-prefix-buffer c = c .before .run-command .ensures .within
@@ -60,7 +59,7 @@ returns : tie.Need-returns Inv-loop μ-loop
 returns c =
     let d = c .before .before .before .before .before .before in
     short _ (l d .before .before .before .before .before .pre)
-    (sym (replay-broken _ _ (inside d) _ _ (stepped d) (c .if1 .taken)) ∙ l d .loop .inv .2)
+    (sym (replay-broken _ _ (inside d) _ _ (stepped d) (c .if1 .taken)) ∙ l d .loop .inv .1)
 
 loop-less : tie.Need-loop-less Inv-loop μ-loop
 loop-less c =
@@ -70,9 +69,8 @@ loop-less c =
 loop-again : tie.Need-loop-again Inv-loop μ-loop
 loop-again c =
     let d = c .before .before .before .before .before .before .before in (
-      next-within _ _ (inside d) _ _ (stepped d),
       search needs,
-      sym (replay-on _ _ (inside d) _ _ (stepped d) (c .before .if1 .left)) ∙ l d .loop .inv .2,
+      sym (replay-on _ _ (inside d) _ _ (stepped d) (c .before .if1 .left)) ∙ l d .loop .inv .1,
     )
 
 returns-2 : tie.Need-returns-2 Inv-loop μ-loop
@@ -82,7 +80,7 @@ returns-2 c =
     short text (l .before .before .before .before .before .pre)
     (ap (stepBy (l .loop .ledger)) (c .read-to .ensures)
     ∙ sym (replay-none (length text - l .loop .at) text (l .loop .at) (l .loop .ledger) (omega arith))
-    ∙ l .loop .inv .2)
+    ∙ l .loop .inv .1)
 
 pub run-commands-spec : {M : Type 1} → statement M
 run-commands-spec =

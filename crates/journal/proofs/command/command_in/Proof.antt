@@ -10,12 +10,12 @@ use Rattle.journal.proofs.command.command_in.Statement.{statement}
 use Rattle.journal.proofs.command.command_in.Tie as tie
 
 abbrev Inv-loop : tie.InvT-loop
-Inv-loop text start end rows k₀ k =
+Inv-loop text token rows k₀ k =
     (k ≤ 5) × (rows ≡ commandRows) ×
-    (commandAmong text start end (drop k commandRows) ≡ commandAmong text start end commandRows)
+    (commandAmong text token (drop k commandRows) ≡ commandAmong text token commandRows)
 
 abbrev μ-loop : tie.MeasureT-loop
-μ-loop text start end rows k₀ k = 5 - k
+μ-loop text token rows k₀ k = 5 - k
 
 loop-holds : tie.Need-loop-holds Inv-loop μ-loop
 loop-holds c = (omega arith, c .command-rows .ensures, refl)
@@ -25,7 +25,7 @@ returns c =
     let n = c .before .before in
     let a = n .before .before .before .before in
     rw (a .loop .inv .1)
-    (among-here _ _ _ commandRows (a .loop .k) _ (omega arith)
+    (among-here _ _ commandRows (a .loop .k) _ (omega arith)
     (rw (a .loop .inv .1) at (sym (n .is-name .ensures)) ∙ c .before .if1 .taken) (c .read-to .ensures)
     ∙ a .loop .inv .2)
 
@@ -35,7 +35,7 @@ loop-again c =
     let a = n .before .before .before .before in (
       omega arith,
       a .loop .inv .1,
-      among-on _ _ _ commandRows (a .loop .k) (omega arith)
+      among-on _ _ commandRows (a .loop .k) (omega arith)
           (rw (a .loop .inv .1) at (sym (n .is-name .ensures)) ∙ c .if1 .left)
           ∙ a .loop .inv .2,
     )
@@ -43,7 +43,7 @@ loop-again c =
 returns-2 : tie.Need-returns-2 Inv-loop μ-loop
 returns-2 c =
     let a = c .before .before in
-    among-none _ _ _ commandRows (a .loop .k) _ (omega arith) (c .broken-at .ensures) ∙ a .loop .inv .2
+    among-none _ _ commandRows (a .loop .k) _ (omega arith) (c .broken-at .ensures) ∙ a .loop .inv .2
 
 pub command-in-spec : {M : Type 1} → statement M
 command-in-spec =

@@ -1,6 +1,6 @@
 -- By the next token, unless something is broken before it.
 use mathlib.Core.Path.{sym, _∙_}
-use Rattle.journal.proofs.TokenLaws.{start-within, token-within}
+use Rattle.journal.proofs.TokenLaws.{token-ordered, token-within}
 use Rattle.journal.proofs.CursorLaws.{word-after-broken, word-after-same, word-after-other}
 use borrow.Author.Needs.{needs}
 use Rattle.journal.proofs.cursor.next_name.Statement.{statement}
@@ -9,29 +9,22 @@ use Rattle.journal.proofs.cursor.next_name.Tie as tie
 returns : tie.Need-returns
 returns c = word-after-broken _ _ (c .if1 .taken) _
 
-token-end-requires : tie.Need-token-end-requires
-token-end-requires c κs = start-within _ _ _ (c .before .before .before .pre) (c .token-start .ensures)
-
 is-name-requires : tie.Need-is-name-requires
-is-name-requires c κs =
-    token-within _ _ _ (c .before .before .before .before .pre) (c .before .token-start .ensures) _
-    (c .token-end .ensures)
+is-name-requires c κs = rw (c .next-token .ensures) (token-ordered _ _, token-within _ _)
 
 returns-2 : tie.Need-returns-2
 returns-2 c =
     let w = c .before .before in
-    let t = w .before in
-    let s = t .before in
-    c .read-to .ensures ∙ word-after-same _ _ (s .before .if1 .left) _ _ (s .token-start .ensures)
-    (t .token-end .ensures) _ (sym (w .is-name .ensures) ∙ c .before .if2 .taken)
+    c .read-to .ensures
+    ∙ word-after-same _ _ (w .before .before .if1 .left) _ (w .before .next-token .ensures) _
+    (sym (w .is-name .ensures) ∙ c .before .if2 .taken)
 
 returns-3 : tie.Need-returns-3
 returns-3 c =
     let w = c .before .before in
-    let t = w .before in
-    let s = t .before in
-    c .broken-at .ensures ∙ word-after-other _ _ (s .before .if1 .left) _ _ (s .token-start .ensures)
-    (t .token-end .ensures) _ (sym (w .is-name .ensures) ∙ c .before .if2 .left)
+    c .broken-at .ensures
+    ∙ word-after-other _ _ (w .before .before .if1 .left) _ (w .before .next-token .ensures) _
+    (sym (w .is-name .ensures) ∙ c .before .if2 .left)
 
 pub next-name-spec : {M : Type 1} → statement M
 next-name-spec =
@@ -39,7 +32,6 @@ next-name-spec =
     (tie.spec
     returns
     (λ c κs. search needs)
-    token-end-requires
     is-name-requires
     (λ c κs. search needs)
     returns-2

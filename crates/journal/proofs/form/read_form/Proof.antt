@@ -4,7 +4,7 @@ use Prim.Native.Nat.{_+_, _*_, _-_, _^_, _≤_, _<_}
 use native.Mathlib.Omega.{arith}
 use lib.ListN.{length}
 use borrow.Rule.Slice.PartMut.{mid-len}
-use Rattle.journal.proofs.FormLaws.{FormSoFar, form-none, form-fits, form-within, few-words, form-more}
+use Rattle.journal.proofs.FormLaws.{FormSoFar, form-none, form-fits, few-words, form-more}
 use Rattle.journal.proofs.FormLaws.{form-whole}
 use borrow.Author.Needs.{needs}
 use Rattle.journal.proofs.form.read_form.Statement.{statement}
@@ -25,7 +25,7 @@ module _ (r : tie.After-room-of Inv-loop μ-loop) where
   fits : r .before .before .before .loop .at + r .room-of .result ≤ length (r .before .before .before .loop .words)
   fits =
       let a = r .before .before .before in
-      rw (r .room-of .ensures) (form-fits _ _ _ (a .loop .inv) (a .before .before .before .pre .1) (omega arith))
+      rw (r .room-of .ensures) (form-fits _ _ _ (a .loop .inv) (a .before .before .before .pre) (omega arith))
 
 -- the words take fewer than 2^63 bytes
 short : (a : tie.At-loop Inv-loop μ-loop) → length (a .loop .words) * 8 < 2 ^ 63
@@ -38,13 +38,7 @@ mul-read-part : tie.Need-mul-read-part Inv-loop μ-loop
 mul-read-part c = omega (arith, fits c, short (c .before .before .before))
 
 read-part-requires : tie.Need-read-part-requires Inv-loop μ-loop
-read-part-requires c κs =
-    let r = c .before in
-    let a = r .before .before .before in
-    let s = a .before .before .before in (
-      form-within _ _ _ (a .loop .inv) (s .pre .1) (s .pre .0),
-      mid-len _ _ _ (fits r) ∙ omega (arith, r .room-of .ensures),
-    )
+read-part-requires c κs = mid-len _ _ _ (fits (c .before)) ∙ omega (arith, c .before .room-of .ensures)
 
 add-ends : tie.Need-add-ends Inv-loop μ-loop
 add-ends c =
@@ -55,7 +49,7 @@ add-ends c =
       arith,
       short a,
       c .count-of .ensures,
-      few-words _ _ _ (a .loop .inv) (a .before .before .before .pre .1) (omega arith) _ _ _
+      few-words _ _ _ (a .loop .inv) (a .before .before .before .pre) (omega arith) _ _ _
           (ap (λ room. a .loop .at + room) (r .room-of .ensures)) (p .read-part .ensures),
     )
 
@@ -65,7 +59,7 @@ loop-again c =
     let p = n .before .before .before in
     let r = p .before .before in
     let a = r .before .before .before in
-    form-more _ _ _ (a .loop .inv) (a .before .before .before .pre .1) (omega arith) _ _ _
+    form-more _ _ _ (a .loop .inv) (a .before .before .before .pre) (omega arith) _ _ _
     (ap (λ room. a .loop .at + room) (r .room-of .ensures)) (p .read-part .ensures) _
     (ap (λ count. a .loop .at + count) (n .count-of .ensures))
 
@@ -75,7 +69,7 @@ same-length c = c .before .loop .inv .long
 returns : tie.Need-returns Inv-loop μ-loop
 returns c =
     let a = c .before in
-    form-whole _ _ _ (a .loop .inv) (a .before .before .before .pre .1) (omega arith) _ refl
+    form-whole _ _ _ (a .loop .inv) (a .before .before .before .pre) (omega arith) _ refl
 
 pub read-form-spec : {M : Type 1} → statement M
 read-form-spec =

@@ -17,7 +17,7 @@ returns-3 c =
     let r = c .before .before in
     let k = r .before .before .before in
     let told = k .kind2 .given .1 in
-    follows-list _ _ _ _ _ _ _ _ _ (rw told at (k .before .before .before .before .before .pre .1))
+    follows-list _ _ _ _ _ _ _ _ _ (rw told at (k .before .before .before .before .before .pre))
     (r .read-list .ensures .0) (r .read-list .ensures .1) told refl
 
 returns-4 : tie.Need-returns-4
@@ -25,7 +25,7 @@ returns-4 c =
     let r = c .before .before in
     let k = r .before .before in
     let told = k .enum-told2 .given .1 in
-    follows-signed _ _ _ _ _ _ _ _ _ (rw told at (k .before .before .before .before .before .pre .1))
+    follows-signed _ _ _ _ _ _ _ _ _ (rw told at (k .before .before .before .before .before .pre))
     (r .read-list2 .ensures .0) (r .read-list2 .ensures .1) told refl refl
 
 returns-5 : tie.Need-returns-5

@@ -6,14 +6,14 @@ use lib.ListN.{length, take, length-set}
 use Rattle.numbers.specs.Bounded.{listBelow}
 use Rattle.numbers.proofs.ListLaws.{list-none, list-more, list-done}
 use Rattle.journal.specs.List.{cursorAfter, numberAt}
-use Rattle.journal.proofs.CursorLaws.{number-within}
 use Rattle.journal.proofs.ListLaws.{cursor-none, cursor-next, number-here}
+use borrow.Author.Needs.{needs}
 use Rattle.journal.proofs.list.fill_numbers.Statement.{statement}
 use Rattle.journal.proofs.list.fill_numbers.Tie as tie
 
 abbrev Inv-loop : tie.InvT-loop
 Inv-loop text signed most into₀ next₀ k₀ into next k =
-    (k ≤ length into) × (length into ≡ length into₀) × (next .at ≤ length text) ×
+    (k ≤ length into) × (length into ≡ length into₀) ×
     (next ≡ cursorAfter k text next₀ signed most) × (take k into ≡ listBelow k (numberAt text next₀ signed most))
 
 abbrev μ-loop : tie.MeasureT-loop
@@ -24,13 +24,9 @@ loop-holds c =
     let s = c .before .before in (
       omega arith,
       refl,
-      s .pre,
       cursor-none _ _ _ _,
       list-none _ (s .args .into .now),
     )
-
-next-number-requires : tie.Need-next-number-requires Inv-loop μ-loop
-next-number-requires c κs = c .before .loop .inv .2
 
 loop-less : tie.Need-loop-less Inv-loop μ-loop
 loop-less c = simp length-set (omega arith)
@@ -42,11 +38,10 @@ loop-again c =
     let s = l .before .before .before in (
       simp length-set (omega arith),
       simp length-set (l .loop .inv .1),
-      number-within _ _ (l .loop .inv .2) _ _ _ (n .next-number .ensures),
-      cursor-next _ _ _ _ _ _ (l .loop .inv .3) _ (n .next-number .ensures),
+      cursor-next _ _ _ _ _ _ (l .loop .inv .2) _ (n .next-number .ensures),
       list-more _ (l .loop .into) (l .loop .k) _
-          (omega arith) (l .loop .inv .4)
-          (number-here _ _ _ _ _ _ (l .loop .inv .3) _ (n .next-number .ensures)),
+          (omega arith) (l .loop .inv .3)
+          (number-here _ _ _ _ _ _ (l .loop .inv .2) _ (n .next-number .ensures)),
     )
 
 same-length : tie.Need-same-length Inv-loop μ-loop
@@ -57,8 +52,8 @@ returns c =
     let l = c .before in
     let s = l .before .before .before in
     let e : l .loop .k ≡ length (s .args .into .now) = omega arith in (
-      rw e at (l .loop .inv .3),
-      list-done _ _ _ (l .loop .inv .1) (rw e at (l .loop .inv .4)),
+      rw e at (l .loop .inv .2),
+      list-done _ _ _ (l .loop .inv .1) (rw e at (l .loop .inv .3)),
     )
 
 pub fill-numbers-spec : {M : Type 1} → statement M
@@ -68,8 +63,7 @@ fill-numbers-spec =
     Inv-loop
     μ-loop
     loop-holds
-    next-number-requires
-    (λ c. omega arith) (λ c. omega arith) (λ c. omega arith)
+    (λ c κs. search needs) (λ c. omega arith) (λ c. omega arith) (λ c. omega arith)
     loop-less
     loop-again
     same-length

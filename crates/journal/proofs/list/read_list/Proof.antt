@@ -3,7 +3,7 @@ use mathlib.Core.Path.{sym, ap}
 use mathlib.Core.List.{_++_}
 use lib.ListN.{drop}
 use lib.Seq.{length-take-le}
-use Rattle.journal.proofs.ListLaws.{count-most, count-within, list-read, words-read}
+use Rattle.journal.proofs.ListLaws.{count-most, list-read, words-read}
 use borrow.Author.Needs.{needs}
 use Rattle.journal.proofs.list.read_list.Statement.{statement}
 use Rattle.journal.proofs.list.read_list.Tie as tie
@@ -13,11 +13,6 @@ slice-relend-prefix-fill-numbers c = rw (c .read-count .ensures) (count-most _ _
 
 slice-aggregate-fill-numbers : tie.Need-slice-aggregate-fill-numbers
 slice-aggregate-fill-numbers c = sym (length-take-le _ _ (slice-relend-prefix-fill-numbers (c .before)))
-
-fill-numbers-requires : tie.Need-fill-numbers-requires
-fill-numbers-requires c κs =
-    let n = c .before in
-    count-within _ _ (n .before .before .before .pre) _ _ _ (n .read-count .ensures)
 
 returns : tie.Need-returns
 returns c =
@@ -37,6 +32,5 @@ read-list-spec =
     (λ c κs. search needs)
     slice-relend-prefix-fill-numbers
     slice-aggregate-fill-numbers
-    fill-numbers-requires
-    (λ c. search needs)
+    (λ c κs. search needs) (λ c. search needs)
     returns)
