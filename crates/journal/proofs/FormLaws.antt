@@ -315,22 +315,16 @@ module _ (parts : Parts) (words : List ℕ) (k : ℕ) (p : k < partCount) where
   unfolding partsIn
   part-held = list-at (λ j. heldOf (numberOf parts j) (wordsIn parts words j)) partCount (heldOf 0 []) k p
 
-  pub number-at : numberOf parts k ≡ heldIn (partsIn parts words) k .number
-  number-at = rw part-held refl
-
-  pub words-at : wordsIn parts words k ≡ heldIn (partsIn parts words) k .words
-  words-at = rw part-held refl
-
 -- a part of a form lies within the words, and has no more words than there is room for
-module _ (form : List Part) (parts : Parts) (words : List ℕ) (h : FormHeld form parts (length words)) (k : ℕ)
-    (p : k < partCount) where
-  pub part-lies : (k < partCount) × ((startOf parts k ≤ endOf parts k) × (endOf parts k ≤ length words))
-  part-lies = (p, (omega (arith, h .counted k p), h .within k p))
+pub part-lies : {form : List Part} {parts : Parts} {size : ℕ} → FormHeld form parts size → (k : ℕ) → k < partCount →
+    (k < partCount) × ((startOf parts k ≤ endOf parts k) × (endOf parts k ≤ size))
+part-lies h k p = (p, (omega (arith, h .counted k p), h .within k p))
 
-  pub part-few : length (wordsIn parts words k) ≤ roomOf (partAt form k)
-  part-few =
-      rw (mid-len (startOf parts k) (endOf parts k) words (h .within k p))
-      (omega (arith, h .counted k p, count-room (partAt form k) (numberOf parts k) (h .bounded k p)))
+pub part-few : {form : List Part} {parts : Parts} (words : List ℕ) → FormHeld form parts (length words) → (k : ℕ) →
+    k < partCount → length (wordsIn parts words k) ≤ roomOf (partAt form k)
+part-few {form} {parts} words h k p =
+    rw (mid-len (startOf parts k) (endOf parts k) words (h .within k p))
+    (omega (arith, h .counted k p, count-room (partAt form k) (numberOf parts k) (h .bounded k p)))
 
 -- what is said of each of the twelve parts
 pub each-part : (P : ℕ → Type 0) → P 0 → P 1 → P 2 → P 3 → P 4 → P 5 → P 6 → P 7 → P 8 → P 9 → P 10 → P 11 →

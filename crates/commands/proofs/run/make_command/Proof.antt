@@ -3,12 +3,12 @@ use mathlib.Core.Path.{_≡_, refl}
 use Prim.Native.Nat.{ℕ, _≤_, _<_}
 use native.Mathlib.Omega.{arith}
 use lib.ListN.{length}
+use Rattle.numbers.specs.Bounded.{listBelow}
 use Rattle.text.specs.Buffer.{written}
-use Rattle.journal.specs.Form.{partCount, partAt, boundOf, numberOf}
+use Rattle.journal.specs.Form.{partCount, partAt, boundOf, numberOf, partsIn}
 use Rattle.journal.specs.Command.{longestList, commandForm}
 use Rattle.journal.specs.declared.command.Command.{Command}
 use Rattle.journal.specs.declared.command.Command.the-variants.{Fix, Settle}
-use Rattle.journal.proofs.FormLaws.{number-at}
 use borrow.Author.Needs.{needs}
 use Rattle.commands.proofs.run.make_command.Statement.{statement}
 use Rattle.commands.proofs.run.make_command.Tie as tie
@@ -51,12 +51,8 @@ unfolding written
 returns-2 c = rw (c .enum-told2 .given .1) (record { booked = refl; answered = refl })
 
 returns-3 : tie.Need-returns-3
-returns-3 c =
-    let r = c .before .before in
-    let t = r .before .before in
-    let s = t .before .before .before .before .before in
-    rw (t .enum-told3 .given .1, ← number-at (s .args .parts) (s .args .words .now) 0 (omega arith))
-    (r .run-open .ensures)
+unfolding partsIn listBelow
+returns-3 c = let r = c .before .before in rw (r .before .before .enum-told3 .given .1) (r .run-open .ensures)
 
 returns-4 : tie.Need-returns-4
 returns-4 c = let r = c .before .before in rw (r .before .before .enum-told4 .given .1) (r .run-save .ensures)

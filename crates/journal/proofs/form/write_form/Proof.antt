@@ -27,7 +27,7 @@ loop-holds c = (omega arith, refl, texts-none _ _)
 words-of-requires : tie.Need-words-of-requires Inv-loop μ-loop
 words-of-requires c κs =
     let s = c .before .before .before .before .before .before .before .before .before .before .before in
-    part-lies (s .args .t4) (s .args .t5) (s .args .words .now) (s .pre) _ (omega arith)
+    part-lies (s .pre) _ (omega arith)
 
 loop-again : tie.Need-loop-again Inv-loop μ-loop
 loop-again c =
