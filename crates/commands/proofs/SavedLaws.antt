@@ -14,7 +14,7 @@ use Rattle.settlement.specs.Month.{moneyAt}
 use Rattle.ledger.specs.Ledger.{emptyLedger}
 use Rattle.ledger.specs.Sound.{chargeIn}
 use Rattle.ledger.specs.declared.ledger.Ledger.{Ledger}
-use Rattle.store.specs.Store.{presentWords, chargeWords, balanceWords, keptCount, ledgerParts, loadedLedger}
+use Rattle.store.specs.Store.{keptCount, ledgerParts, loadedLedger}
 use Rattle.store.proofs.StoreLaws.{kept-most, loaded-back, parts-taken, parts-whole}
 use Rattle.text.specs.Text.{bytes, lineEnd, nameText, textBelow}
 use Rattle.journal.specs.Token.{isBlank, endsToken}
@@ -60,9 +60,8 @@ saving-size ledger =
       arith,
       form-size (bytes "load        ") loadForm (ledgerParts ledger) 320 (omega arith) refl
           (each-part (λ k. length (heldIn (ledgerParts ledger) k .words) ≤ 320) none none none none none
-          (short places (presentWords (ledger .force)) (omega (arith, few)))
-          (short places (chargeWords (ledger .force)) (omega (arith, few)))
-          (short (keptCount ledger) (balanceWords (ledger .balances)) (omega (arith, few))) none none none none),
+          (short places _ (omega (arith, few))) (short places _ (omega (arith, few)))
+          (short (keptCount ledger) _ (omega (arith, few))) none none none none),
     )
 
 load-plain : Plain loadName

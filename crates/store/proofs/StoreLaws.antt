@@ -1,18 +1,17 @@
 -- A ledger that is saved and loaded again is the same ledger, sound or not. Assumes nothing.
 use mathlib.Core.Path.{_≡_, refl, sym, _∙_, ap}
 use mathlib.Core.Bool.{Bool, true, false, cond, _&&_, _||_}
-use mathlib.Core.List.{List, [], _∷_, _++_, map, append-nil, append-assoc}
+use mathlib.Core.List.{List, [], _∷_, map}
 use Prim.Native.Nat.{ℕ, _+_, _-_, _*_, _^_, _<_, _≤_}
 use native.Mathlib.Omega.{arith}
 use native.Mathlib.Decide.{decLt}
 use lib.Dec.{leb, ltb, eqb}
-use lib.ListN.{length, getD, take, drop, length-map, length-append, length-drop, drop-of-length-le}
-use lib.Seq.{ext-getD, getD-take, length-take-le, take-all, take-at, drop-at, take-take, drop-drop}
+use lib.ListN.{length, getD, take, drop, length-map, length-drop}
+use lib.Seq.{ext-getD, getD-take, getD-drop, length-take-le}
 use lib.IntN.{ℤ, pos}
 use mir.Syntax.{w64}
 use mir.Val.{SFits}
-use borrow.Rule.Slice.PartMut.{putMid}
-use borrow.Author.Tests.{le-ltb, leb-true, eqb-true}
+use borrow.Author.Tests.{le-ltb, lt-ltb, leb-true, eqb-true}
 use Rattle.numbers.specs.Bounded.{listBelow, filledBelow}
 use Rattle.numbers.specs.Units.{noMoney}
 use Rattle.numbers.specs.declared.units.Pesos.{Pesos}
@@ -32,8 +31,8 @@ use Rattle.journal.specs.declared.form.Part.{Part}
 use Rattle.journal.specs.Command.{loadForm}
 use Rattle.journal.specs.declared.form.Parts.{Parts}
 use Rattle.journal.proofs.FormLaws.{partsBy, each-part}
-use Rattle.store.specs.Store.{truthWord, wordTruth, presentWords, chargeWords, balanceWords, zeroPast}
-use Rattle.store.specs.Store.{keptAmong, keptCount, keptWords, ledgerParts, Saved, loadedLedger}
+use Rattle.store.specs.Store.{truthWord, wordTruth, balancesFrom, keptWords, ledgerWord, ledgerWords, wordOwner}
+use Rattle.store.specs.Store.{zeroPast, keptAmong, keptCount, ledgerParts, Saved, loadedLedger}
 
 -- a list is as long as its image
 pub mapped : (A B : Type 0) (f : A → B) (l : List A) (n : ℕ) → length (map f l) ≡ n → length l ≡ n
@@ -49,76 +48,7 @@ truth-small : (b : Bool) → truthWord b ≤ 1
 truth-small true = omega arith
 truth-small false = omega arith
 
--- the test of one word: before place k, or zero
-abbrev pub zeroOrBefore : ℕ → List ℕ → ℕ → Bool
-zeroOrBefore k words i = ltb i k || eqb (getD words i 0) 0
-
--- the words of a function below a size that are zero from place k on
-module _ (size : ℕ) (word : ℕ → ℕ) (k : ℕ) where
-  zero-at : (k < size → zeroPast k (listBelow size word) ≡ true) → (j : ℕ) → k ≤ j → j < size → word j ≡ 0
-  unfolding zeroPast
-  zero-at h j p q =
-      let words = listBelow size word in
-      sym (list-at word size 0 j q)
-      ∙ eqb-true _ _ (or-else (ltb j k) _
-      (all-at (length words) (zeroOrBefore k words) (h (omega arith)) j (rw (list-length word size) q)) (le-ltb j k p))
-
-  -- a list whose values have these words is filled again from the first k
-  filled-back : {A : Type 0} (value : ℕ → A) (empty : A) (l : List A) → k ≤ size → length l ≡ size →
-      value 0 ≡ empty → ((j : ℕ) → j < size → value (word j) ≡ getD l j empty) →
-      (k < size → zeroPast k (listBelow size word) ≡ true) →
-      filledBelow size empty (length (take k (listBelow size word)))
-      (λ j. value (getD (take k (listBelow size word)) j 0)) ≡ l
-  filled-back value empty l few e none h past =
-      let kept = take k (listBelow size word) in
-      let count : length kept ≡ k = length-take-le k _ (rw (list-length word size) few) in
-      let whole : length (filledBelow size empty k (λ j. value (getD kept j 0))) ≡ size = filled-length size _ _ k in
-      rw count (ext-getD empty _ l (whole ∙ sym e) (λ j p. at j (omega (arith, whole)) (decLt j k)))
-    where
-      at : (j : ℕ) → j < size → Dec (j < k) →
-          getD (filledBelow size empty k (λ i. value (getD (take k (listBelow size word)) i 0))) j empty
-          ≡ getD l j empty
-      at j q (yes p) =
-          filled-at size _ _ k j p q ∙ ap value (getD-take k _ j 0 p ∙ list-at word size 0 j q) ∙ h j q
-      at j q (no p) =
-          filled-past size _ _ k j (omega arith) q ∙ sym none ∙ ap value (sym (zero-at past j (omega arith) q)) ∙ h j q
-
--- how many distributors' words are kept: at most all, and past fewer the words are zero
-record Kept (present charges balances : List ℕ) (count : ℕ) : Type 0 where
-  most : count ≤ mostDistributors
-  placed : count < mostDistributors → zeroPast (count * sectorCount) present ≡ true
-  charged : count < mostDistributors → zeroPast (count * sectorCount) charges ≡ true
-  balanced : count < mostDistributors → zeroPast count balances ≡ true
-
-kept-among : (n : ℕ) (present charges balances : List ℕ) →
-    Kept present charges balances (keptAmong n present charges balances)
-unfolding keptAmong
-kept-among n present charges balances = go few refl
-  where
-    zeros : Bool
-    zeros = zeroPast (n * sectorCount) charges && zeroPast n balances
-
-    few : Bool
-    few = leb n mostDistributors && (zeroPast (n * sectorCount) present && zeros)
-
-    go : (b : Bool) → few ≡ b → Kept present charges balances (cond b n mostDistributors)
-    go true e =
-        let rest = and-right (leb n mostDistributors) _ e in
-        let past = and-right (zeroPast (n * sectorCount) present) zeros rest in
-        record {
-          most = leb-true n mostDistributors (and-left (leb n mostDistributors) _ e);
-          placed = λ p. and-left (zeroPast (n * sectorCount) present) zeros rest;
-          charged = λ p. and-left (zeroPast (n * sectorCount) charges) _ past;
-          balanced = λ p. and-right (zeroPast (n * sectorCount) charges) (zeroPast n balances) past;
-        }
-    go false e = record {
-      most = omega arith;
-      placed = λ p. absurd (omega arith);
-      charged = λ p. absurd (omega arith);
-      balanced = λ p. absurd (omega arith);
-    }
-
--- a number, and the words of a function, as parts take them
+-- a number, and words that are kept, as parts take them
 takes-number : (part : Part) (number : ℕ) → countOf part number ≡ 0 → number ≤ boundOf part → number ≤ mostWord →
     Takes part (heldOf number [])
 takes-number part number none p q = record {
@@ -129,108 +59,138 @@ takes-number part number none p q = record {
   small = λ i r. absurd (omega arith);
 }
 
-takes-words : (part : Part) (size : ℕ) (word : ℕ → ℕ) (k : ℕ) → countOf part k ≡ k → boundOf part ≡ size →
-    size ≤ mostWord → greatestBy (part .1) ≤ mostWord → k ≤ size →
-    ((j : ℕ) → j < size → word j ≤ greatestBy (part .1)) → Takes part (heldOf k (take k (listBelow size word)))
-takes-words part size word k count bound short greatest few h =
-    let long : length (take k (listBelow size word)) ≡ k = length-take-le k _ (rw (list-length word size) few) in
-    let at : (i : ℕ) → i < length (take k (listBelow size word)) →
-    getD (take k (listBelow size word)) i 0 ≤ greatestBy (part .1) =
-    λ i p. rw (
-      getD-take k (listBelow size word) i 0 (omega (arith, long)),
-      list-at word size 0 i (omega (arith, long)),
-    ) (h i (omega (arith, long))) in
-    record {
-      number = rw bound few;
-      short = omega (arith, few, short);
-      counted = long ∙ sym count;
-      words = at;
-      small = λ i p. omega (arith, at i p, greatest);
+-- the first k of the words from a place on, a list of at most so many
+module _ (words : List ℕ) (from size k : ℕ) (fits : from + size ≤ length words) (few : k ≤ size) where
+  abbrev kept : List ℕ
+  kept = take k (drop from words)
+
+  kept-length : length kept ≡ k
+  kept-length = length-take-le k (drop from words) (rw length-drop (omega arith))
+
+  kept-at : (j : ℕ) → j < k → getD kept j 0 ≡ getD words (from + j) 0
+  kept-at j p = getD-take k (drop from words) j 0 p ∙ getD-drop from words j 0
+
+  -- a list whose values have these words, zero past the kept ones, is filled again
+  filled-back : {A : Type 0} (value : ℕ → A) (empty : A) (l : List A) → length l ≡ size → value 0 ≡ empty →
+      ((j : ℕ) → j < size → value (getD words (from + j) 0) ≡ getD l j empty) →
+      ((j : ℕ) → k ≤ j → j < size → getD words (from + j) 0 ≡ 0) →
+      filledBelow size empty (length kept) (λ j. value (getD kept j 0)) ≡ l
+  filled-back value empty l e none h past =
+      let whole : length (filledBelow size empty k (λ j. value (getD kept j 0))) ≡ size = filled-length size _ _ k in
+      rw kept-length (ext-getD empty _ l (whole ∙ sym e) (λ j p. at j (omega (arith, whole)) (decLt j k)))
+    where
+      at : (j : ℕ) → j < size → Dec (j < k) →
+          getD (filledBelow size empty k (λ i. value (getD kept i 0))) j empty ≡ getD l j empty
+      at j q (yes p) = filled-at size _ _ k j p q ∙ ap value (kept-at j p) ∙ h j q
+      at j q (no p) =
+          filled-past size _ _ k j (omega arith) q ∙ sym none ∙ ap value (sym (past j (omega arith) q)) ∙ h j q
+
+  -- a part takes them
+  takes-words : (part : Part) → countOf part k ≡ k → boundOf part ≡ size → size ≤ mostWord →
+      greatestBy (part .1) ≤ mostWord →
+      ((j : ℕ) → j < size → getD words (from + j) 0 ≤ greatestBy (part .1)) → Takes part (heldOf k kept)
+  takes-words part count bound short greatest h =
+      let at : (i : ℕ) → i < length kept → getD kept i 0 ≤ greatestBy (part .1) =
+      λ i p. rw (kept-at i (omega (arith, kept-length))) (h i (omega (arith, kept-length))) in
+      record {
+        number = rw bound few;
+        short = omega (arith, few, short);
+        counted = kept-length ∙ sym count;
+        words = at;
+        small = λ i p. omega (arith, at i p, greatest);
+      }
+
+-- the test of one word
+abbrev pub zeroOrBefore : ℕ → List ℕ → ℕ → Bool
+zeroOrBefore n words k = ltb (wordOwner k) n || eqb (getD words k 0) 0
+
+-- how many distributors' words are kept: at most all, and past fewer the words are zero
+record Kept (words : List ℕ) (count : ℕ) : Type 0 where
+  most : count ≤ mostDistributors
+  zeros : count < mostDistributors → (k : ℕ) → k < keptWords → count ≤ wordOwner k → getD words k 0 ≡ 0
+
+kept-among : (n : ℕ) (words : List ℕ) → Kept words (keptAmong n words)
+unfolding keptAmong zeroPast
+kept-among n words = go (leb n mostDistributors && zeroPast n words) refl
+  where
+    go : (b : Bool) → (leb n mostDistributors && zeroPast n words) ≡ b → Kept words (cond b n mostDistributors)
+    go true e = record {
+      most = leb-true n mostDistributors (and-left (leb n mostDistributors) _ e);
+      zeros = λ p k q r.
+          eqb-true _ _ (or-else (ltb (wordOwner k) n) _
+          (all-at keptWords (zeroOrBefore n words) (and-right (leb n mostDistributors) _ e) k q) (le-ltb _ n r));
     }
-
--- the first n of the first k
-first-of : (n k : ℕ) (l p : List ℕ) → n ≤ k → take k l ≡ p → take n l ≡ take n p
-first-of n k l p h e = sym (take-take n k l h) ∙ ap (take n) e
-
--- a list that is put after p
-put-next : (a k : ℕ) (p d q : List ℕ) → length p ≡ a → putMid a k (p ++ d) q ≡ p ++ (q ++ drop k d)
-put-next a k p d q e = rw (take-at p d a e, drop-at p d a e)
+    go false e = record { most = omega arith; zeros = λ p. absurd (omega arith) }
 
 module _ (ledger : Ledger) where
-  kept : Kept (presentWords (ledger .force)) (chargeWords (ledger .force)) (balanceWords (ledger .balances))
-      (keptCount ledger)
+  abbrev words : List ℕ
+  words = ledgerWords ledger
+
+  abbrev places : ℕ
+  places = keptCount ledger * sectorCount
+
+  among : Kept words (keptCount ledger)
   unfolding keptCount
-  kept = kept-among (ledger .n) _ _ _
+  among = kept-among (ledger .n) words
 
   pub kept-most : keptCount ledger ≤ mostDistributors
-  kept-most = kept .most
+  kept-most = among .most
+
+  few : places ≤ sectorPlaces
+  few = omega (arith, kept-most)
+
+  pub words-long : length words ≡ keptWords
+  unfolding ledgerWords
+  words-long = list-length (ledgerWord ledger) keptWords
+
+  -- the words of each list, and those that are zero
+  present-word : (j : ℕ) → j < sectorPlaces → getD words (0 + j) 0 ≡ truthWord (presentIn (ledger .force) j)
+  unfolding ledgerWords ledgerWord
+  present-word j p =
+      let place : 0 + j ≡ j = omega arith in
+      rw place (list-at (ledgerWord ledger) keptWords 0 j (omega arith) ∙ rw (lt-ltb j sectorPlaces p) refl)
+
+  charge-word : (j : ℕ) → j < sectorPlaces → getD words (sectorPlaces + j) 0 ≡ wordOf (chargeIn (ledger .force) j)
+  unfolding ledgerWords ledgerWord
+  charge-word j p =
+      let place : sectorPlaces + j - sectorPlaces ≡ j = omega arith in
+      list-at (ledgerWord ledger) keptWords 0 (sectorPlaces + j) (omega arith)
+      ∙ rw (le-ltb (sectorPlaces + j) sectorPlaces (omega arith), lt-ltb (sectorPlaces + j) balancesFrom (omega arith), place)
+      refl
+
+  balance-word : (i : ℕ) → i < mostDistributors →
+      getD words (balancesFrom + i) 0 ≡ wordOf (moneyAt (ledger .balances) i)
+  unfolding ledgerWords ledgerWord
+  balance-word i p =
+      let place : balancesFrom + i - balancesFrom ≡ i = omega arith in
+      list-at (ledgerWord ledger) keptWords 0 (balancesFrom + i) (omega arith)
+      ∙ rw (le-ltb (balancesFrom + i) sectorPlaces (omega arith), le-ltb (balancesFrom + i) balancesFrom (omega arith), place)
+      refl
+
+  present-zero : (j : ℕ) → places ≤ j → j < sectorPlaces → getD words (0 + j) 0 ≡ 0
+  unfolding wordOwner
+  present-zero j p q =
+      let place : 0 + j ≡ j = omega arith in
+      rw place (among .zeros (omega arith) j (omega arith) (rw (lt-ltb j sectorPlaces q) (omega arith)))
+
+  charge-zero : (j : ℕ) → places ≤ j → j < sectorPlaces → getD words (sectorPlaces + j) 0 ≡ 0
+  unfolding wordOwner
+  charge-zero j p q =
+      among .zeros (omega arith) (sectorPlaces + j) (omega arith)
+      (rw (le-ltb (sectorPlaces + j) sectorPlaces (omega arith), lt-ltb (sectorPlaces + j) balancesFrom (omega arith))
+      (omega arith))
+
+  balance-zero : (i : ℕ) → keptCount ledger ≤ i → i < mostDistributors → getD words (balancesFrom + i) 0 ≡ 0
+  unfolding wordOwner
+  balance-zero i p q =
+      among .zeros (omega arith) (balancesFrom + i) (omega arith)
+      (rw (le-ltb (balancesFrom + i) sectorPlaces (omega arith), le-ltb (balancesFrom + i) balancesFrom (omega arith))
+      (omega arith))
 
   -- the parts are twelve
   pub parts-whole : listBelow partCount (heldIn (ledgerParts ledger)) ≡ ledgerParts ledger
   unfolding listBelow ledgerParts
   parts-whole = refl
-
-  -- all words of a ledger, as they stand in the lent ones
-  abbrev pub allWords : List ℕ
-  allWords = presentWords (ledger .force) ++ (chargeWords (ledger .force) ++ balanceWords (ledger .balances))
-
-  present-long : length (presentWords (ledger .force)) ≡ sectorPlaces
-  unfolding presentWords
-  present-long = list-length _ sectorPlaces
-
-  charges-long : length (chargeWords (ledger .force)) ≡ sectorPlaces
-  unfolding chargeWords
-  charges-long = list-length _ sectorPlaces
-
-  balances-long : length (balanceWords (ledger .balances)) ≡ mostDistributors
-  unfolding balanceWords
-  balances-long = list-length _ mostDistributors
-
-  pub all-long : length allWords ≡ keptWords
-  all-long =
-      length-append (presentWords (ledger .force)) (chargeWords (ledger .force) ++ balanceWords (ledger .balances))
-      ∙ rw length-append (omega (arith, present-long, charges-long, balances-long))
-
-  -- where each of the three stands
-  present-stands : take 320 allWords ≡ presentWords (ledger .force)
-  present-stands = take-at (presentWords (ledger .force)) _ 320 present-long
-
-  charges-stand : take 320 (drop 320 allWords) ≡ chargeWords (ledger .force)
-  charges-stand =
-      ap (take 320) (drop-at (presentWords (ledger .force)) _ 320 present-long)
-      ∙ take-at (chargeWords (ledger .force)) _ 320 charges-long
-
-  balances-stand : take 40 (drop 640 allWords) ≡ balanceWords (ledger .balances)
-  balances-stand =
-      ap (take 40)
-      (sym (drop-drop 320 320 allWords)
-      ∙ ap (drop 320) (drop-at (presentWords (ledger .force)) _ 320 present-long)
-      ∙ drop-at (chargeWords (ledger .force)) _ 320 charges-long)
-      ∙ take-all 40 (balanceWords (ledger .balances)) (omega (arith, balances-long))
-
-  -- three lists that are put into lent words one after the other are all of them
-  pub put-all : (words p q r : List ℕ) → length words ≡ keptWords → p ≡ presentWords (ledger .force) →
-      q ≡ chargeWords (ledger .force) → r ≡ balanceWords (ledger .balances) →
-      putMid 640 40 (putMid 320 320 (p ++ drop 320 words) q) r ≡ allWords
-  put-all words p q r long e f g =
-      let rest = drop 320 (drop 320 words) in
-      let front : length (p ++ q) ≡ 640 =
-      length-append p q ∙ omega (arith, ap length e, ap length f, present-long, charges-long) in
-      let none : drop 40 rest ≡ [] =
-      drop-of-length-le rest {i = 40} (rw (length-drop, length-drop) (omega (arith, long))) in
-      ap (λ l. putMid 640 40 l r) (put-next 320 320 p (drop 320 words) q (ap length e ∙ present-long)
-      ∙ sym (append-assoc p q rest))
-      ∙ put-next 640 40 (p ++ q) rest r front
-      ∙ ap (λ l. (p ++ q) ++ (r ++ l)) none
-      ∙ ap (λ l. (p ++ q) ++ l) (append-nil r)
-      ∙ append-assoc p q r
-      ∙ rw (e, f, g)
-
-  -- what is kept, as the code reads it there
-  pub kept-stands : (words : List ℕ) → words ≡ allWords →
-      keptAmong (ledger .n) (take 320 words) (take 320 (drop 320 words)) (take 40 (drop 640 words)) ≡ keptCount ledger
-  unfolding keptCount
-  kept-stands words e = rw (e, present-stands, charges-stand, balances-stand)
 
   -- the numbers of its parts; with all words they are the ledger's parts
   abbrev pub partsOf : ℕ → ℕ → Parts
@@ -241,22 +201,13 @@ module _ (ledger : Ledger) where
       (0 ∷ 0 ∷ 0 ∷ 0 ∷ 0 ∷ 0 ∷ 320 ∷ 640 ∷ 0 ∷ 0 ∷ 0 ∷ 0 ∷ [])
       (0 ∷ 0 ∷ 0 ∷ 0 ∷ 0 ∷ (count * sectorCount) ∷ (320 + count * sectorCount) ∷ (640 + count) ∷ 0 ∷ 0 ∷ 0 ∷ 0 ∷ [])
 
-  parts-saved : partsIn (partsOf (keptCount ledger) (truthWord (ledger .fixed))) allWords ≡ ledgerParts ledger
+  parts-saved : partsIn (partsOf (keptCount ledger) (truthWord (ledger .fixed))) words ≡ ledgerParts ledger
   unfolding partsIn listBelow ledgerParts
   parts-saved =
-      let count = keptCount ledger in
-      let places = count * sectorCount in
-      let few : places ≤ sectorPlaces = omega (arith, kept-most) in
-      let present : take places allWords ≡ take places (presentWords (ledger .force)) =
-      first-of places 320 _ _ few present-stands in
-      let charges : take places (drop 320 allWords) ≡ take places (chargeWords (ledger .force)) =
-      first-of places 320 _ _ few charges-stand in
-      let balances : take count (drop 640 allWords) ≡ take count (balanceWords (ledger .balances)) =
-      first-of count 40 _ _ kept-most balances-stand in
       let first : places - 0 ≡ places = omega arith in
       let second : 320 + places - 320 ≡ places = omega arith in
-      let third : 640 + count - 640 ≡ count = omega arith in
-      rw (first, second, third, present, charges, balances)
+      let third : 640 + keptCount ledger - 640 ≡ keptCount ledger = omega arith in
+      rw (first, second, third)
 
   -- "what `save` prints, `load` takes back as the same ledger"
   pub loaded-back : length (ledger .force .present) ≡ sectorPlaces → length (ledger .force .charges) ≡ sectorPlaces →
@@ -264,22 +215,19 @@ module _ (ledger : Ledger) where
       ((k : ℕ) → k < sectorPlaces → SFits w64 (chargeIn (ledger .force) k)) →
       ((i : ℕ) → i < mostDistributors → SFits w64 (moneyAt (ledger .balances) i)) →
       loadedLedger (ledgerParts ledger) ≡ ledger
-  unfolding loadedLedger ledgerParts moneyBelow presentWords chargeWords balanceWords
+  unfolding loadedLedger ledgerParts moneyBelow
   loaded-back p q r charged balanced =
-      let force = ledger .force in
-      let count = keptCount ledger in
-      let few : count * sectorCount ≤ sectorPlaces = omega (arith, kept-most) in
       rw (
         truth-back (ledger .fixed),
-        filled-back sectorPlaces (λ k. truthWord (presentIn force k)) (count * sectorCount) wordTruth false
-            (force .present) few p (truth-back false) (λ j h. truth-back (presentIn force j))
-            (λ h. kept .placed (omega arith)),
-        filled-back sectorPlaces (λ k. wordOf (chargeIn force k)) (count * sectorCount) signedOf (pos 0)
-            (force .charges) few q (signed-small 0 (omega arith)) (λ j h. word-signed _ (charged j h))
-            (λ h. kept .charged (omega arith)),
-        filled-back mostDistributors (λ i. wordOf (moneyAt (ledger .balances) i)) count money noMoney
-            (ledger .balances) kept-most r (ap amount (signed-small 0 (omega arith)))
-            (λ i h. ap amount (word-signed _ (balanced i h))) (kept .balanced),
+        filled-back words 0 sectorPlaces places (omega (arith, words-long)) few wordTruth false (ledger .force .present)
+            p (truth-back false) (λ j h. ap wordTruth (present-word j h) ∙ truth-back (presentIn (ledger .force) j))
+            present-zero,
+        filled-back words sectorPlaces sectorPlaces places (omega (arith, words-long)) few signedOf (pos 0)
+            (ledger .force .charges) q (signed-small 0 (omega arith))
+            (λ j h. ap signedOf (charge-word j h) ∙ word-signed _ (charged j h)) charge-zero,
+        filled-back words balancesFrom mostDistributors (keptCount ledger) (omega (arith, words-long)) kept-most money
+            noMoney (ledger .balances) r (ap amount (signed-small 0 (omega arith)))
+            (λ i h. ap money (balance-word i h) ∙ ap amount (word-signed _ (balanced i h))) balance-zero,
       )
     where
       amount : ℤ → Pesos
@@ -307,19 +255,17 @@ module _ (ledger : Ledger) where
               (omega (arith, kept-most)) (omega (arith, kept-most)) none none none none;
         }
 
-    pub saved : (count fixed : ℕ) (words : List ℕ) → words ≡ allWords → count ≡ keptCount ledger →
-        fixed ≡ truthWord (ledger .fixed) → Saved ledger (partsOf count fixed) words
-    saved count fixed words e f g = rw (e, f, g) (record { parts = parts-saved; held = rw all-long parts-held })
+    pub saved : (count fixed : ℕ) (left : List ℕ) → left ≡ words → count ≡ keptCount ledger →
+        fixed ≡ truthWord (ledger .fixed) → Saved ledger (partsOf count fixed) left
+    saved count fixed left e f g = rw (e, f, g) (record { parts = parts-saved; held = rw words-long parts-held })
 
   -- and the form takes what its parts hold
   pub parts-taken : ledger .n < 2 ^ 64 → ledger .months < 2 ^ 64 → ledger .last < 2 ^ 64 → ledger .month < 2 ^ 64 →
       ((k : ℕ) → k < sectorPlaces → SFits w64 (chargeIn (ledger .force) k)) →
       ((i : ℕ) → i < mostDistributors → SFits w64 (moneyAt (ledger .balances) i)) →
       (k : ℕ) → k < partCount → Takes (partAt loadForm k) (heldIn (ledgerParts ledger) k)
-  unfolding ledgerParts presentWords chargeWords balanceWords
+  unfolding ledgerParts
   parts-taken n months last month charged balanced =
-      let count = keptCount ledger in
-      let few : count * sectorCount ≤ sectorPlaces = omega (arith, kept-most) in
       let fixed : truthWord (ledger .fixed) ≤ 1 = truth-small (ledger .fixed) in
       let none : Takes nothing (heldOf 0 []) = takes-number nothing 0 refl (omega arith) (omega arith) in
       each-part (λ k. Takes (partAt loadForm k) (heldIn (ledgerParts ledger) k))
@@ -328,10 +274,11 @@ module _ (ledger : Ledger) where
       (takes-number (partAt loadForm 2) (ledger .last) refl (omega (arith, last)) (omega (arith, last)))
       (takes-number (partAt loadForm 3) (truthWord (ledger .fixed)) refl fixed (omega (arith, fixed)))
       (takes-number (partAt loadForm 4) (ledger .month) refl (omega (arith, month)) (omega (arith, month)))
-      (takes-words (partAt loadForm 5) sectorPlaces (λ j. truthWord (presentIn (ledger .force) j)) (count * sectorCount)
-      refl refl (omega arith) (omega arith) few (λ j p. truth-small (presentIn (ledger .force) j)))
-      (takes-words (partAt loadForm 6) sectorPlaces (λ j. wordOf (chargeIn (ledger .force) j)) (count * sectorCount)
-      refl refl (omega arith) (omega arith) few (λ j p. omega (arith, word-fits _ (charged j p))))
-      (takes-words (partAt loadForm 7) mostDistributors (λ i. wordOf (moneyAt (ledger .balances) i)) count
-      refl refl (omega arith) (omega arith) kept-most (λ i p. omega (arith, word-fits _ (balanced i p))))
+      (takes-words words 0 sectorPlaces places (omega (arith, words-long)) few (partAt loadForm 5) refl refl
+      (omega arith) (omega arith) (λ j p. rw (present-word j p) (truth-small (presentIn (ledger .force) j))))
+      (takes-words words sectorPlaces sectorPlaces places (omega (arith, words-long)) few (partAt loadForm 6) refl refl
+      (omega arith) (omega arith) (λ j p. rw (charge-word j p) (omega (arith, word-fits _ (charged j p)))))
+      (takes-words words balancesFrom mostDistributors (keptCount ledger) (omega (arith, words-long)) kept-most
+      (partAt loadForm 7) refl refl (omega arith) (omega arith)
+      (λ i p. rw (balance-word i p) (omega (arith, word-fits _ (balanced i p)))))
       none none none none

@@ -3,15 +3,13 @@
 use mathlib.Core.Bool.{Bool, true, false, cond, not, _&&_, _||_}
 use mathlib.Core.Path.{_≡_}
 use mathlib.Core.List.{List, [], _∷_}
-use Prim.Native.Nat.{ℕ, _+_, _*_}
+use Prim.Native.Nat.{ℕ, _+_, _-_, _*_, _/_}
 use lib.Dec.{leb, ltb, eqb}
-use lib.ListN.{length, getD, take, replicate}
+use lib.ListN.{length, getD, take, drop, replicate}
 use lib.IntN.{pos}
 use Rattle.numbers.specs.Bounded.{allBelow, listBelow, filledBelow}
-use Rattle.numbers.specs.declared.units.Pesos.{Pesos}
 use Rattle.numbers.specs.Signed.{wordOf, signedOf}
 use Rattle.numbers.specs.Sizes.{mostDistributors, sectorCount, sectorPlaces}
-use Rattle.fixing.specs.declared.sector.SectorCharges.{SectorCharges}
 use Rattle.settlement.specs.Month.{moneyAt, moneyBelow}
 use Rattle.ledger.specs.Sound.{presentIn, chargeIn}
 use Rattle.ledger.specs.declared.ledger.Ledger.{Ledger}
@@ -27,36 +25,39 @@ truthWord false = 0
 unfoldable pub wordTruth : ℕ → Bool
 wordTruth word = not (eqb word 0)
 
--- all words of `present`, `charges` and `balances`
-unfoldable pub presentWords : SectorCharges → List ℕ
-presentWords force = listBelow sectorPlaces (λ k. truthWord (presentIn force k))
+-- where the balances stand after presences and charges, and how many words there are
+abbrev pub balancesFrom : ℕ
+balancesFrom = sectorPlaces + sectorPlaces
 
-unfoldable pub chargeWords : SectorCharges → List ℕ
-chargeWords force = listBelow sectorPlaces (λ k. wordOf (chargeIn force k))
-
-unfoldable pub balanceWords : List Pesos → List ℕ
-balanceWords balances = listBelow mostDistributors (λ i. wordOf (moneyAt balances i))
-
--- how many words these are
 abbrev pub keptWords : ℕ
-keptWords = sectorPlaces + sectorPlaces + mostDistributors
+keptWords = balancesFrom + mostDistributors
 
--- whether the words from place k on are zero
+-- word k of a ledger's: presences, charges and balances, one list after the other
+unfoldable pub ledgerWord : Ledger → ℕ → ℕ
+ledgerWord ledger k =
+    cond (ltb k sectorPlaces) (truthWord (presentIn (ledger .force) k))
+    (cond (ltb k balancesFrom) (wordOf (chargeIn (ledger .force) (k - sectorPlaces)))
+    (wordOf (moneyAt (ledger .balances) (k - balancesFrom))))
+
+unfoldable pub ledgerWords : Ledger → List ℕ
+ledgerWords ledger = listBelow keptWords (ledgerWord ledger)
+
+-- the distributor whose word it is
+unfoldable pub wordOwner : ℕ → ℕ
+wordOwner k =
+    cond (ltb k sectorPlaces) (k / sectorCount)
+    (cond (ltb k balancesFrom) ((k - sectorPlaces) / sectorCount) (k - balancesFrom))
+
+-- whether the words past n distributors are zero
 unfoldable pub zeroPast : ℕ → List ℕ → Bool
-zeroPast k words = allBelow (length words) (λ i. ltb i k || eqb (getD words i 0) 0)
+zeroPast n words = allBelow keptWords (λ k. ltb (wordOwner k) n || eqb (getD words k 0) 0)
 
 -- "where N is above 40 or a word past N is not zero, all 320, 320 and 40": for how many distributors words are kept
-unfoldable pub keptAmong : ℕ → List ℕ → List ℕ → List ℕ → ℕ
-keptAmong n present charges balances =
-    cond
-    (leb n mostDistributors
-    && (zeroPast (n * sectorCount) present && (zeroPast (n * sectorCount) charges && zeroPast n balances)))
-    n
-    mostDistributors
+unfoldable pub keptAmong : ℕ → List ℕ → ℕ
+keptAmong n words = cond (leb n mostDistributors && zeroPast n words) n mostDistributors
 
 unfoldable pub keptCount : Ledger → ℕ
-keptCount ledger =
-    keptAmong (ledger .n) (presentWords (ledger .force)) (chargeWords (ledger .force)) (balanceWords (ledger .balances))
+keptCount ledger = keptAmong (ledger .n) (ledgerWords ledger)
 
 -- "N MONTHS LAST FIXED MONTH on the first line, then a line each for present, charges (the first 8N) and balances (the
 -- first N)": the ledger's parts
@@ -64,11 +65,11 @@ unfoldable pub ledgerParts : Ledger → List Held
 ledgerParts ledger =
     let count = keptCount ledger in
     let places = count * sectorCount in
+    let words = ledgerWords ledger in
     heldOf (ledger .n) [] ∷ heldOf (ledger .months) [] ∷ heldOf (ledger .last) []
     ∷ heldOf (truthWord (ledger .fixed)) [] ∷ heldOf (ledger .month) []
-    ∷ heldOf places (take places (presentWords (ledger .force)))
-    ∷ heldOf places (take places (chargeWords (ledger .force)))
-    ∷ heldOf count (take count (balanceWords (ledger .balances))) ∷ replicate 4 (heldOf 0 [])
+    ∷ heldOf places (take places words) ∷ heldOf places (take places (drop sectorPlaces words))
+    ∷ heldOf count (take count (drop balancesFrom words)) ∷ replicate 4 (heldOf 0 [])
 
 -- a ledger that was saved: its parts
 pub record Saved (ledger : Ledger) (saved : Parts) (words : List ℕ) : Type 0 where

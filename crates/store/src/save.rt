@@ -1,18 +1,16 @@
 // A ledger as the parts of its form: presences, charges and balances of its distributors, or all where a word past them
 // is not zero.
 ghost use mathlib.Core.Path.{_≡_};
+ghost use Prim.Native.Nat.{_<_};
 ghost use lib.ListN.{length};
-ghost use Rattle.numbers.specs.Sizes.{mostDistributors, sectorPlaces};
-ghost use Rattle.store.specs.Store.{truthWord, zeroPast, keptAmong, presentWords, chargeWords, balanceWords};
-ghost use Rattle.store.specs.Store.{keptWords, Saved};
-use fixing::sector::SectorCharges;
+ghost use Rattle.store.specs.Store.{truthWord, keptWords, ledgerWord, ledgerWords, wordOwner, zeroPast, keptAmong};
+ghost use Rattle.store.specs.Store.{Saved};
 use journal::form::Parts;
 use ledger::ledger::Ledger;
 use numbers::signed::word_of;
 use numbers::sizes::MOST_DISTRIBUTORS;
 use numbers::sizes::PLACES;
 use numbers::sizes::SECTORS;
-use numbers::units::Pesos;
 
 // Where the balances stand, after presences and charges.
 const BALANCES: usize = PLACES + PLACES;
@@ -27,72 +25,71 @@ fn truth_word(truth: bool) -> u64
     if truth { 1 } else { 0 }
 }
 
-// Whether the words from place k on are zero.
-fn zero_past(words: &[u64], k: usize) -> bool
-    ensures { λ r. ⌜ r ≡ zeroPast k (now (words .entry)) ⌝ }
+// Word k of a ledger's: presences, charges and balances, one list after the other.
+fn ledger_word(ledger: Ledger, k: usize) -> u64
+    requires { ⌜ k < keptWords ⌝ }
+    ensures { λ r. ⌜ r ≡ ledgerWord ledger k ⌝ }
 {
-    let mut i: usize = 0;
-    while i < words.len() {
-        if i >= k && words[i] != 0 {
+    let force = ledger.force;
+    if k < PLACES {
+        return truth_word(force.present[k]);
+    }
+    if k < BALANCES {
+        return word_of(force.charges[k - PLACES]);
+    }
+    let balance = ledger.balances[k - BALANCES];
+    word_of(balance.0)
+}
+
+// All of them.
+fn save_words(ledger: Ledger, words: &mut [u64])
+    requires { ⌜ length (now words) ≡ keptWords ⌝ }
+    ensures { λ r. ⌜ now (words .exit) ≡ ledgerWords ledger ⌝ }
+{
+    let mut k: usize = 0;
+    while k < KEPT_WORDS {
+        words[k] = ledger_word(ledger, k);
+        k += 1;
+    }
+}
+
+// The distributor whose word it is.
+fn word_owner(k: usize) -> usize
+    ensures { λ r. ⌜ r ≡ wordOwner k ⌝ }
+{
+    if k < PLACES {
+        return k / SECTORS;
+    }
+    if k < BALANCES {
+        return (k - PLACES) / SECTORS;
+    }
+    k - BALANCES
+}
+
+// Whether the words past n distributors are zero.
+fn zero_past(n: usize, words: &[u64]) -> bool
+    requires { ⌜ length (now words) ≡ keptWords ⌝ }
+    ensures { λ r. ⌜ r ≡ zeroPast n (now (words .entry)) ⌝ }
+{
+    let mut k: usize = 0;
+    while k < KEPT_WORDS {
+        if !((word_owner(k) < n) | (words[k] == 0)) {
             return false;
         }
-        i += 1;
+        k += 1;
     }
     true
 }
 
 // For how many distributors words are kept.
-fn kept_among(n: usize, present: &[u64], charges: &[u64], balances: &[u64]) -> usize
-    ensures { λ r. ⌜ r ≡ keptAmong n (now (present .entry)) (now (charges .entry)) (now (balances .entry)) ⌝ }
+fn kept_among(n: usize, words: &[u64]) -> usize
+    requires { ⌜ length (now words) ≡ keptWords ⌝ }
+    ensures { λ r. ⌜ r ≡ keptAmong n (now (words .entry)) ⌝ }
 {
-    if n > MOST_DISTRIBUTORS {
-        return MOST_DISTRIBUTORS;
-    }
-    let places = n * SECTORS;
-    if zero_past(present, places) && zero_past(charges, places) && zero_past(balances, n) {
+    if n <= MOST_DISTRIBUTORS && zero_past(n, words) {
         return n;
     }
     MOST_DISTRIBUTORS
-}
-
-// The presences as words.
-fn save_present(force: SectorCharges, into: &mut [u64])
-    requires { ⌜ length (now into) ≡ sectorPlaces ⌝ }
-    ensures { λ r. ⌜ now (into .exit) ≡ presentWords force ⌝ }
-{
-    let mut k: usize = 0;
-    while k < PLACES {
-        let present = force.present[k];
-        into[k] = truth_word(present);
-        k += 1;
-    }
-}
-
-// The charges as words.
-fn save_charges(force: SectorCharges, into: &mut [u64])
-    requires { ⌜ length (now into) ≡ sectorPlaces ⌝ }
-    ensures { λ r. ⌜ now (into .exit) ≡ chargeWords force ⌝ }
-{
-    let mut k: usize = 0;
-    while k < PLACES {
-        let charge = force.charges[k];
-        into[k] = word_of(charge);
-        k += 1;
-    }
-}
-
-// The balances as words.
-fn save_balances(balances: [Pesos; MOST_DISTRIBUTORS], into: &mut [u64])
-    requires { ⌜ length (now into) ≡ mostDistributors ⌝ }
-    ensures { λ r. ⌜ now (into .exit) ≡ balanceWords balances ⌝ }
-{
-    let mut i: usize = 0;
-    while i < MOST_DISTRIBUTORS {
-        let balance = balances[i];
-        let amount = balance.0;
-        into[i] = word_of(amount);
-        i += 1;
-    }
 }
 
 // The ledger's parts: its words into the lent ones, its numbers, and where the words stand.
@@ -100,18 +97,8 @@ pub fn save(ledger: Ledger, words: &mut [u64]) -> Parts
     requires { ⌜ length (now words) ≡ keptWords ⌝ }
     ensures { λ r. ⌜ Saved ledger r (now (words .exit)) ⌝ }
 {
-    let force = ledger.force;
-    let balances = ledger.balances;
-    save_present(force, &mut words[..PLACES]);
-    save_charges(force, &mut words[PLACES..BALANCES]);
-    save_balances(balances, &mut words[BALANCES..KEPT_WORDS]);
-    let saved = &words[..];
-    let kept = kept_among(
-        ledger.n,
-        &saved[..PLACES],
-        &saved[PLACES..BALANCES],
-        &saved[BALANCES..KEPT_WORDS],
-    );
+    save_words(ledger, words);
+    let kept = kept_among(ledger.n, words);
     let places = kept * SECTORS;
     let numbers = [
         ledger.n as u64,

@@ -1,0 +1,39 @@
+-- By where the word stands.
+use native.Mathlib.Omega.{arith}
+use mir.Facts.{toZ-ofZ}
+use borrow.Author.Tests.{lt-ltb, le-ltb}
+use borrow.Author.Needs.{needs, sfits-of}
+use Rattle.store.specs.Store.{ledgerWord}
+use Rattle.store.proofs.save.ledger_word.Statement.{statement}
+use Rattle.store.proofs.save.ledger_word.Tie as tie
+
+returns : tie.Need-returns
+unfolding ledgerWord
+returns c = rw (lt-ltb _ 320 (c .before .before .if1 .taken)) (c .truth-word .ensures)
+
+returns-2 : tie.Need-returns-2
+unfolding ledgerWord
+returns-2 c =
+    let t = c .before .before in
+    let k = t .before .before .before .args .k in
+    rw (le-ltb k 320 (omega (arith, t .before .if1 .left)), lt-ltb k 640 (t .if2 .taken))
+    (rw (toZ-ofZ (sfits-of (c .before .word-of-arg .given))) at (c .word-of .ensures))
+
+returns-3 : tie.Need-returns-3
+unfolding ledgerWord
+returns-3 c =
+    let e = c .before .before .before in
+    let k = e .before .before .before .args .k in
+    rw (le-ltb k 320 (omega (arith, e .before .if1 .left)), le-ltb k 640 (omega (arith, e .if2 .left)))
+    (rw (toZ-ofZ (sfits-of (c .before .struct-told .given .0 .1))) at (c .word-of2 .ensures))
+
+pub ledger-word-spec : {M : Type 1} → statement M
+ledger-word-spec =
+    tie.close
+    (tie.spec
+    (λ c. search needs) (λ c κs. search needs)
+    returns
+    (λ c. search needs) (λ c. search needs) (λ c κs. search needs)
+    returns-2
+    (λ c. search needs) (λ c. search needs) (λ c κs. search needs)
+    returns-3)
