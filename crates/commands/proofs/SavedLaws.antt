@@ -17,7 +17,6 @@ use Rattle.ledger.specs.declared.ledger.Ledger.{Ledger}
 use Rattle.store.specs.Store.{keptCount, ledgerParts, loadedLedger}
 use Rattle.store.proofs.StoreLaws.{kept-most, loaded-back, parts-taken, parts-whole}
 use Rattle.text.specs.Text.{bytes, lineEnd, nameText, textBelow}
-use Rattle.journal.specs.Token.{isBlank, endsToken}
 use Rattle.journal.specs.Word.{isWord, sameByte}
 use Rattle.journal.specs.Cursor.{readTo}
 use Rattle.journal.specs.Form.{partCount, partAt, Held, heldIn, partAfter, formAfter, formParts, partText, formText}
@@ -65,11 +64,11 @@ saving-size ledger =
     )
 
 load-plain : Plain loadName
-unfolding plainTest allBelow endsToken isBlank
+unfolding plainTest allBelow
 load-plain = plain-of loadName refl
 
 load-shows : namesPlain loadForm ≡ true
-unfolding namesPlain plainTest allBelow endsToken isBlank nameText
+unfolding namesPlain plainTest allBelow nameText
 load-shows = refl
 
 -- the word `load` at the start of a text

@@ -15,7 +15,7 @@ use Rattle.numbers.specs.Units.{between}
 use Rattle.numbers.proofs.BoolLaws.{by-last}
 use Rattle.numbers.proofs.TestLaws.{all-of}
 use Rattle.text.specs.Text.{digit, minus, decimalWithin, decimal, signedDecimal}
-use Rattle.journal.specs.Token.{byteAt, isBlank, endsToken}
+use Rattle.journal.specs.Token.{byteAt, endsToken}
 use Rattle.journal.specs.Number.{isDigit, digitsValue, numberIn, isMinus, signedIn, readingIn}
 use Rattle.journal.specs.declared.number.Reading.the-variants.{Number}
 use Rattle.journal.proofs.NumberLaws.{digit-least, digitAt, all-readable}
@@ -39,7 +39,6 @@ value-same text start token tail h (suc k) p =
     (byte-of text start token tail h k p ∙ ap (λ (i : ℕ). byteAt token i) (sym (zero-add k)))
 
 digit-is : (d : ℕ) → d < 10 → isDigit (digit d) ≡ true
-unfolding isDigit between
 digit-is d p = rw (le-leb 48 (48 + d) (omega arith), le-leb (48 + d) 57 (omega arith))
 
 one-digit : (d : ℕ) → d < 10 → Digits (digit d ∷ []) d
@@ -90,7 +89,6 @@ decimal-digits x p = within-digits 19 x (omega (arith, p))
 
 -- a digit ends no token
 digit-plain : (byte : ℕ) → isDigit byte ≡ true → endsToken byte ≡ false
-unfolding endsToken isBlank
 digit-plain byte h =
     let least : 48 ≤ byte = digit-least byte h in
     rw (
@@ -149,7 +147,6 @@ module _ (text : List ℕ) (start end : ℕ) (token tail : List ℕ) (h : drop s
       (omega arith)) p q)
 
 minus-plain : (token : List ℕ) → Plain token → Plain (minus ∷ token)
-unfolding endsToken isBlank
 minus-plain token t = record { some = omega arith; plain = byte }
   where
     byte : (i : ℕ) → i < suc (length token) → endsToken (byteAt (minus ∷ token) i) ≡ false

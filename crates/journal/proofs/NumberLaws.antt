@@ -11,17 +11,15 @@ use lib.Dec.{leb, ltb}
 use borrow.Author.Tests.{lt-ltb, le-ltb, leb-true, leb-false}
 use Rattle.numbers.specs.Bounded.{allBelow}
 use Rattle.numbers.proofs.TestLaws.{all-fails}
-use Rattle.numbers.proofs.UnitLaws.{between-low, between-high}
+use Rattle.numbers.proofs.BoolLaws.{and-left, and-right}
 use Rattle.journal.specs.Token.{byteAt}
 use Rattle.journal.specs.Number.{isDigit, digitsValue, readable}
 
 pub digit-least : (byte : ℕ) → isDigit byte ≡ true → 48 ≤ byte
-unfolding isDigit
-digit-least byte h = between-low 48 57 byte h
+digit-least byte h = leb-true 48 byte (and-left (leb 48 byte) (leb byte 57) h)
 
 pub digit-most : (byte : ℕ) → isDigit byte ≡ true → byte ≤ 57
-unfolding isDigit
-digit-most byte h = between-high 48 57 byte h
+digit-most byte h = leb-true byte 57 (and-right (leb 48 byte) (leb byte 57) h)
 
 -- the last value that takes one more digit takes those up to 5
 pub fits-same : (value digit : ℕ) → value ≡ 1844674407370955161 → leb digit 5 ≡ ltb (value * 10 + digit) (2 ^ 64)

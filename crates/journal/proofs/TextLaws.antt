@@ -10,7 +10,7 @@ use lib.Seq.{drop-drop, drop-append-seam, getD-drop}
 use borrow.Author.Tests.{eq-eqb}
 use Rattle.numbers.proofs.TestLaws.{all-of}
 use Rattle.text.specs.Text.{blank, lineEnd}
-use Rattle.journal.specs.Token.{byteAt, isBlank, endsToken, commentAfter, startFrom, tokenStart, endFrom}
+use Rattle.journal.specs.Token.{byteAt, endsToken, commentAfter, startFrom, tokenStart, endFrom}
 use Rattle.journal.specs.Token.{tokenEnd, tokenAfter}
 use Rattle.journal.specs.Word.{sameByte, isWord}
 use Rattle.journal.proofs.TokenLaws.{end-here, end-on, start-here, start-on, token-from}
@@ -48,11 +48,9 @@ pub record Gap (byte : ℕ) : Type 0 where
   pub outside : commentAfter false byte ≡ false
 
 pub blank-gap : Gap blank
-unfolding endsToken isBlank commentAfter
 blank-gap = record { ends = refl; outside = refl }
 
 pub line-gap : Gap lineEnd
-unfolding endsToken isBlank commentAfter
 line-gap = record { ends = refl; outside = refl }
 
 -- a text that ends the token before it

@@ -6,13 +6,12 @@ use lib.Dec.{leb, ltb, eqb}
 use lib.IntN.{subℕ}
 use Rattle.numbers.specs.Signed.{wordOf}
 use Rattle.numbers.specs.Bounded.{allBelow}
-use Rattle.numbers.specs.Units.{between}
 use Rattle.journal.specs.Token.{byteAt}
 use Rattle.journal.specs.declared.number.Reading.{Reading}
 use Rattle.journal.specs.declared.number.Reading.the-variants.{Number, Unreadable}
 
-unfoldable pub isDigit : ℕ → Bool
-isDigit byte = between 48 57 byte
+abbrev pub isDigit : ℕ → Bool
+isDigit byte = leb 48 byte && leb byte 57
 
 -- the value of so many digits from a place on
 unfoldable pub digitsValue : ℕ → List ℕ → ℕ → ℕ

@@ -11,15 +11,15 @@ abbrev pub byteAt : List ℕ → ℕ → ℕ
 byteAt text k = getD text k 0
 
 -- "blanks, tabs or line ends"; "a carriage return is a blank"
-unfoldable pub isBlank : ℕ → Bool
+abbrev pub isBlank : ℕ → Bool
 isBlank byte = eqb byte 32 || (eqb byte 9 || (eqb byte 10 || eqb byte 13))
 
 -- "`#` starts a comment to the end of its line", and ends a token
-unfoldable pub endsToken : ℕ → Bool
+abbrev pub endsToken : ℕ → Bool
 endsToken byte = isBlank byte || eqb byte 35
 
 -- whether the byte after this one is in a comment, where this one is (or is not)
-unfoldable pub commentAfter : Bool → ℕ → Bool
+abbrev pub commentAfter : Bool → ℕ → Bool
 commentAfter comment byte = not (eqb byte 10) && (comment || eqb byte 35)
 
 -- from place k: the first byte of a token, among so many bytes that are left

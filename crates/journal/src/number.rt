@@ -4,7 +4,6 @@ ghost use Prim.Native.Nat.{_+_, _*_, _^_, _≤_};
 ghost use lib.Dec.{ltb};
 ghost use lib.ListN.{length};
 ghost use Rattle.journal.specs.Number.{isDigit, numberIn, isMinus, aboveZero, belowZero, signedIn, readingIn};
-use numbers::units::is_between;
 
 // A token's reading: a number, of either sign as the word of 64 bits that holds it.
 pub enum Reading {
@@ -16,7 +15,7 @@ pub enum Reading {
 fn is_digit(byte: u8) -> bool
     ensures { λ r. ⌜ r ≡ isDigit byte ⌝ }
 {
-    is_between(48, 57, byte as u64)
+    (48 <= byte) & (byte <= 57)
 }
 
 // Whether a value with one more digit fits 64 bits.

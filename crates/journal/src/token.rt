@@ -1,10 +1,8 @@
 // Where a journal's tokens start and end.
 ghost use mathlib.Core.Path.{_≡_};
-ghost use mathlib.Core.Bool.{_||_};
 ghost use Prim.Native.Nat.{_≤_};
 ghost use lib.ListN.{length};
-ghost use Rattle.journal.specs.Token.{isBlank, endsToken, commentAfter, tokenStart, tokenEnd};
-ghost use Rattle.journal.specs.Token.{tokenAfter};
+ghost use Rattle.journal.specs.Token.{endsToken, commentAfter, tokenStart, tokenEnd, tokenAfter};
 
 // A token's place: its first byte, and the byte after its last.
 pub(crate) struct Token {
@@ -12,32 +10,18 @@ pub(crate) struct Token {
     pub end: usize,
 }
 
-// Whether a byte is a blank.
-fn is_blank(byte: u8) -> bool
-    ensures { λ r. ⌜ r ≡ isBlank byte ⌝ }
-{
-    byte == 32 || (byte == 9 || (byte == 10 || byte == 13))
-}
-
-// Whether a byte ends a token.
+// Whether a byte ends a token: a blank, or a comment's first.
 fn ends_token(byte: u8) -> bool
     ensures { λ r. ⌜ r ≡ endsToken byte ⌝ }
 {
-    is_blank(byte) || byte == 35
-}
-
-// Whether a byte stands before a token: in a comment, a blank, or a comment's first.
-fn is_skipped(comment: bool, byte: u8) -> bool
-    ensures { λ r. ⌜ r ≡ (comment || endsToken byte) ⌝ }
-{
-    comment || ends_token(byte)
+    ((byte == 32) | ((byte == 9) | ((byte == 10) | (byte == 13)))) | (byte == 35)
 }
 
 // Whether the byte after this one is in a comment.
 fn comment_after(comment: bool, byte: u8) -> bool
     ensures { λ r. ⌜ r ≡ commentAfter comment byte ⌝ }
 {
-    byte != 10 && (comment || byte == 35)
+    (byte != 10) & (comment | (byte == 35))
 }
 
 // Where the next token starts; the text's length where there is none.
@@ -49,7 +33,8 @@ fn token_start(text: &[u8], from: usize) -> usize
     let mut k = from;
     while k < text.len() {
         let byte = text[k];
-        if !is_skipped(comment, byte) {
+        let skipped = comment | ends_token(byte);
+        if !skipped {
             return k;
         }
         comment = comment_after(comment, byte);

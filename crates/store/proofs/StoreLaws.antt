@@ -40,7 +40,6 @@ mapped A B f l n e = sym (length-map l f) ∙ e
 
 -- a truth is its word's
 truth-back : (b : Bool) → wordTruth (truthWord b) ≡ b
-unfolding wordTruth
 truth-back true = refl
 truth-back false = refl
 

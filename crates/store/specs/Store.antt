@@ -22,7 +22,7 @@ abbrev pub truthWord : Bool → ℕ
 truthWord true = 1
 truthWord false = 0
 
-unfoldable pub wordTruth : ℕ → Bool
+abbrev pub wordTruth : ℕ → Bool
 wordTruth word = not (eqb word 0)
 
 -- where the balances stand after presences and charges, and how many words there are

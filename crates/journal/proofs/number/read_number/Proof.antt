@@ -49,17 +49,20 @@ module _ (c : tie.Else2 Inv-loop μ-loop) where
   abbrev index : ℕ
   index = c .before .before .before .before .loop .j
 
+  abbrev byte : ℕ
+  byte = byteAt (place .args .text .now) (place .args .start + index)
+
   digit-here : digitAt (place .args .text .now) (place .args .start) index ≡ true
   digit-here = sym (c .before .is-digit .ensures) ∙ not-false _ (c .if2 .left)
 
 cast-digit : tie.Need-cast-digit Inv-loop μ-loop
-cast-digit c = omega (arith, digit-most _ (digit-here c))
+cast-digit c = omega (arith, digit-most (byte c) (digit-here c))
 
 sub-digit : tie.Need-sub-digit Inv-loop μ-loop
-sub-digit c = digit-least _ (digit-here c)
+sub-digit c = digit-least (byte c) (digit-here c)
 
 fits-with-requires : tie.Need-fits-with-requires Inv-loop μ-loop
-fits-with-requires c κs = omega (arith, digit-most _ (digit-here c))
+fits-with-requires c κs = omega (arith, digit-most (byte c) (digit-here c))
 
 -- the value with the digit at hand, which is what the test asks, and what the definition has
 module _ (c : tie.After-fits-with Inv-loop μ-loop) where
