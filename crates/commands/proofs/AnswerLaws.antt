@@ -5,28 +5,21 @@ use mathlib.Core.Bool.{true, false}
 use mathlib.Core.List.{List, []}
 use Prim.Native.Nat.{ℕ, _≤_}
 use native.Mathlib.Omega.{arith}
+use native.Mathlib.Nat.{le-trans}
 use lib.ListN.{length}
-use lib.Dec.{eqb}
-use Rattle.numbers.specs.Bounded.{sumBelow, listBelow}
-use Rattle.numbers.specs.Refusal.{verdictAnswered}
-use Rattle.numbers.specs.Sizes.{mostDistributors}
-use Rattle.settlement.specs.Month.{moneyAt}
-use Rattle.text.specs.Text.{bytes}
+use Rattle.numbers.specs.Bounded.{sumBelow}
 use Rattle.text.specs.Buffer.{bufferOf}
 use Rattle.text.proofs.BufferLaws.{Stands, text-stands}
-use Rattle.journal.specs.Form.{Held, heldIn, partCount, placeOf, formAfter, formParts}
+use Rattle.journal.specs.Form.{Held, partCount, placeOf, formAfter, formParts}
 use Rattle.journal.specs.Command.{commandForm, commandAfter}
 use Rattle.journal.specs.declared.cursor.Cursor.{Cursor}
 use Rattle.journal.specs.declared.command.Command.{Command}
 use Rattle.journal.specs.declared.command.Command.the-variants.{Open, Fix, Settle, Save, Load, Unknown, End}
 use Rattle.journal.specs.declared.command.CommandRead.{CommandRead}
-use Rattle.ledger.specs.Ledger.{openingVerdict}
-use Rattle.ledger.specs.Fix.{FixingCall, fixingAnswer, fixingAnswered, fixingList}
-use Rattle.ledger.specs.Settle.{settlementVerdict, settlementLedger, settlementList}
 use Rattle.ledger.specs.declared.ledger.Ledger.{Ledger}
-use Rattle.answers.specs.Answer.{outcomeLine, fixingLine, answerText}
-use Rattle.answers.proofs.SizeLaws.{outcome-size, fixing-line-size, answer-size}
-use Rattle.commands.specs.Replay.{fixingCall, settlementCall, openingText, fixingText, settlementText}
+use Rattle.text.proofs.SizeLaws.{line-size}
+use Rattle.answers.proofs.SizeLaws.{answer-size}
+use Rattle.commands.specs.Replay.{openingText, fixingText, settlementText}
 use Rattle.commands.specs.Replay.{loadingText}
 use Rattle.commands.specs.Replay.{commandLedger, commandAnswer, wordRoom, stepAfter, answerOf}
 use Rattle.commands.specs.Replay.{answerAfter, longestAnswer, CommandMade, CommandAnswered}
@@ -50,36 +43,14 @@ form-room Unknown = omega arith
 form-room End = omega arith
 
 -- no answer is longer than the buffer
-fixing-fits : (name : List ℕ) → length name ≤ 12 → (ledger : Ledger) (call : FixingCall) →
-    let answer = fixingAnswer ledger call in
-    length (answerText (fixingLine name answer) (eqb (fixingAnswered answer .number) 0) (fixingList ledger call) 3 [])
-    ≤ longestAnswer
-fixing-fits name p ledger call =
-    let answer = fixingAnswer ledger call in
-    omega (
-      arith,
-      answer-size (fixingLine name answer) (eqb (fixingAnswered answer .number) 0) (fixingList ledger call) 3 []
-          (fixing-line-size name answer p),
-    )
-
 answer-fits : (command : Command) (parts : List Held) (ledger : Ledger) →
     length (commandAnswer command parts ledger) ≤ longestAnswer
 unfolding openingText fixingText settlementText loadingText
-answer-fits Open parts ledger =
-    let number = verdictAnswered [] (openingVerdict (heldIn parts 0 .number)) .number in
-    omega (arith, outcome-size (bytes "open        ") number (omega arith))
-answer-fits Fix parts ledger = fixing-fits (bytes "fix         ") (omega arith) ledger (fixingCall parts)
-answer-fits Settle parts ledger =
-    let call = settlementCall parts in
-    let number = verdictAnswered [] (settlementVerdict ledger call) .number in
-    omega (
-      arith,
-      answer-size (outcomeLine (bytes "settle      ") number) (eqb number 0) (settlementList ledger call) 1
-          (listBelow mostDistributors (moneyAt (settlementLedger ledger call .balances)))
-          (outcome-size (bytes "settle      ") number (omega arith)),
-    )
+answer-fits Open parts ledger = le-trans (line-size _) (omega arith)
+answer-fits Fix parts ledger = le-trans (answer-size _ _ _ 3 _) (omega arith)
+answer-fits Settle parts ledger = le-trans (answer-size _ _ _ 1 _) (omega arith)
 answer-fits Save parts ledger = saving-size ledger
-answer-fits Load parts ledger = omega (arith, outcome-size (bytes "load        ") 0 (omega arith))
+answer-fits Load parts ledger = le-trans (line-size _) (omega arith)
 answer-fits Unknown parts ledger = omega arith
 answer-fits End parts ledger = omega arith
 

@@ -16,7 +16,7 @@ use Rattle.ledger.specs.Sound.{chargeIn}
 use Rattle.ledger.specs.declared.ledger.Ledger.{Ledger}
 use Rattle.store.specs.Store.{keptCount, ledgerParts, loadedLedger}
 use Rattle.store.proofs.StoreLaws.{kept-most, loaded-back, parts-taken, parts-whole}
-use Rattle.text.specs.Text.{bytes, lineEnd, nameText, textBelow}
+use Rattle.text.specs.Text.{bytes, lineEnd, beforeBlank, nameText, textBelow}
 use Rattle.journal.specs.Word.{isWord, sameByte}
 use Rattle.journal.specs.Cursor.{readTo}
 use Rattle.journal.specs.Form.{partCount, partAt, Held, heldIn, partAfter, formAfter, formParts, partText, formText}
@@ -49,7 +49,7 @@ loadName = bytes "load"
 
 -- it is no longer than the buffer for an answer
 pub saving-size : (ledger : Ledger) → length (savingText ledger) ≤ 262144
-unfolding savingText ledgerParts allBelow
+unfolding savingText ledgerParts
 saving-size ledger =
     let few : keptCount ledger ≤ mostDistributors = kept-most ledger in
     let places : ℕ = keptCount ledger * sectorCount in
@@ -57,7 +57,7 @@ saving-size ledger =
     let none : 0 ≤ 320 = omega arith in
     omega (
       arith,
-      form-size (bytes "load        ") loadForm (ledgerParts ledger) 320 (omega arith) refl
+      form-size (bytes "load        ") loadForm (ledgerParts ledger) 320
           (each-part (λ k. length (heldIn (ledgerParts ledger) k .words) ≤ 320) none none none none none
           (short places _ (omega (arith, few))) (short places _ (omega (arith, few)))
           (short (keptCount ledger) _ (omega (arith, few))) none none none none),
@@ -68,14 +68,14 @@ unfolding plainTest allBelow
 load-plain = plain-of loadName refl
 
 load-shows : namesPlain loadForm ≡ true
-unfolding namesPlain plainTest allBelow nameText
+unfolding namesPlain plainTest allBelow nameText beforeBlank
 load-shows = refl
 
 -- the word `load` at the start of a text
 load-among : (tail : List ℕ) →
     commandAmong (loadName ++ tail) (record { start = 0; end = length loadName }) commandRows ≡ commandRead Load
     (readTo (length loadName))
-unfolding commandAmong isWord sameByte allBelow nameText
+unfolding commandAmong isWord sameByte allBelow nameText beforeBlank
 load-among tail = refl
 
 load-command : (tail : List ℕ) → Ends tail →
@@ -103,7 +103,7 @@ module _ (ledger : Ledger) (m : MachineLedger ledger) where
   partsText = textBelow partCount (λ k. partText (partAt loadForm k) (heldIn parts k)) ++ lineEnd ∷ []
 
   saved-text : savingText ledger ≡ loadName ++ partsText
-  unfolding savingText formText nameText
+  unfolding savingText formText nameText beforeBlank
   saved-text =
       append-assoc loadName (textBelow partCount (λ k. partText (partAt loadForm k) (heldIn parts k))) (lineEnd ∷ [])
 

@@ -11,7 +11,6 @@ use lib.ListN.{length, drop, length-append, List·getD-append}
 use lib.Seq.{getD-append-seam}
 use borrow.Author.Tests.{le-leb, lt-ltb, le-ltb, eq-eqb, ne-eqb}
 use Rattle.numbers.specs.Bounded.{allBelow}
-use Rattle.numbers.specs.Units.{between}
 use Rattle.numbers.proofs.BoolLaws.{by-last}
 use Rattle.numbers.proofs.TestLaws.{all-of}
 use Rattle.text.specs.Text.{digit, minus, decimalWithin, decimal, signedDecimal}

@@ -1,24 +1,19 @@
 -- How long the text of a form is at most. Assumes nothing.
-use mathlib.Core.Path.{_≡_}
 use mathlib.Core.Bool.{Bool, true, false}
 use mathlib.Core.List.{List}
 use Prim.Native.Nat.{ℕ, _+_, _*_, _≤_, _<_}
 use native.Mathlib.Omega.{arith}
-use lib.Dec.{leb}
 use lib.ListN.{length, length-append}
-use borrow.Author.Tests.{leb-true}
-use Rattle.numbers.specs.Bounded.{allBelow}
-use Rattle.numbers.proofs.TestLaws.{all-at}
-use Rattle.text.proofs.SizeLaws.{name-size, word-size, words-size, texts-size-below}
+use Rattle.text.proofs.NameLaws.{name-size}
+use Rattle.text.proofs.SizeLaws.{word-size, words-size, texts-size}
 use Rattle.journal.specs.Form.{partCount, partAt, Held, heldIn, listText, partTextBy, partText, formText}
 use Rattle.journal.specs.declared.form.Kind.{Kind}
 use Rattle.journal.specs.declared.form.Kind.the-variants.{Nothing, Number, List as Words, Signed, Length}
 use Rattle.journal.specs.declared.form.Part.{Part}
 
-part-size : (part : Part) (held : Held) → length (part .0) ≤ 12 →
-    length (partText part held) ≤ 34 + length (held .words) * 22
+part-size : (part : Part) (held : Held) → length (partText part held) ≤ 34 + length (held .words) * 22
 unfolding partText listText
-part-size part held p = go (part .1)
+part-size part held = go (part .1)
   where
     line : (signed : Bool) →
         length (listText (part .0) signed (held .number) (held .words)) ≤ 34 + length (held .words) * 22
@@ -33,21 +28,15 @@ part-size part held p = go (part .1)
     go (Signed longest) = line true
     go (Length longest) = line false
 
-pub form-size : (name : List ℕ) (form : List Part) (parts : List Held) (most : ℕ) → length name ≤ 12 →
-    allBelow partCount (λ k. leb (length (partAt form k .0)) 12) ≡ true →
+pub form-size : (name : List ℕ) (form : List Part) (parts : List Held) (most : ℕ) →
     ((k : ℕ) → k < partCount → length (heldIn parts k .words) ≤ most) →
     length (formText name form parts) ≤ 421 + most * 264
 unfolding formText
-form-size name form parts most p names s =
+form-size name form parts most s =
     rw (length-append, length-append)
     (omega (
       arith,
       name-size name,
-      texts-size-below partCount (34 + most * 22) (λ k. partText (partAt form k) (heldIn parts k))
-          (λ k q. omega (
-            arith,
-            part-size (partAt form k) (heldIn parts k)
-                (leb-true _ 12 (all-at partCount (λ j. leb (length (partAt form j .0)) 12) names k q)),
-            s k q,
-          )),
+      texts-size partCount (34 + most * 22) (λ k. partText (partAt form k) (heldIn parts k))
+          (λ k q. omega (arith, part-size (partAt form k) (heldIn parts k), s k q)),
     ))

@@ -4,7 +4,7 @@ use mathlib.Core.List.{List, [], _∷_, _++_}
 use Prim.Native.Nat.{ℕ, zero, suc, _+_, _*_, _-_, _/_, _%_, _^_, _≤_, _<_, min}
 use native.Mathlib.Nat.{suc-mul, le-trans, mul-le-mul-right}
 use native.Mathlib.Omega.{arith}
-use lib.Dec.{ltb, eqb}
+use lib.Dec.{ltb}
 use lib.IntN.{ℤ, pos}
 use lib.ListN.{length, getD, take, drop, length-append, length-take}
 use Rattle.numbers.specs.Signed.{wordOf}
@@ -12,10 +12,11 @@ use Rattle.numbers.specs.Sizes.{mostDistributors}
 use Rattle.text.specs.Line.{itemAt, shownText, itemText, nextBy, nextText, lineText}
 use Rattle.text.specs.Row.{signedWords, columnText, rowText, rowsText}
 use Rattle.text.specs.Text.{blank, digit, minus, decimalWithin, decimal, signedDecimal, word, wordBy}
-use Rattle.text.specs.Text.{textBelow, wordsBy, nameText}
+use Rattle.text.specs.Text.{textBelow, wordsBy}
 use Rattle.text.specs.declared.line.Item.{Item}
 use Rattle.text.specs.declared.line.Shown.{Shown}
 use Rattle.text.specs.declared.line.Shown.the-variants.{Nothing, Word, Number}
+use Rattle.text.proofs.NameLaws.{name-size}
 
 -- either of two texts
 pub choice-size : (test : Bool) (a b : List ℕ) (most : ℕ) → length a ≤ most → length b ≤ most →
@@ -53,64 +54,54 @@ word-by-size signed x =
     (omega (arith, word-size x))
 
 -- texts one after another, each of a size at most
-pub texts-size-below : (k most : ℕ) (f : ℕ → List ℕ) → ((j : ℕ) → j < k → length (f j) ≤ most) →
+pub texts-size : (k most : ℕ) (f : ℕ → List ℕ) → ((j : ℕ) → j < k → length (f j) ≤ most) →
     length (textBelow k f) ≤ k * most
 unfolding textBelow
-texts-size-below zero most f h = omega arith
-texts-size-below (suc k) most f h =
+texts-size zero most f h = omega arith
+texts-size (suc k) most f h =
     rw (length-append, suc-mul)
-    (omega (arith, texts-size-below k most f (λ j p. h j (omega arith)), h k (omega arith)))
-
-pub texts-size : (k most : ℕ) (f : ℕ → List ℕ) → ((j : ℕ) → length (f j) ≤ most) → length (textBelow k f) ≤ k * most
-texts-size k most f h = texts-size-below k most f (λ j p. h j)
+    (omega (arith, texts-size k most f (λ j p. h j (omega arith)), h k (omega arith)))
 
 pub words-size : (signed : Bool) (words : List ℕ) → length (wordsBy signed words) ≤ length words * 22
 unfolding wordsBy
 words-size signed words =
-    texts-size (length words) 22 (λ k. wordBy signed (getD words k 0)) (λ k. word-by-size signed (getD words k 0))
+    texts-size (length words) 22 (λ k. wordBy signed (getD words k 0)) (λ k p. word-by-size signed (getD words k 0))
 
-pub name-size : (name : List ℕ) → length (nameText name) ≤ length name
-unfolding nameText
-name-size [] = omega arith
-name-size (byte ∷ rest) =
-    choice-size (eqb byte blank) [] (byte ∷ nameText rest) (suc (length rest)) (omega arith)
-    (omega (arith, name-size rest))
+-- an item, alone and after a blank; a line of items
+shown-size : (shown : Shown) (name : List ℕ) → length (shownText shown name) ≤ 33
+shown-size Nothing name = omega arith
+shown-size Word name = omega (arith, name-size name)
+shown-size (Number number) name = rw length-append (omega (arith, name-size name, word-size number))
 
--- an item whose name has at most 12 bytes, alone and after a blank; a line of such items
-shown-size : (shown : Shown) (name : List ℕ) → length name ≤ 12 → length (shownText shown name) ≤ 33
-shown-size Nothing name p = omega arith
-shown-size Word name p = omega (arith, name-size name)
-shown-size (Number number) name p = rw length-append (omega (arith, name-size name, word-size number))
-
-pub item-size : (item : Item) → length (item .0) ≤ 12 → length (itemText item) ≤ 33
+item-size : (item : Item) → length (itemText item) ≤ 33
 unfolding itemText
-item-size item p = shown-size (item .1) (item .0) p
+item-size item = shown-size (item .1) (item .0)
 
-next-by-size : (shown : Shown) (item : Item) → length (item .0) ≤ 12 → length (nextBy shown item) ≤ 34
-next-by-size Nothing item p = omega arith
-next-by-size Word item p = omega (arith, item-size item p)
-next-by-size (Number number) item p = omega (arith, item-size item p)
-
-pub next-size : (item : Item) → length (item .0) ≤ 12 → length (nextText item) ≤ 34
+next-size : (item : Item) → length (nextText item) ≤ 34
 unfolding nextText
-next-size item p = next-by-size (item .1) item p
+next-size item = go (item .1)
+  where
+    go : (shown : Shown) → length (nextBy shown item) ≤ 34
+    go Nothing = omega arith
+    go Word = omega (arith, item-size item)
+    go (Number number) = omega (arith, item-size item)
 
-pub line-size : (items : List Item) → ((k : ℕ) → k < 6 → length (itemAt items k .0) ≤ 12) →
-    length (lineText items) ≤ 204
+pub line-size : (items : List Item) → length (lineText items) ≤ 204
 unfolding lineText
-line-size items h =
-    let first = item-size (itemAt items 0) (h 0 (omega arith)) in
-    let rest =
-    texts-size-below 5 34 (λ k. nextText (itemAt items (suc k)))
-    (λ k p. next-size (itemAt items (suc k)) (h (suc k) (omega arith))) in
-    simp length-append (omega (arith, first, rest))
+line-size items =
+    simp length-append
+    (omega (
+      arith,
+      item-size (itemAt items 0),
+      texts-size 5 34 (λ k. nextText (itemAt items (suc k))) (λ k p. next-size (itemAt items (suc k))),
+    ))
 
 -- rows
 signed-words-size : (list : List ℤ) → length (signedWords list) ≤ length list * 22
 unfolding signedWords
 signed-words-size list =
     texts-size (length list) 22 (λ k. wordBy true (wordOf (getD list k (pos 0))))
-    (λ k. word-by-size true (wordOf (getD list k (pos 0))))
+    (λ k p. word-by-size true (wordOf (getD list k (pos 0))))
 
 column-size : (column : List ℤ) (i : ℕ) → length (columnText column i) ≤ 22
 unfolding columnText
@@ -132,5 +123,5 @@ rows-size list width column =
     let few : rows ≤ mostDistributors = omega arith in
     le-trans
     (texts-size rows (43 + width * 22) (λ i. rowText i (take width (drop (i * width) list)) column)
-    (λ i. row-size i width (take width (drop (i * width) list)) column (rw length-take (omega arith))))
+    (λ i p. row-size i width (take width (drop (i * width) list)) column (rw length-take (omega arith))))
     (mul-le-mul-right (43 + width * 22) few)

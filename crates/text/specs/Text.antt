@@ -6,7 +6,7 @@ use Prim.Native.Char.{code}
 use Prim.Native.String.{String}
 use Prim.Native.String.{[] as String·[], _∷_ as _String·∷_}
 use lib.Dec.{ltb, eqb}
-use lib.ListN.{length, getD}
+use lib.ListN.{length, getD, take}
 
 abbrev pub blank : ℕ
 blank = 32
@@ -56,7 +56,11 @@ textBelow (suc k) f = textBelow k f ++ f k
 unfoldable pub wordsBy : Bool → List ℕ → List ℕ
 wordsBy signed words = textBelow (length words) (λ k. wordBy signed (getD words k 0))
 
--- a name is its bytes before the first blank
+-- what stands before the first blank
+unfoldable pub beforeBlank : List ℕ → List ℕ
+beforeBlank [] = []
+beforeBlank (byte ∷ rest) = cond (eqb byte blank) [] (byte ∷ beforeBlank rest)
+
+-- a name of 12 bytes, the last of them blank where it is shorter
 unfoldable pub nameText : List ℕ → List ℕ
-nameText [] = []
-nameText (byte ∷ rest) = cond (eqb byte blank) [] (byte ∷ nameText rest)
+nameText name = beforeBlank (take 12 name)

@@ -7,7 +7,7 @@ use Rattle.text.specs.Buffer.{bufferOf}
 use Rattle.text.specs.Line.{lineText}
 use Rattle.text.proofs.BufferLaws.{Stands, text-stands}
 use Rattle.answers.specs.Answer.{errorLine}
-use Rattle.answers.proofs.SizeLaws.{error-size}
+use Rattle.text.proofs.SizeLaws.{line-size}
 use borrow.Author.Needs.{needs}
 use Rattle.commands.proofs.run.print_error.Statement.{statement}
 use Rattle.commands.proofs.run.print_error.Tie as tie
@@ -20,7 +20,7 @@ stands d =
     let l = d .before in
     let e = l .before .before in
     rw (d .write-line .ensures, l .error-line .ensures)
-    (text-stands _ (e .buffer .result) 0 (omega (arith, error-size (e .before .args .next .at), e .buffer .ensures)))
+    (text-stands _ (e .buffer .result) 0 (omega (arith, line-size (errorLine (e .before .args .next .at)), e .buffer .ensures)))
 
 array-share-prefix-buffer : tie.Need-array-share-prefix-buffer
 array-share-prefix-buffer c = stands (c .before) .within

@@ -2,8 +2,7 @@
 use mathlib.Core.Path.{_∙_, ap}
 use native.Mathlib.Omega.{arith}
 use lib.ListN.{length-take}
-use Rattle.text.proofs.NameLaws.{name-first}
-use Rattle.text.proofs.SizeLaws.{name-size}
+use Rattle.text.proofs.NameLaws.{name-first, name-size}
 use Rattle.journal.specs.Word.{isWord}
 use borrow.Author.Needs.{needs}
 use Rattle.journal.proofs.word.is_name.Statement.{statement}
@@ -21,7 +20,7 @@ returns c =
     let s = n .before .before in
     c .is-word .ensures
     ∙ ap (isWord (s .args .text .now) (s .args .start) (s .args .end))
-    (rw (n .name-size .ensures) (name-first (s .args .t4)))
+    (rw (n .name-size .ensures) (name-first (s .args .t4) (search needs)))
 
 pub is-name-spec : {M : Type 1} → statement M
 is-name-spec =

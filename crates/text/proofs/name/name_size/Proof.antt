@@ -1,23 +1,25 @@
 -- The invariant: the name is the bytes that were passed and what stands before the first blank of the rest.
-use mathlib.Core.Path.{_≡_}
+use mathlib.Core.Path.{_≡_, ap}
 use Prim.Native.Nat.{_+_, _-_, _≤_}
 use native.Mathlib.Omega.{arith}
 use lib.ListN.{length, drop}
-use Rattle.text.specs.Text.{nameText}
-use Rattle.text.proofs.NameLaws.{name-ends, name-goes, name-over}
+use Rattle.text.specs.Text.{beforeBlank, nameText}
+use Rattle.text.proofs.NameLaws.{name-whole, name-ends, name-goes, name-over}
 use borrow.Author.Needs.{needs}
 use Rattle.text.proofs.name.name_size.Statement.{statement}
 use Rattle.text.proofs.name.name_size.Tie as tie
 
 abbrev Inv-loop : tie.InvT-loop
 Inv-loop name k₀ k =
-    (k ≤ 12) × (length name ≡ 12) × (length (nameText name) ≡ k + length (nameText (drop k name)))
+    (k ≤ 12) × (length name ≡ 12) × (length (nameText name) ≡ k + length (beforeBlank (drop k name)))
 
 abbrev μ-loop : tie.MeasureT-loop
 μ-loop name k₀ k = 12 - k
 
 loop-holds : tie.Need-loop-holds Inv-loop μ-loop
-loop-holds c = (omega arith, search needs, omega arith)
+loop-holds c =
+    let whole : length (c .args .t1) ≡ 12 = search needs in
+    (omega arith, whole, omega (arith, ap length (name-whole (c .args .t1) whole)))
 
 returns : tie.Need-returns Inv-loop μ-loop
 returns c =

@@ -3,8 +3,7 @@ use mathlib.Core.Path.{_∙_, ap}
 use native.Mathlib.Omega.{arith}
 use lib.ListN.{length-take}
 use Rattle.text.specs.Buffer.{bufferOf, written}
-use Rattle.text.proofs.NameLaws.{name-first}
-use Rattle.text.proofs.SizeLaws.{name-size}
+use Rattle.text.proofs.NameLaws.{name-first, name-size}
 use borrow.Author.Needs.{needs}
 use Rattle.text.proofs.name.write_name.Statement.{statement}
 use Rattle.text.proofs.name.write_name.Tie as tie
@@ -21,7 +20,7 @@ returns c =
     let w = c .before .before in
     let s = w .before .before .before .before .before in
     w .write-text .ensures ∙ ap (λ text. written text (bufferOf (s .args .buffer .now) (s .args .count)))
-    (rw (w .before .before .before .name-size .ensures) (name-first (s .args .t3)))
+    (rw (w .before .before .before .name-size .ensures) (name-first (s .args .t3) (search needs)))
 
 pub write-name-spec : {M : Type 1} → statement M
 write-name-spec =
