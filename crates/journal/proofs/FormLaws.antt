@@ -17,7 +17,7 @@ use Rattle.text.specs.Text.{nameText}
 use Rattle.journal.specs.Cursor.{numberAfter, mostWord}
 use Rattle.journal.specs.List.{countAfter, listAfter, listWords}
 use Rattle.journal.specs.Form.{partCount, partAt, heldOf, heldIn, boundBy, boundOf, countBy, countOf, roomOf}
-use Rattle.journal.specs.Form.{placeOf, partBy, partAfter, formAfter, heldAt, formParts, numberOf, startOf}
+use Rattle.journal.specs.Form.{placeOf, partRead, partBy, partAfter, formAfter, heldAt, formParts, numberOf, startOf}
 use Rattle.journal.specs.Form.{endOf, wordsIn, partsIn, FormHeld, PartFollows, FormFollows}
 use Rattle.journal.specs.declared.cursor.Cursor.{Cursor}
 use Rattle.journal.specs.declared.cursor.NumberRead.{NumberRead}
@@ -29,55 +29,24 @@ use Rattle.journal.proofs.CursorLaws.{numberRead, Past, then-number, nu
 use Rattle.journal.proofs.ListLaws.{count-most, list-most, words-length, then-count, then-list}
 
 -- a part by its kind, as the code reads it
-module _ (part : Part) (text : List ℕ) (cursor : Cursor) (read : NumberRead) (found : List ℕ) where
-  pub follows-nothing : part .1 ≡ Nothing → read ≡ numberRead 0 cursor →
-      PartFollows part text cursor read found found
+module _ {part : Part} {text : List ℕ} {cursor : Cursor} {read : NumberRead} {found left : List ℕ} (kind : Kind)
+    (k : part .1 ≡ kind) where
+  pub follows : (words : List ℕ) → partRead read words ≡ partBy kind (nameText (part .0)) text cursor →
+      left ≡ words ++ drop (countBy kind (read .value)) found → PartFollows part text cursor read found left
   unfolding partAfter
-  follows-nothing k e = record {
-    number = rw k (ap (λ r. r .value) e);
-    next = rw k (ap (λ r. r .next) e);
-    words = rw k refl;
-  }
-
-  pub follows-number : (most : ℕ) → part .1 ≡ Number most → read ≡ numberAfter text cursor false most →
-      PartFollows part text cursor read found found
-  unfolding partAfter
-  follows-number most k e = record {
-    number = rw k (ap (λ r. r .value) e);
-    next = rw k (ap (λ r. r .next) e);
-    words = rw k refl;
-  }
-
-  pub follows-length : (longest : ℕ) → part .1 ≡ Length longest →
-      read ≡ countAfter text cursor (nameText (part .0)) longest → PartFollows part text cursor read found found
-  unfolding partAfter
-  follows-length longest k e = record {
-    number = rw k (ap (λ r. r .value) e);
-    next = rw k (ap (λ r. r .next) e);
-    words = rw k refl;
-  }
+  follows words e w = record { number = rw (k, ← e) refl; next = rw (k, ← e) refl; words = rw (k, ← e) w }
 
   -- a list into as many places as it may have words
-  module _ (longest : ℕ) (signed : Bool) (most : ℕ) (left : List ℕ) (room : length found ≡ longest)
-      (e : read ≡ listAfter text cursor (nameText (part .0)) (length found) signed most)
-      (w : left ≡ listWords text cursor (nameText (part .0)) (length found) signed most ++ drop (read .value) found)
-    where
-      pub follows-list : part .1 ≡ Words longest most → signed ≡ false → PartFollows part text cursor read found left
-      unfolding partAfter
-      follows-list k s = record {
-        number = rw k (ap (λ r. r .value) (rw (room, s) at e));
-        next = rw k (ap (λ r. r .next) (rw (room, s) at e));
-        words = rw k (rw (room, s) at w);
-      }
-
-      pub follows-signed : part .1 ≡ Signed longest → signed ≡ true → most ≡ mostWord →
-          PartFollows part text cursor read found left
-      unfolding partAfter
-      follows-signed k s m = record {
-        number = rw k (ap (λ r. r .value) (rw (room, s, m) at e));
-        next = rw k (ap (λ r. r .next) (rw (room, s, m) at e));
-        words = rw k (rw (room, s, m) at w);
-      }
+  pub follows-list : (longest : ℕ) (signed : Bool) (most : ℕ) → length found ≡ longest →
+      read ≡ listAfter text cursor (nameText (part .0)) (length found) signed most →
+      left ≡ listWords text cursor (nameText (part .0)) (length found) signed most ++ drop (read .value) found →
+      partRead (listAfter text cursor (nameText (part .0)) longest signed most)
+      (listWords text cursor (nameText (part .0)) longest signed most) ≡ partBy kind (nameText (part .0)) text cursor →
+      countBy kind (read .value) ≡ read .value → PartFollows part text cursor read found left
+  follows-list longest signed most room e w b n =
+      follows (listWords text cursor (nameText (part .0)) longest signed most)
+      (ap (λ r. partRead r (listWords text cursor (nameText (part .0)) longest signed most)) (rw room at e) ∙ b)
+      (rw (← n) at (rw room at w))
 
 -- past a place still by a part
 then-part : {text : List ℕ} {place : ℕ} {cursor : Cursor} → Past text place cursor → (part : Part) →

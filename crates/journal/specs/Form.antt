@@ -78,7 +78,7 @@ pub record PartRead : Type 0 where
   pub held : Held
   pub next : Cursor
 
-abbrev partRead : NumberRead → List ℕ → PartRead
+abbrev pub partRead : NumberRead → List ℕ → PartRead
 partRead read words = record { held = heldOf (read .value) words; next = read .next }
 
 abbrev pub partBy : Kind → List ℕ → List ℕ → Cursor → PartRead
