@@ -3,11 +3,11 @@
 use mathlib.Core.Path.{_≡_, refl}
 use mathlib.Core.Bool.{Bool, true, false, cond, true≢false}
 use mathlib.Core.List.{List}
-use Prim.Native.Nat.{ℕ, _≤_, _<_}
+use Prim.Native.Nat.{ℕ, _≤_}
 use native.Mathlib.Omega.{arith}
 use lib.Dec.{leb}
 use lib.ListN.{length}
-use borrow.Author.Tests.{le-leb, lt-leb, leb-true}
+use borrow.Author.Tests.{le-leb, leb-true}
 use Rattle.journal.specs.Token.{tokenAfter}
 use Rattle.journal.specs.Word.{isWord}
 use Rattle.journal.specs.Number.{readingIn}
@@ -22,19 +22,10 @@ use Rattle.journal.proofs.TokenLaws.{token-ordered, token-within, token
 abbrev pub numberRead : ℕ → Cursor → NumberRead
 numberRead value next = record { value = value; next = next }
 
--- a reading is a number that is small enough, one that is too large, or none
-module _ (reading : Reading) (most : ℕ) (token : Token) (next : Cursor) where
-  pub number-small : (value : ℕ) → reading ≡ Number value → value ≤ most → next ≡ readTo (token .end) →
-      numberRead value next ≡ numberFrom reading most token
-  number-small value e p q = rw (e, le-leb value most p, q) refl
-
-  pub number-large : (value : ℕ) → reading ≡ Number value → most < value → next ≡ brokenAt (token .start) →
-      numberRead 0 next ≡ numberFrom reading most token
-  number-large value e p q = rw (e, lt-leb value most p, q) refl
-
-  pub number-none : reading ≡ Unreadable → next ≡ brokenAt (token .start) →
-      numberRead 0 next ≡ numberFrom reading most token
-  number-none e q = rw (e, q) refl
+-- a reading of a number that is small enough
+pub number-small : (reading : Reading) (most : ℕ) (token : Token) (value : ℕ) → reading ≡ Number value →
+    value ≤ most → numberRead value (readTo (token .end)) ≡ numberFrom reading most token
+number-small reading most token value e p = rw (e, le-leb value most p) refl
 
 -- nothing is read after what is broken
 module _ (text : List ℕ) (cursor : Cursor) (h : cursor .broken ≡ true) where

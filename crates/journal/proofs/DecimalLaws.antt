@@ -10,14 +10,12 @@ use lib.Dec.{ltb}
 use lib.ListN.{length, drop, length-append, List·getD-append}
 use lib.Seq.{getD-append-seam}
 use borrow.Author.Tests.{le-leb, lt-ltb, le-ltb, eq-eqb, ne-eqb}
-use Rattle.numbers.specs.Bounded.{allBelow}
 use Rattle.numbers.proofs.BoolLaws.{by-last}
-use Rattle.numbers.proofs.TestLaws.{all-of}
 use Rattle.text.specs.Text.{digit, minus, decimalWithin, decimal, signedDecimal}
 use Rattle.journal.specs.Token.{byteAt, endsToken}
-use Rattle.journal.specs.Number.{isDigit, digitsValue, numberIn, isMinus, signedIn, readingIn}
+use Rattle.journal.specs.Number.{isDigit, digitTaken, digitsRead, numberIn, isMinus, signedIn, readingIn}
 use Rattle.journal.specs.declared.number.Reading.the-variants.{Number}
-use Rattle.journal.proofs.NumberLaws.{digit-least, digitAt, all-readable}
+use Rattle.journal.proofs.NumberLaws.{digit-least}
 use Rattle.journal.proofs.SignedLaws.{above-small, below-small, signed-minus, signed-plain}
 use Rattle.journal.proofs.TextLaws.{byte-first, byte-of, one-after, Plain}
 
@@ -25,66 +23,71 @@ use Rattle.journal.proofs.TextLaws.{byte-first, byte-of, one-after, Pla
 pub record Digits (token : List ℕ) (x : ℕ) : Type 0 where
   pub some : 0 < length token
   pub each : (i : ℕ) → i < length token → isDigit (byteAt token i) ≡ true
-  pub value : digitsValue (length token) token 0 ≡ x
+  pub read : digitsRead (length token) token 0 ≡ Number x
 
--- digits have their value wherever they stand
-value-same : (text : List ℕ) (start : ℕ) (token tail : List ℕ) → drop start text ≡ token ++ tail → (k : ℕ) →
-    k ≤ length token → digitsValue k text start ≡ digitsValue k token 0
-unfolding digitsValue
-value-same text start token tail h zero p = refl
-value-same text start token tail h (suc k) p =
-    ap₂ (λ (v b : ℕ). v * 10 + (b - 48))
-    (value-same text start token tail h k (omega arith))
+-- digits are read alike wherever they stand
+read-same : (text : List ℕ) (start : ℕ) (token tail : List ℕ) → drop start text ≡ token ++ tail → (k : ℕ) →
+    k ≤ length token → digitsRead k text start ≡ digitsRead k token 0
+unfolding digitsRead
+read-same text start token tail h zero p = refl
+read-same text start token tail h (suc k) p =
+    ap₂ digitTaken (read-same text start token tail h k (omega arith))
     (byte-of text start token tail h k p ∙ ap (λ (i : ℕ). byteAt token i) (sym (zero-add k)))
 
 digit-is : (d : ℕ) → d < 10 → isDigit (digit d) ≡ true
 digit-is d p = rw (le-leb 48 (48 + d) (omega arith), le-leb (48 + d) 57 (omega arith))
 
+digit-taken : (y d : ℕ) → d < 10 → y * 10 + d < 2 ^ 64 → digitTaken (Number y) (digit d) ≡ Number (y * 10 + d)
+digit-taken y d p q =
+    let value : 48 + d - 48 ≡ d = omega arith in
+    rw (digit-is d p, value, lt-ltb (y * 10 + d) (2 ^ 64) q) refl
+
 one-digit : (d : ℕ) → d < 10 → Digits (digit d ∷ []) d
-unfolding digitsValue
-one-digit d p = record { some = omega arith; each = each; value = omega arith }
+unfolding digitsRead
+one-digit d p = record { some = omega arith; each = each; read = digit-taken 0 d p (omega arith) ∙ ap Number (omega arith) }
   where
     each : (i : ℕ) → i < 1 → isDigit (byteAt (digit d ∷ []) i) ≡ true
     each zero q = digit-is d p
     each (suc i) q = absurd (omega arith)
 
-more-digits : (a : List ℕ) (y d : ℕ) → Digits a y → d < 10 → Digits (a ++ digit d ∷ []) (y * 10 + d)
-unfolding digitsValue
-more-digits a y d t p =
+more-digits : (a : List ℕ) (y d : ℕ) → Digits a y → d < 10 → y * 10 + d < 2 ^ 64 →
+    Digits (a ++ digit d ∷ []) (y * 10 + d)
+unfolding digitsRead
+more-digits a y d t p q =
     let more : List ℕ = a ++ digit d ∷ [] in
     let size : length more ≡ suc (length a) = length-append a (digit d ∷ []) ∙ omega arith in
     let last : byteAt more (0 + length a) ≡ digit d = ap (λ (i : ℕ). byteAt more i) (zero-add (length a))
     ∙ getD-append-seam a (digit d) [] 0 in
     record {
       some = omega (arith, size);
-      each = λ i q. by-last (length a) (λ (j : ℕ). isDigit (byteAt more j) ≡ true)
-          (λ j r. ap isDigit (List·getD-append a (digit d ∷ []) 0 j r) ∙ t .each j r)
+      each = λ i r. by-last (length a) (λ (j : ℕ). isDigit (byteAt more j) ≡ true)
+          (λ j s. ap isDigit (List·getD-append a (digit d ∷ []) 0 j s) ∙ t .each j s)
           (ap isDigit (getD-append-seam a (digit d) [] 0) ∙ digit-is d p)
           i (omega (arith, size));
-      value =
-          ap (λ (n : ℕ). digitsValue n more 0) size
-          ∙ ap₂ (λ (v b : ℕ). v * 10 + (b - 48))
-          (value-same more 0 a (digit d ∷ []) refl (length a) (omega arith) ∙ t .value) last
-          ∙ omega arith;
+      read =
+          ap (λ (n : ℕ). digitsRead n more 0) size
+          ∙ ap₂ digitTaken (read-same more 0 a (digit d ∷ []) refl (length a) (omega arith) ∙ t .read) last
+          ∙ digit-taken y d p q;
     }
 
-within-digits : (k x : ℕ) → x < 10 ^ suc k → Digits (decimalWithin (suc k) x) x
+within-digits : (k x : ℕ) → x < 10 ^ suc k → x < 2 ^ 64 → Digits (decimalWithin (suc k) x) x
 unfolding decimalWithin
-within-digits zero x p =
+within-digits zero x p q =
     let few : x < 10 = omega (arith, p) in
     rw (lt-ltb x 10 few) (one-digit x few)
-within-digits (suc k) x p = go (within-digits k (x / 10) (omega (arith, p, pow-suc 10 (suc k)))) (decLt x 10)
+within-digits (suc k) x p q =
+    go (within-digits k (x / 10) (omega (arith, p, pow-suc 10 (suc k))) (omega arith)) (decLt x 10)
   where
     go : Digits (decimalWithin (suc k) (x / 10)) (x / 10) → Dec (x < 10) → Digits (decimalWithin (suc (suc k)) x) x
     go rest (yes few) = rw (lt-ltb x 10 few) (one-digit x few)
     go rest (no many) =
         let whole : x / 10 * 10 + x % 10 ≡ x = omega arith in
         rw (le-ltb x 10 (omega arith))
-        (rw whole at (more-digits (decimalWithin (suc k) (x / 10)) (x / 10) (x % 10) rest (omega arith)))
+        (rw whole at (more-digits (decimalWithin (suc k) (x / 10)) (x / 10) (x % 10) rest (omega arith) (omega arith)))
 
 pub decimal-digits : (x : ℕ) → x < 2 ^ 64 → Digits (decimal x) x
 unfolding decimal
-decimal-digits x p = within-digits 19 x (omega (arith, p))
+decimal-digits x p = within-digits 19 x (omega (arith, p)) p
 
 -- a digit ends no token
 digit-plain : (byte : ℕ) → isDigit byte ≡ true → endsToken byte ≡ false
@@ -105,15 +108,12 @@ digits-plain token x t = record { some = t .some; plain = λ i p. digit-plain (b
 -- digits that stand in a text are read as their number
 module _ (text : List ℕ) (start end : ℕ) (token tail : List ℕ) (h : drop start text ≡ token ++ tail)
     (e : end ≡ start + length token) (x : ℕ) (t : Digits token x) where
-  pub number-in : x < 2 ^ 64 → numberIn text start end ≡ Number x
+  pub number-in : numberIn text start end ≡ Number x
   unfolding numberIn
-  number-in p =
+  number-in =
       let size : end - start ≡ length token = omega arith in
-      let value : digitsValue (length token) text start ≡ x = value-same text start token tail h (length token)
-      (omega arith) ∙ t .value in
-      let digits : allBelow (length token) (digitAt text start) ≡ true = all-of (length token) (digitAt text start)
-      (λ i q. ap isDigit (byte-of text start token tail h i q) ∙ t .each i q) in
-      rw (size, all-readable text start (length token) (t .some) digits (omega (arith, value)), value)
+      rw (lt-ltb start end (omega (arith, t .some)), size)
+      (read-same text start token tail h (length token) (omega arith) ∙ t .read)
 
   not-minus : isMinus text start end ≡ false
   unfolding isMinus
@@ -124,7 +124,7 @@ module _ (text : List ℕ) (start end : ℕ) (token tail : List ℕ) (h : drop s
       rw (ne-eqb (byteAt text start) 45 (λ q. omega (arith, first)), and-false (ltb start end))
 
   above-in : x < 2 ^ 63 → signedIn text start end ≡ Number x
-  above-in p = sym (signed-plain text start end not-minus) ∙ sym (above-small _ x (number-in (omega arith)) p)
+  above-in p = sym (signed-plain text start end not-minus) ∙ sym (above-small _ x number-in p)
 
 -- and with a minus in front as the word of the number below zero
 module _ (text : List ℕ) (start end : ℕ) (token tail : List ℕ) (h : drop start text ≡ minus ∷ (token ++ tail))
@@ -142,8 +142,8 @@ module _ (text : List ℕ) (start end : ℕ) (token tail : List ℕ) (h : drop s
   below-in p q =
       sym (signed-minus text start end is-minus)
       ∙ sym (below-small _ size
-      (number-in text (start + 1) end token tail (one-after text start minus (token ++ tail) h) (omega arith) size t
-      (omega arith)) p q)
+      (number-in text (start + 1) end token tail (one-after text start minus (token ++ tail) h) (omega arith) size t)
+      p q)
 
 minus-plain : (token : List ℕ) → Plain token → Plain (minus ∷ token)
 minus-plain token t = record { some = omega arith; plain = byte }
@@ -173,7 +173,7 @@ module _ (x : ℕ) (p : x < 2 ^ 64) where
       drop start text ≡ cond signed (signedDecimal x) (decimal x) ++ tail →
       end ≡ start + length (cond signed (signedDecimal x) (decimal x)) → readingIn signed text start end ≡ Number x
   unfolding readingIn signedDecimal
-  text-in text start end false tail h e = number-in text start end (decimal x) tail h e x (decimal-digits x p) p
+  text-in text start end false tail h e = number-in text start end (decimal x) tail h e x (decimal-digits x p)
   text-in text start end true tail h e = go (decLt x (2 ^ 63)) h e
     where
       go : Dec (x < 2 ^ 63) →

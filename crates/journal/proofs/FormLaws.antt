@@ -14,8 +14,8 @@ use Rattle.numbers.proofs.SumLaws.{sum-step, sum-mono}
 use Rattle.numbers.proofs.ListLaws.{list-at, list-same, filled-none, filled-next, filled-at}
 use Rattle.numbers.specs.Bounded.{sumBelow, filledBelow}
 use Rattle.text.specs.Text.{nameText}
-use Rattle.journal.specs.Cursor.{numberAfter, mostWord}
-use Rattle.journal.specs.List.{countAfter, listAfter, listWords}
+use Rattle.journal.specs.Cursor.{mostWord}
+use Rattle.journal.specs.List.{listAfter, listWords}
 use Rattle.journal.specs.Form.{partCount, partAt, heldOf, heldIn, boundBy, boundOf, countBy, countOf, roomOf}
 use Rattle.journal.specs.Form.{placeOf, partRead, partBy, partAfter, formAfter, heldAt, formParts, numberOf, startOf}
 use Rattle.journal.specs.Form.{endOf, wordsIn, partsIn, FormHeld, PartFollows, FormFollows}
@@ -25,7 +25,7 @@ use Rattle.journal.specs.declared.form.Kind.{Kind}
 use Rattle.journal.specs.declared.form.Kind.the-variants.{Nothing, Number, List as Words, Signed, Length}
 use Rattle.journal.specs.declared.form.Part.{Part}
 use Rattle.journal.specs.declared.form.Parts.{Parts}
-use Rattle.journal.proofs.CursorLaws.{numberRead, Past, then-number, number-most}
+use Rattle.journal.proofs.CursorLaws.{Past, then-number, number-most}
 use Rattle.journal.proofs.ListLaws.{count-most, list-most, words-length, then-count, then-list}
 
 -- a part by its kind, as the code reads it

@@ -12,7 +12,7 @@ use Rattle.numbers.proofs.ListLaws.{list-length, list-at, list-same}
 use Rattle.text.specs.Text.{blank, lineEnd, decimal, signedDecimal, word, wordBy, wordsBy, textBelow}
 use Rattle.journal.specs.Token.{tokenAfter}
 use Rattle.journal.specs.Number.{readingIn}
-use Rattle.journal.specs.Cursor.{readTo, mostWord, wordAfter, numberAfter}
+use Rattle.journal.specs.Cursor.{mostWord, wordAfter, numberAfter}
 use Rattle.journal.specs.List.{cursorAfter, numberAt, countAfter, listAfter, listWords}
 use Rattle.journal.specs.declared.token.Token.{Token}
 use Rattle.journal.specs.declared.cursor.Cursor.{Cursor}
@@ -64,8 +64,7 @@ module _ (text : List ℕ) (cursor : Cursor) where
       let reading = text-in x (omega arith) text (found .start) (found .end) signed tail (t .start) (t .end) in
       rw (
         ← number-after-token text cursor (s .whole) found refl signed most,
-        ← number-small (readingIn signed text (found .start) (found .end)) most found (readTo (found .end)) x reading p
-            refl,
+        ← number-small (readingIn signed text (found .start) (found .end)) most found x reading p,
       )
       (record { value = refl; next = record { whole = refl; after = token-after t } })
 

@@ -5,7 +5,6 @@ use Prim.Native.Nat.{ℕ, zero, suc, _+_, _*_, _-_, _^_}
 use lib.Dec.{leb, ltb, eqb}
 use lib.IntN.{subℕ}
 use Rattle.numbers.specs.Signed.{wordOf}
-use Rattle.numbers.specs.Bounded.{allBelow}
 use Rattle.journal.specs.Token.{byteAt}
 use Rattle.journal.specs.declared.number.Reading.{Reading}
 use Rattle.journal.specs.declared.number.Reading.the-variants.{Number, Unreadable}
@@ -13,21 +12,20 @@ use Rattle.journal.specs.declared.number.Reading.the-variants.{Number, U
 abbrev pub isDigit : ℕ → Bool
 isDigit byte = leb 48 byte && leb byte 57
 
--- the value of so many digits from a place on
-unfoldable pub digitsValue : ℕ → List ℕ → ℕ → ℕ
-digitsValue zero text start = 0
-digitsValue (suc k) text start = digitsValue k text start * 10 + (byteAt text (start + k) - 48)
+-- "A number is decimal digits": a number with one more digit, where it is one and the number fits 64 bits
+abbrev pub digitTaken : Reading → ℕ → Reading
+digitTaken (Number value) byte =
+    cond (isDigit byte && ltb (value * 10 + (byte - 48)) (2 ^ 64)) (Number (value * 10 + (byte - 48))) Unreadable
+digitTaken Unreadable byte = Unreadable
 
--- "A number is decimal digits", and fits 64 bits
-unfoldable pub readable : ℕ → List ℕ → ℕ → Bool
-readable count text start =
-    ltb 0 count && (allBelow count (λ k. isDigit (byteAt text (start + k))) && ltb (digitsValue count text start)
-    (2 ^ 64))
+-- so many digits from a place on
+unfoldable pub digitsRead : ℕ → List ℕ → ℕ → Reading
+digitsRead zero text start = Number 0
+digitsRead (suc k) text start = digitTaken (digitsRead k text start) (byteAt text (start + k))
 
--- the reading of the bytes from start to before end
+-- the reading of the bytes from start to before end, which are some
 unfoldable pub numberIn : List ℕ → ℕ → ℕ → Reading
-numberIn text start end =
-    cond (readable (end - start) text start) (Number (digitsValue (end - start) text start)) Unreadable
+numberIn text start end = cond (ltb start end) (digitsRead (end - start) text start) Unreadable
 
 -- "with `-` in front where it is signed"
 unfoldable pub isMinus : List ℕ → ℕ → ℕ → Bool

@@ -53,20 +53,14 @@ pub(crate) fn next_name(text: &[u8], cursor: Cursor, name: [u8; NAME]) -> Cursor
 fn number_from(reading: Reading, most: u64, token: Token) -> NumberRead
     ensures { λ r. ⌜ r ≡ numberFrom reading most token ⌝ }
 {
-    match reading {
-        Reading::Number(value) => {
-            if value <= most {
-                let next = read_to(token.end);
-                return NumberRead { value, next };
-            }
-            let next = broken_at(token.start);
-            NumberRead { value: 0, next }
-        }
-        Reading::Unreadable => {
-            let next = broken_at(token.start);
-            NumberRead { value: 0, next }
+    if let Reading::Number(value) = reading {
+        if value <= most {
+            let next = read_to(token.end);
+            return NumberRead { value, next };
         }
     }
+    let next = broken_at(token.start);
+    NumberRead { value: 0, next }
 }
 
 // Reads a number of at most `most`, signed or not.

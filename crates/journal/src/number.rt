@@ -3,7 +3,8 @@ ghost use mathlib.Core.Path.{_≡_};
 ghost use Prim.Native.Nat.{_+_, _*_, _^_, _≤_};
 ghost use lib.Dec.{ltb};
 ghost use lib.ListN.{length};
-ghost use Rattle.journal.specs.Number.{isDigit, numberIn, isMinus, aboveZero, belowZero, signedIn, readingIn};
+ghost use Rattle.journal.specs.Number.{isDigit, digitTaken, numberIn, isMinus, aboveZero, belowZero, signedIn};
+ghost use Rattle.journal.specs.Number.{readingIn};
 
 // A token's reading: a number, of either sign as the word of 64 bits that holds it.
 pub enum Reading {
@@ -26,6 +27,21 @@ fn fits_with(value: u64, digit: u64) -> bool
     value < 1844674407370955161 || (value == 1844674407370955161 && digit <= 5)
 }
 
+// A number with one more digit.
+fn take_digit(reading: Reading, byte: u8) -> Reading
+    ensures { λ r. ⌜ r ≡ digitTaken reading byte ⌝ }
+{
+    if let Reading::Number(value) = reading {
+        if is_digit(byte) {
+            let digit = byte as u64 - 48;
+            if fits_with(value, digit) {
+                return Reading::Number(value * 10 + digit);
+            }
+        }
+    }
+    Reading::Unreadable
+}
+
 // The number in the bytes from start to before end.
 fn read_number(text: &[u8], start: usize, end: usize) -> Reading
     requires { ⌜ start ≤ end ⌝ ∗ ⌜ end ≤ length (now text) ⌝ }
@@ -35,21 +51,13 @@ fn read_number(text: &[u8], start: usize, end: usize) -> Reading
     if count == 0 {
         return Reading::Unreadable;
     }
-    let mut value: u64 = 0;
-    let mut j: usize = 0;
-    while j < count {
-        let byte = text[start + j];
-        if !is_digit(byte) {
-            return Reading::Unreadable;
-        }
-        let digit = byte as u64 - 48;
-        if !fits_with(value, digit) {
-            return Reading::Unreadable;
-        }
-        value = value * 10 + digit;
-        j += 1;
+    let mut reading = Reading::Number(0);
+    let mut k: usize = 0;
+    while k < count {
+        reading = take_digit(reading, text[start + k]);
+        k += 1;
     }
-    Reading::Number(value)
+    reading
 }
 
 // Whether a token begins with a minus sign.
