@@ -1,6 +1,6 @@
 -- A ledger of the machine has numbers that fit, and lists of their lengths.
-use mathlib.Core.Path.{_≡_, subst}
-use mathlib.Core.List.{List, [], _∷_, map, map-id}
+use mathlib.Core.Path.{_≡_}
+use mathlib.Core.List.{List, [], _∷_, map}
 use Prim.Native.Nat.{ℕ, zero, suc, _<_}
 use native.Mathlib.Omega.{arith}
 use lib.IntN.{ℤ, pos}
@@ -9,7 +9,6 @@ use mir.Syntax.{w64}
 use mir.Val.{SFits, Val}
 use Rattle.numbers.specs.Sizes.{mostDistributors, sectorPlaces}
 use Rattle.numbers.specs.Units.{noMoney}
-use Rattle.numbers.specs.declared.units.Pesos.{Pesos}
 use Rattle.numbers.proofs.units.Pesos as amount
 use Rattle.settlement.specs.Month.{moneyAt}
 use Rattle.ledger.specs.Sound.{chargeIn}
@@ -23,27 +22,21 @@ use borrow.Author.Needs.{needs}
 use Rattle.commands.proofs.kept.kept_text_loads.Statement.{statement}
 use Rattle.commands.proofs.kept.kept_text_loads.Tie as tie
 
--- an element of an array of signed words fits
-signed-fits : (xs : List ℤ) (us : List Val) → shadow (each ℤ (SInt w64 .own) xs us) → (i : ℕ) → i < length xs →
-    SFits w64 (getD xs i (pos 0))
-signed-fits [] us s i p = absurd (omega arith)
-signed-fits (x ∷ xs) [] s i p = absurd s
-signed-fits (x ∷ xs) (u ∷ us) s zero p = record { sfits = s .0 .1 }
-signed-fits (x ∷ xs) (u ∷ us) s (suc i) p = signed-fits xs us (s .1) i (omega arith)
+-- an element of an array of which each tells that its amount fits
+element-fits : {A : Type 0} (amount : A → ℤ) (empty : A) (D : Type 0) (f : D → List Val → Fml) (g : A → D)
+    (xs : List A) (us : List Val) → shadow (each D f (map g xs) us) →
+    ((x : A) (vs : List Val) → shadow (f (g x) vs) → SFits w64 (amount x)) → (i : ℕ) → i < length xs →
+    SFits w64 (amount (getD xs i empty))
+element-fits amount empty D f g [] us s tells i p = absurd (omega arith)
+element-fits amount empty D f g (x ∷ xs) [] s tells i p = absurd s
+element-fits amount empty D f g (x ∷ xs) (u ∷ us) s tells zero p = tells x (u ∷ []) (s .0)
+element-fits amount empty D f g (x ∷ xs) (u ∷ us) s tells (suc i) p =
+    element-fits amount empty D f g xs us (s .1) tells i (omega arith)
 
-signed-field-fits : (xs : List ℤ) (us : List Val) → shadow (each ℤ (SInt w64 .own) (map (λ (v : ℤ). v) xs) us) →
+signed-fits : (xs : List ℤ) (us : List Val) → shadow (each ℤ (SInt w64 .own) (map (λ (v : ℤ). v) xs) us) →
     (i : ℕ) → i < length xs → SFits w64 (getD xs i (pos 0))
-signed-field-fits xs us s i p =
-    signed-fits xs us (subst (λ (ys : List ℤ). shadow (each ℤ (SInt w64 .own) ys us)) (map-id xs) s) i p
-
--- the same of an array of amounts, of which each tells that it fits
-pesos-fits : (D : Type 0) (f : D → List Val → Fml) (g : Pesos → D) (xs : List Pesos) (us : List Val) →
-    shadow (each D f (map g xs) us) → ((x : Pesos) (vs : List Val) → shadow (f (g x) vs) → SFits w64 (x .0)) → (i : ℕ) →
-    i < length xs → SFits w64 (getD xs i noMoney .0)
-pesos-fits D f g [] us s tells i p = absurd (omega arith)
-pesos-fits D f g (x ∷ xs) [] s tells i p = absurd s
-pesos-fits D f g (x ∷ xs) (u ∷ us) s tells zero p = tells x (u ∷ []) (s .0)
-pesos-fits D f g (x ∷ xs) (u ∷ us) s tells (suc i) p = pesos-fits D f g xs us (s .1) tells i (omega arith)
+signed-fits xs us s i p =
+    element-fits (λ v. v) (pos 0) ℤ (SInt w64 .own) (λ v. v) xs us s (λ x vs t. record { sfits = t .1 }) i p
 
 module _ (c : tie.Start) where
   all-balances : length (c .args .ledger .balances) ≡ mostDistributors
@@ -53,11 +46,11 @@ module _ (c : tie.Start) where
   all-charges = search needs
 
   charge-fits : (k : ℕ) → k < sectorPlaces → SFits w64 (chargeIn (c .args .ledger .force) k)
-  charge-fits k p = search (needs, signed-field-fits, all-charges)
+  charge-fits k p = search (needs, signed-fits, all-charges)
 
   balance-fits : (i : ℕ) → i < mostDistributors → SFits w64 (moneyAt (c .args .ledger .balances) i)
   balance-fits i p =
-      pesos-fits (amount.the-field .row .Denot) (amount.the-field .row .own) _ (c .args .ledger .balances) _
+      element-fits (λ x. x .0) noMoney (amount.the-field .row .Denot) (amount.the-field .row .own) _ (c .args .ledger .balances) _
       (c .good .0 .1 .1 .1 .1 .1 .1 .1 .1 .0 .1 .1) (λ x vs s. record { sfits = s .1 .1 .0 .1 }) i
       (omega (arith, all-balances))
 
