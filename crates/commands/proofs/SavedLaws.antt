@@ -82,8 +82,8 @@ load-command : (tail : List ℕ) → Ends tail →
     commandRead Load (readTo (length loadName)) ≡ commandAfter (loadName ++ tail) 0
 load-command tail e =
     sym (load-among tail)
-    ∙ command-some (loadName ++ tail) 0 _ (token-same (loadName ++ tail) 0 loadName tail load-plain e refl (omega arith))
-    (λ q. omega (arith, q))
+    ∙ command-some (loadName ++ tail) 0 _
+    (token-same (loadName ++ tail) 0 loadName tail load-plain e refl (omega arith)) (λ q. omega (arith, q))
 
 -- only a line end is left: no command follows, and none is read
 end-command : (text : List ℕ) (at : ℕ) → drop at text ≡ lineEnd ∷ [] →

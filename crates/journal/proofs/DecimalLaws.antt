@@ -44,7 +44,8 @@ digit-taken y d p q =
 
 one-digit : (d : ℕ) → d < 10 → Digits (digit d ∷ []) d
 unfolding digitsRead
-one-digit d p = record { some = omega arith; each = each; read = digit-taken 0 d p (omega arith) ∙ ap Number (omega arith) }
+one-digit d p =
+    record { some = omega arith; each = each; read = digit-taken 0 d p (omega arith) ∙ ap Number (omega arith) }
   where
     each : (i : ℕ) → i < 1 → isDigit (byteAt (digit d ∷ []) i) ≡ true
     each zero q = digit-is d p

@@ -17,8 +17,8 @@ use Rattle.text.specs.Text.{nameText}
 use Rattle.journal.specs.Cursor.{mostWord}
 use Rattle.journal.specs.List.{listAfter, listWords}
 use Rattle.journal.specs.Form.{partCount, partAt, heldOf, heldIn, boundBy, boundOf, countBy, countOf, roomOf}
-use Rattle.journal.specs.Form.{placeOf, partRead, partBy, partAfter, formAfter, heldAt, formParts, numberOf, startOf}
-use Rattle.journal.specs.Form.{endOf, wordsIn, partsIn, FormHeld, PartFollows, FormFollows}
+use Rattle.journal.specs.Form.{placeOf, partRead, partBy, partAfter, formAfter, heldAt, formParts, numberOf}
+use Rattle.journal.specs.Form.{startOf, endOf, wordsIn, partsIn, FormHeld, PartFollows, FormFollows}
 use Rattle.journal.specs.declared.cursor.Cursor.{Cursor}
 use Rattle.journal.specs.declared.cursor.NumberRead.{NumberRead}
 use Rattle.journal.specs.declared.form.Kind.{Kind}

@@ -154,8 +154,11 @@ module _ (ledger : Ledger) where
   charge-word j p =
       let place : sectorPlaces + j - sectorPlaces ≡ j = omega arith in
       list-at (ledgerWord ledger) keptWords 0 (sectorPlaces + j) (omega arith)
-      ∙ rw (le-ltb (sectorPlaces + j) sectorPlaces (omega arith), lt-ltb (sectorPlaces + j) balancesFrom (omega arith), place)
-      refl
+      ∙ rw (
+        le-ltb (sectorPlaces + j) sectorPlaces (omega arith),
+        lt-ltb (sectorPlaces + j) balancesFrom (omega arith),
+        place,
+      ) refl
 
   balance-word : (i : ℕ) → i < mostDistributors →
       getD words (balancesFrom + i) 0 ≡ wordOf (moneyAt (ledger .balances) i)
@@ -163,8 +166,11 @@ module _ (ledger : Ledger) where
   balance-word i p =
       let place : balancesFrom + i - balancesFrom ≡ i = omega arith in
       list-at (ledgerWord ledger) keptWords 0 (balancesFrom + i) (omega arith)
-      ∙ rw (le-ltb (balancesFrom + i) sectorPlaces (omega arith), le-ltb (balancesFrom + i) balancesFrom (omega arith), place)
-      refl
+      ∙ rw (
+        le-ltb (balancesFrom + i) sectorPlaces (omega arith),
+        le-ltb (balancesFrom + i) balancesFrom (omega arith),
+        place,
+      ) refl
 
   present-zero : (j : ℕ) → places ≤ j → j < sectorPlaces → getD words (0 + j) 0 ≡ 0
   unfolding wordOwner

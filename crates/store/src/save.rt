@@ -3,8 +3,8 @@
 ghost use mathlib.Core.Path.{_≡_};
 ghost use Prim.Native.Nat.{_<_};
 ghost use lib.ListN.{length};
-ghost use Rattle.store.specs.Store.{truthWord, keptWords, ledgerWord, ledgerWords, wordOwner, zeroPast, keptAmong};
-ghost use Rattle.store.specs.Store.{Saved};
+ghost use Rattle.store.specs.Store.{truthWord, keptWords, ledgerWord, ledgerWords, wordOwner, zeroPast};
+ghost use Rattle.store.specs.Store.{keptAmong, Saved};
 use journal::form::Parts;
 use ledger::ledger::Ledger;
 use numbers::signed::word_of;

@@ -50,7 +50,8 @@ module _ (c : tie.Start) where
 
   balance-fits : (i : ℕ) → i < mostDistributors → SFits w64 (moneyAt (c .args .ledger .balances) i)
   balance-fits i p =
-      element-fits (λ x. x .0) noMoney (amount.the-field .row .Denot) (amount.the-field .row .own) _ (c .args .ledger .balances) _
+      element-fits (λ x. x .0) noMoney (amount.the-field .row .Denot) (amount.the-field .row .own) _
+      (c .args .ledger .balances) _
       (c .good .0 .1 .1 .1 .1 .1 .1 .1 .1 .0 .1 .1) (λ x vs s. record { sfits = s .1 .1 .0 .1 }) i
       (omega (arith, all-balances))
 

@@ -44,11 +44,13 @@ make-command-spec =
     (λ c. search needs) (λ c κs. search needs) (λ c. search needs)
     (λ c κs. held (c .before .before .before .before .before .before) Load (c .before .enum-told5 .given .1))
     (λ c. search needs) (λ c. search needs)
-    (λ c κs. few (c .before .before .before .before .before .before) Fix (c .before .enum-told6 .given .1) 7 (omega arith) refl)
+    (λ c κs. few (c .before .before .before .before .before .before) Fix (c .before .enum-told6 .given .1) 7
+    (omega arith) refl)
     (λ c κs. let t = c .before .before .before in
     (held (t .before .before .before .before .before) Fix (t .enum-told6 .given .1), c .before .lent .ensures))
     (λ c. search needs) (λ c. search needs)
-    (λ c κs. few (c .before .before .before .before .before .before) Settle (c .before .enum-told7 .given .1) 3 (omega arith) refl)
+    (λ c κs. few (c .before .before .before .before .before .before) Settle (c .before .enum-told7 .given .1) 3
+    (omega arith) refl)
     (λ c κs. let t = c .before .before .before in
     (held (t .before .before .before .before .before) Settle (t .enum-told7 .given .1), c .before .lent2 .ensures))
     returns

@@ -20,7 +20,8 @@ stands d =
     let l = d .before in
     let e = l .before .before in
     rw (d .write-line .ensures, l .error-line .ensures)
-    (text-stands _ (e .buffer .result) 0 (omega (arith, line-size (errorLine (e .before .args .next .at)), e .buffer .ensures)))
+    (text-stands _ (e .buffer .result) 0
+    (omega (arith, line-size (errorLine (e .before .args .next .at)), e .buffer .ensures)))
 
 array-share-prefix-buffer : tie.Need-array-share-prefix-buffer
 array-share-prefix-buffer c = stands (c .before) .within

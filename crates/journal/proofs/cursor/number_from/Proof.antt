@@ -8,7 +8,8 @@ use Rattle.journal.proofs.cursor.number_from.Statement.{statement}
 use Rattle.journal.proofs.cursor.number_from.Tie as tie
 
 returns : tie.Need-returns
-returns c = rw (c .before .before .before .reading .given .1, le-leb _ _ (c .before .if1 .taken), c .read-to .ensures) refl
+returns c =
+    rw (c .before .before .before .reading .given .1, le-leb _ _ (c .before .if1 .taken), c .read-to .ensures) refl
 
 returns-2 : tie.Need-returns-2
 returns-2 c =
