@@ -14,7 +14,7 @@ pub fn write_byte(buffer: &mut [u8], count: usize, byte: u8) -> usize
 }
 
 // Writes a text.
-pub fn write_text(buffer: &mut [u8], count: usize, text: &[u8]) -> usize
+pub(crate) fn write_text(buffer: &mut [u8], count: usize, text: &[u8]) -> usize
     ensures { λ r. ⌜ bufferOf (now (buffer .exit)) r ≡ written (now (text .entry))
         (bufferOf (now (buffer .entry)) count) ⌝ }
 {
