@@ -1,5 +1,6 @@
 #!/usr/bin/env python3
-"""An independent model of document 01, written from its text with unbounded integers: opening, fixing, settlement.
+"""An independent model of document 01, as document 02 changes it, written from their text with unbounded integers:
+opening, fixing, interim fixing, settlement.
 
     tools/recompute.py < JOURNAL
 
@@ -105,9 +106,9 @@ def value_at(series, first, row, month):
     return v if v else None
 
 
-def line_price(line, t, dollar, factor, first, series):
-    """The reference of a line, or None where the factor or a price is out of bounds."""
-    d, base, offer, purchase_factor, energy, count = line[:6]
+def new_indexed(line, t, first, series):
+    """The new indexed price of a line, or None where the factor or the price is out of bounds."""
+    base, count = line[1], line[5]
     f = 1_000_000
     if count:
         total = 0
@@ -119,11 +120,22 @@ def line_price(line, t, dollar, factor, first, series):
     if f > 100_000_000:
         return None
     indexed = half_up(base * f, 1_000_000)
-    purchase = half_up(indexed * purchase_factor, offer)
+    return indexed if 1 <= indexed <= 1_000_000 else None
+
+
+def has_moved(old, new):
+    """W-201: "ten times the difference is more than the price in force"."""
+    return 10 * abs(new - old) > old
+
+
+def line_price(line, dollar, factor, taken):
+    """The reference of a line from the price taken, or None where a price is out of bounds."""
+    offer, purchase_factor = line[2:4]
+    purchase = half_up(taken * purchase_factor, offer)
+    if not 1 <= purchase <= 1_000_000:
+        return None
     peso = half_up(purchase * dollar, 100_000)
     reference = half_up(peso * factor, purchase_factor)
-    if not 1 <= indexed <= 1_000_000 or not 1 <= purchase <= 1_000_000:
-        return None
     return reference if 1000 <= reference <= 2_000_000 else None
 
 
@@ -148,8 +160,8 @@ def limit_and_rounds(p, e):
     return limit, r, rounds, residue, final
 
 
-def fix(book, month, dollar, factor, first, series, lines, sectors, out):
-    """(number, values, ledger, list)"""
+def fix(book, month, dollar, factor, first, series, lines, sectors, in_force, out):
+    """(number, values, ledger, list); in_force is None in a regular fixing."""
     keep = (book, out)
     if not sound(book):
         return 2, (), *keep
@@ -158,12 +170,16 @@ def fix(book, month, dollar, factor, first, series, lines, sectors, out):
         return 3, (), *keep
     if len(sectors) != 8 * n or len(out) != 3 * n:
         return 3, (), *keep
+    if in_force is not None and len(in_force) != len(lines) // 26:
+        return 3, (), *keep
     if month > 1199 or (book.months and month != book.last + 1):
         return 4, (), *keep
     rows = [lines[26 * j:26 * j + 26] for j in range(len(lines) // 26)]
     if not 1 <= dollar <= 200_000 or not 5000 <= factor <= 20000 or first > 1199:
         return 6, (), *keep
     if any(line_wrong(line, n) for line in rows):
+        return 6, (), *keep
+    if in_force is not None and any(not 1 <= v <= 1_000_000 for v in in_force):
         return 6, (), *keep
     if any(v > 99_999_999 for v in series):
         return 7, (), *keep
@@ -176,9 +192,21 @@ def fix(book, month, dollar, factor, first, series, lines, sectors, out):
             row, weight, lag, window, value = line[6 + 5 * k:11 + 5 * k]
             if any(value_at(series, first, row, m) is None for m in months_of(month, lag, window)):
                 return 10, (j, k), *keep
-    references = [line_price(line, month, dollar, factor, first, series) for line in rows]
-    if None in references:
-        return 11, (references.index(None),), *keep
+    references, moved = [], in_force is None
+    for j, line in enumerate(rows):
+        taken = new_indexed(line, month, first, series)
+        if taken is None:
+            return 11, (j,), *keep
+        if in_force is not None:
+            if has_moved(in_force[j], taken):
+                moved = True
+            else:
+                taken = in_force[j]
+        references.append(line_price(line, dollar, factor, taken))
+        if references[j] is None:
+            return 11, (j,), *keep
+    if not moved:
+        return 14, (), *keep
     e = [sum(line[4] for line in rows if line[0] == i) for i in range(n)]
     p = [half_up(sum(q * line[4] for q, line in zip(references, rows) if line[0] == i), e[i]) for i in range(n)]
     limit, r, rounds, residue, final = limit_and_rounds(p, e)
@@ -292,16 +320,25 @@ class Journal:
         return [read() for _ in range(self.count(name, most))]
 
 
-def fix_command(journal, book):
+def fixing_command(journal, book, name):
     month, dollar, factor, first = (journal.number() for _ in range(4))
     series, lines, sectors = (journal.list(name, journal.number) for name in (b"series", b"lines", b"sectors"))
+    in_force = journal.list(b"inforce", journal.number) if name == "interim" else None
     lent = [-1] * journal.count(b"prices")
-    number, values, book, out = fix(book, month, dollar, factor, first, series, lines, sectors, lent)
+    number, values, book, out = fix(book, month, dollar, factor, first, series, lines, sectors, in_force, lent)
     if number == 0:
         rows = [f"{i} {out[3 * i]} {out[3 * i + 1]} {out[3 * i + 2]}" for i in range(book.n)]
-        return book, ["fix accepted limit %d surcharge %d rounds %d residue %d" % values] + rows
+        return book, [name + " accepted limit %d surcharge %d rounds %d residue %d" % values] + rows
     place = {10: " line %d term %d", 11: " line %d"}.get(number, "")
-    return book, [f"fix refused {number}" + place % values]
+    return book, [f"{name} refused {number}" + place % values]
+
+
+def fix_command(journal, book):
+    return fixing_command(journal, book, "fix")
+
+
+def interim_command(journal, book):
+    return fixing_command(journal, book, "interim")
 
 
 def settle_command(journal, book):
@@ -336,7 +373,8 @@ def load_command(journal, book):
     return book, ["load accepted"]
 
 
-COMMANDS = {b"open": open_command, b"fix": fix_command, b"settle": settle_command, b"save": save_command, b"load": load_command}
+COMMANDS = {b"open": open_command, b"fix": fix_command, b"interim": interim_command, b"settle": settle_command, b"save": save_command,
+            b"load": load_command}
 
 
 def replay(text):

@@ -14,13 +14,13 @@ use Rattle.journal.specs.Form.{Held, partCount, placeOf, formAfter, formParts}
 use Rattle.journal.specs.Command.{commandForm, commandAfter}
 use Rattle.journal.specs.declared.cursor.Cursor.{Cursor}
 use Rattle.journal.specs.declared.command.Command.{Command}
-use Rattle.journal.specs.declared.command.Command.the-variants.{Open, Fix, Settle, Save, Load, Unknown, End}
+use Rattle.journal.specs.declared.command.Command.the-variants.{Open, Fix, Settle, Save, Load, Interim}
+use Rattle.journal.specs.declared.command.Command.the-variants.{Unknown, End}
 use Rattle.journal.specs.declared.command.CommandRead.{CommandRead}
 use Rattle.ledger.specs.declared.ledger.Ledger.{Ledger}
 use Rattle.text.proofs.SizeLaws.{line-size}
 use Rattle.answers.proofs.SizeLaws.{answer-size}
-use Rattle.commands.specs.Replay.{openingText, fixingText, settlementText}
-use Rattle.commands.specs.Replay.{loadingText}
+use Rattle.commands.specs.Replay.{openingText, fixingText, settlementText, loadingText}
 use Rattle.commands.specs.Replay.{commandLedger, commandAnswer, wordRoom, stepAfter, answerOf}
 use Rattle.commands.specs.Replay.{answerAfter, longestAnswer, CommandMade, CommandAnswered}
 use Rattle.commands.specs.declared.answer.Made.{Made}
@@ -39,6 +39,7 @@ form-room Fix = omega arith
 form-room Settle = omega arith
 form-room Save = omega arith
 form-room Load = omega arith
+form-room Interim = omega arith
 form-room Unknown = omega arith
 form-room End = omega arith
 
@@ -51,6 +52,7 @@ answer-fits Fix parts ledger = le-trans (answer-size _ _ _ 3 _) (omega arith)
 answer-fits Settle parts ledger = le-trans (answer-size _ _ _ 1 _) (omega arith)
 answer-fits Save parts ledger = saving-size ledger
 answer-fits Load parts ledger = le-trans (line-size _) (omega arith)
+answer-fits Interim parts ledger = le-trans (answer-size _ _ _ 3 _) (omega arith)
 answer-fits Unknown parts ledger = omega arith
 answer-fits End parts ledger = omega arith
 

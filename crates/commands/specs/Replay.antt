@@ -1,7 +1,7 @@
 -- What a journal does to the ledger, and what it answers (docs/JOURNAL.md): each command is the call of the words that
 -- its text holds. Assumes nothing.
 use mathlib.Core.Path.{_≡_}
-use mathlib.Core.Bool.{cond}
+use mathlib.Core.Bool.{Bool, true, false, cond}
 use mathlib.Core.List.{List, []}
 use Prim.Native.Nat.{ℕ, zero, suc, _≤_}
 use lib.Dec.{ltb, eqb}
@@ -19,7 +19,8 @@ use Rattle.journal.specs.Form.{Held, heldIn, partCount, formAfter, formParts, f
 use Rattle.journal.specs.Command.{loadForm, commandForm, commandAfter}
 use Rattle.journal.specs.declared.cursor.Cursor.{Cursor}
 use Rattle.journal.specs.declared.command.Command.{Command}
-use Rattle.journal.specs.declared.command.Command.the-variants.{Open, Fix, Settle, Save, Load, Unknown, End}
+use Rattle.journal.specs.declared.command.Command.the-variants.{Open, Fix, Settle, Save, Load, Interim}
+use Rattle.journal.specs.declared.command.Command.the-variants.{Unknown, End}
 use Rattle.ledger.specs.Ledger.{emptyLedger, openingVerdict, openingLedger}
 use Rattle.ledger.specs.Fix.{FixingCall, fixingCallOf, fixingAnswer, fixingAnswered, fixingLedger, fixingList}
 use Rattle.ledger.specs.Settle.{SettlementCall, settlementCallOf, settlementVerdict, settlementLedger, settlementList}
@@ -34,17 +35,19 @@ use Rattle.commands.specs.declared.run.Step.{Step}
 unfoldable pub unwritten : ℕ → List ℤ
 unwritten k = listBelow k (λ i. negsuc 0)
 
--- "fix MONTH DOLLAR FACTOR FIRST series K .. lines K .. sectors K .. prices K": the fixing of these parts
-unfoldable pub fixingCall : List Held → FixingCall
-fixingCall parts =
-    fixingCallOf
+-- "fix MONTH DOLLAR FACTOR FIRST series K .. lines K .. sectors K .. prices K": the fixing of these parts, of which an
+-- interim one has "inforce K .." before the prices
+unfoldable pub fixingCall : Bool → List Held → FixingCall
+fixingCall isInterim parts =
+    fixingCallOf isInterim
     (record {
       month = heldIn parts 0 .number;
       dollar = heldIn parts 1 .number;
       «reference_factor» = heldIn parts 2 .number;
       «first_month» = heldIn parts 3 .number;
     })
-    (heldIn parts 4 .words) (heldIn parts 5 .words) (heldIn parts 6 .words) (unwritten (heldIn parts 7 .number))
+    (heldIn parts 4 .words) (heldIn parts 5 .words) (heldIn parts 6 .words) (heldIn parts 7 .words)
+    (unwritten (heldIn parts 8 .number))
 
 -- "settle MONTH readings K .. losses K .. transfers K"
 unfoldable pub settlementCall : List Held → SettlementCall
@@ -56,11 +59,15 @@ settlementCall parts =
 unfoldable pub openingText : ℕ → List ℕ
 openingText n = lineText (outcomeLine (bytes "open        ") (verdictAnswered [] (openingVerdict n) .number))
 
--- the line of a fixing, "I AVERAGE FINAL CHARGE (a row for each distributor)"
+-- the line of a fixing, "I AVERAGE FINAL CHARGE (a row for each distributor)"; an interim one "answers as `fix` does,
+-- with the word `interim` in place of `fix`"
+abbrev pub fixingName : Bool → List ℕ
+fixingName isInterim = cond isInterim (bytes "interim     ") (bytes "fix         ")
+
 unfoldable pub fixingText : Ledger → FixingCall → List ℕ
 fixingText ledger call =
     let answer = fixingAnswer ledger call in
-    answerText (fixingLine (bytes "fix         ") answer) (eqb (fixingAnswered answer .number) 0)
+    answerText (fixingLine (fixingName (call .isInterim)) answer) (eqb (fixingAnswered answer .number) 0)
     (fixingList ledger call) 3 []
 
 -- the line of a settlement, "I TRANSFER BALANCE (a row for each distributor)"
@@ -82,26 +89,28 @@ loadingText = lineText (outcomeLine (bytes "load        ") 0)
 -- the ledger after a command of these parts. "A refused `open` leaves the all-zero ledger"
 abbrev pub commandLedger : Command → List Held → Ledger → Ledger
 commandLedger Open parts ledger = openingLedger (heldIn parts 0 .number)
-commandLedger Fix parts ledger = fixingLedger ledger (fixingCall parts)
+commandLedger Fix parts ledger = fixingLedger ledger (fixingCall false parts)
 commandLedger Settle parts ledger = settlementLedger ledger (settlementCall parts)
 commandLedger Save parts ledger = ledger
 commandLedger Load parts ledger = loadedLedger parts
+commandLedger Interim parts ledger = fixingLedger ledger (fixingCall true parts)
 commandLedger Unknown parts ledger = ledger
 commandLedger End parts ledger = ledger
 
 -- what it answers
 abbrev pub commandAnswer : Command → List Held → Ledger → List ℕ
 commandAnswer Open parts ledger = openingText (heldIn parts 0 .number)
-commandAnswer Fix parts ledger = fixingText ledger (fixingCall parts)
+commandAnswer Fix parts ledger = fixingText ledger (fixingCall false parts)
 commandAnswer Settle parts ledger = settlementText ledger (settlementCall parts)
 commandAnswer Save parts ledger = savingText ledger
 commandAnswer Load parts ledger = loadingText
+commandAnswer Interim parts ledger = fixingText ledger (fixingCall true parts)
 commandAnswer Unknown parts ledger = []
 commandAnswer End parts ledger = []
 
 -- the words of the longest lists that a command has
 abbrev pub wordRoom : ℕ
-wordRoom = 24576
+wordRoom = 32768
 
 -- a command from after its word: "the broken command is not made"
 unfoldable pub stepOf : Command → List ℕ → Cursor → Ledger → Step

@@ -2,13 +2,13 @@
 ghost use mathlib.Core.Path.{_≡_};
 ghost use lib.ListN.{length};
 ghost use Rattle.ledger.specs.Ledger.{openingLedger};
-ghost use Rattle.ledger.specs.Fix.{fixingLedger};
+ghost use Rattle.ledger.specs.Fix.{fixingLedger, FixingPromise};
 ghost use Rattle.ledger.specs.Settle.{settlementLedger};
 ghost use Rattle.store.specs.Store.{loadedLedger};
 ghost use Rattle.journal.specs.Form.{FormHeld, numberOf, partsIn};
-ghost use Rattle.journal.specs.Command.{fixForm, settleForm, loadForm};
-ghost use Rattle.commands.specs.Replay.{unwritten, fixingCall, settlementCall, openingText, fixingText};
-ghost use Rattle.commands.specs.Replay.{settlementText, savingText, loadingText, CommandMade};
+ghost use Rattle.journal.specs.Command.{fixingForm, settleForm, loadForm};
+ghost use Rattle.commands.specs.Replay.{unwritten, fixingCall, settlementCall, openingText, fixingName};
+ghost use Rattle.commands.specs.Replay.{fixingText, settlementText, savingText, loadingText, CommandMade};
 use answers::answer::amounts;
 use answers::answer::write_answer;
 use answers::line::fixing_line;
@@ -17,8 +17,10 @@ use journal::command::load_form;
 use journal::form::Parts;
 use journal::form::words_of;
 use journal::form::write_form;
+use ledger::fix::FixingOutcome;
 use ledger::fix::fix;
 use ledger::fix::fixing_number;
+use ledger::fix::interim;
 use ledger::ledger::Ledger;
 use ledger::open::open;
 use ledger::settle::settle;
@@ -28,6 +30,7 @@ use store::save::KEPT_WORDS;
 use store::save::save;
 use supply::market::FixingNumbers;
 use text::line::write_line;
+use text::name::NAME;
 
 // The ledger after a command, and how many bytes its answer has.
 pub(crate) struct Made {
@@ -47,18 +50,29 @@ pub(crate) fn run_open(n: usize, buffer: &mut [u8]) -> Made
     Made { ledger, count }
 }
 
-// Makes a fixing with its lent list.
-pub(crate) fn run_fix(
+// The name of a fixing's command.
+fn fixing_name(is_interim: bool) -> [u8; NAME]
+    ensures { λ r. ⌜ r ≡ fixingName «is_interim» ⌝ }
+{
+    if is_interim {
+        *b"interim     "
+    } else {
+        *b"fix         "
+    }
+}
+
+// Makes a fixing with its lent list, by the open call of its kind.
+fn call_fixing(
+    is_interim: bool,
     parts: Parts,
     ledger: Ledger,
     words: &[u64],
     prices: &mut [i64],
-    buffer: &mut [u8],
-) -> Made
-    requires { ⌜ FormHeld fixForm parts (length (now words)) ⌝ ∗ ⌜ now prices ≡ unwritten (numberOf parts 7) ⌝ }
-    ensures { λ r. ⌜ CommandMade r (fixingLedger ledger (fixingCall (partsIn parts (now (words .entry)))))
-        (fixingText ledger (fixingCall (partsIn parts (now (words .entry))))) (now (buffer .entry))
-        (now (buffer .exit)) ⌝ }
+) -> FixingOutcome
+    requires { ⌜ FormHeld (fixingForm «is_interim») parts (length (now words)) ⌝
+        ∗ ⌜ now prices ≡ unwritten (numberOf parts 8) ⌝ }
+    ensures { λ r. ⌜ FixingPromise ledger (fixingCall «is_interim» (partsIn parts (now (words .entry)))) (r .answer)
+        (r .ledger) (now (prices .exit)) ⌝ }
 {
     let numbers = parts.numbers;
     let call = FixingNumbers {
@@ -70,9 +84,31 @@ pub(crate) fn run_fix(
     let series = words_of(parts, words, 4);
     let lines = words_of(parts, words, 5);
     let sectors = words_of(parts, words, 6);
-    let outcome = fix(ledger, call, series, lines, sectors, prices);
+    if is_interim {
+        let in_force = words_of(parts, words, 7);
+        return interim(ledger, call, series, lines, sectors, in_force, prices);
+    }
+    fix(ledger, call, series, lines, sectors, prices)
+}
+
+// Makes a fixing and answers it.
+pub(crate) fn run_fixing(
+    is_interim: bool,
+    parts: Parts,
+    ledger: Ledger,
+    words: &[u64],
+    prices: &mut [i64],
+    buffer: &mut [u8],
+) -> Made
+    requires { ⌜ FormHeld (fixingForm «is_interim») parts (length (now words)) ⌝
+        ∗ ⌜ now prices ≡ unwritten (numberOf parts 8) ⌝ }
+    ensures { λ r. ⌜ CommandMade r (fixingLedger ledger (fixingCall «is_interim» (partsIn parts (now (words .entry)))))
+        (fixingText ledger (fixingCall «is_interim» (partsIn parts (now (words .entry))))) (now (buffer .entry))
+        (now (buffer .exit)) ⌝ }
+{
+    let outcome = call_fixing(is_interim, parts, ledger, words, prices);
     let answer = outcome.answer;
-    let line = fixing_line(*b"fix         ", answer);
+    let line = fixing_line(fixing_name(is_interim), answer);
     let accepted = fixing_number(answer) == 0;
     let column = [0i64; 0];
     let count = write_answer(buffer, line, accepted, prices, 3, &column);

@@ -7,7 +7,7 @@ ghost use Rattle.journal.specs.Command.{longestList, commandForm};
 ghost use Rattle.commands.specs.Replay.{wordRoom, commandLedger, commandAnswer, stepAfter, answerAfter, replayed};
 ghost use Rattle.commands.specs.Replay.{longestAnswer, longestText, CommandMade, CommandAnswered};
 use crate::answer::Made;
-use crate::answer::run_fix;
+use crate::answer::run_fixing;
 use crate::answer::run_load;
 use crate::answer::run_open;
 use crate::answer::run_save;
@@ -43,10 +43,10 @@ struct CommandOutcome {
 }
 
 // Lists of the longest lengths, from functions so that no goal writes their words out.
-fn word_buffer() -> [u64; 24576]
+fn word_buffer() -> [u64; 32768]
     ensures { λ r. ⌜ length r ≡ wordRoom ⌝ }
 {
-    [0; 24576]
+    [0; 32768]
 }
 
 fn lent_buffer() -> [i64; 8192]
@@ -82,8 +82,9 @@ fn make_command(
         Command::Open => run_open(numbers[0] as usize, buffer),
         Command::Save => run_save(ledger, buffer),
         Command::Load => run_load(parts, words, buffer),
-        Command::Fix => run_fix(parts, ledger, words, lent(list, numbers[7]), buffer),
+        Command::Fix => run_fixing(false, parts, ledger, words, lent(list, numbers[8]), buffer),
         Command::Settle => run_settle(parts, ledger, words, lent(list, numbers[3]), buffer),
+        Command::Interim => run_fixing(true, parts, ledger, words, lent(list, numbers[8]), buffer),
     }
 }
 

@@ -21,10 +21,10 @@ use Rattle.series.specs.Series.{valuesInRange}
 use Rattle.series.specs.Required.{TableInRange}
 use Rattle.series.proofs.SeriesLaws.{table-in-range}
 use Rattle.supply.specs.Line.{mostLines, lineCount}
-use Rattle.supply.specs.Price.{termMean, tableChecks, referencePrice, referenceList, ReferencesPromise}
-use Rattle.supply.specs.Required.{NumbersFacts}
+use Rattle.supply.specs.Price.{termMean, priceChecks, tableChecks, referencePrice, referenceList, ReferencesPromise}
+use Rattle.supply.specs.Required.{NumbersFacts, InForceFacts}
 use Rattle.supply.specs.declared.price.References.{References}
-use Rattle.supply.proofs.RangeLaws.{input-numbers, input-lines}
+use Rattle.supply.proofs.RangeLaws.{input-numbers, input-lines, input-in-force}
 use Rattle.supply.proofs.PriceLaws.{search-within, bounds-passed}
 use Rattle.supply.proofs.ReferenceLaws.{table-told, passed-bounds, passed-prices}
 use Rattle.fixing.specs.Average.{energyList, averageList}
@@ -48,19 +48,23 @@ no-line n input a b c =
     (passes OutOfRange a, (passes ValueTooLarge b, (passes WrongSector c, tt))) refl
 
 abbrev referenceOf : FixingInput → ℕ → PesoPrice
-referenceOf input = referencePrice (inputMean input) (input .numbers) (input .lines)
+referenceOf input = referencePrice (inputMean input) (input .numbers) (input .lines) (input .inForce)
 
 -- what the code goes on with
 module _ (n : ℕ) (input : FixingInput) where
   pub ranged-own : RightLengths n input → ranged n input ≡ true → OwnLines (input .lines)
-  ranged-own r h = own-lines n (input .lines) (r .few) (r .lines) (input-lines n (input .numbers) (input .lines) h)
+  ranged-own r h =
+      own-lines n (input .lines) (r .few) (r .lines) (input-lines n (input .numbers) (input .lines) (input .inForce) h)
 
   module _ (ok : CheckedInput n input) where
     pub checked-own : OwnLines (input .lines)
     checked-own = ranged-own (ok .lengths) (ok .ranges)
 
     pub checked-numbers : NumbersFacts (input .numbers)
-    checked-numbers = input-numbers n (input .numbers) (input .lines) (ok .ranges)
+    checked-numbers = input-numbers n (input .numbers) (input .lines) (input .inForce) (ok .ranges)
+
+    pub checked-in-force : InForceFacts (input .inForce)
+    checked-in-force = input-in-force n (input .numbers) (input .lines) (input .inForce) (ok .ranges)
 
     pub checked-table : (table : List (List ℕ)) → table ≡ indexTable input → TableInRange table
     checked-table table e = rw e (table-in-range (input .series) (ok .small))
@@ -80,7 +84,7 @@ module _ (n : ℕ) (input : FixingInput) where
       where
         within : (j : ℕ) → j < lineCount (input .lines) →
             (leastPrice ≤ referenceOf input j .0) × (referenceOf input j .0 ≤ mostPrice)
-        within = search-within (inputMean input) (input .numbers) (input .lines) h
+        within = search-within (inputMean input) (input .numbers) (input .lines) (input .inForce) h
 
         listed : (j : ℕ) → j < lineCount (input .lines) → getD prices j noPrice .0 ≡ referenceOf input j .0
         listed j p =
@@ -108,8 +112,7 @@ module _ (n : ℕ) (input : FixingInput) where
         check-told 8 (sectorsAllowed n (input .sectors)) WrongSector refl,
         (
           check-told 9 (supplied n input) NoLine refl,
-          table-told (indexTable input) (input .numbers)
-              (input .lines),
+          table-told (indexTable input) (input .numbers) (input .lines) (input .inForce),
         ),
       ),
     ),
@@ -133,7 +136,7 @@ module _ (n : ℕ) (input : FixingInput) where
   -- input that passed causes 6 to 9: the checks of the index table give the verdict
   module _ (ok : CheckedInput n input) where
     table-left : verdictOf (inputChecks n input) ≡ verdictOf
-        (tableChecks (indexTable input) (input .numbers) (input .lines))
+        (tableChecks (indexTable input) (input .numbers) (input .lines) (input .inForce))
     unfolding inputChecks FirstPass
     table-left =
         verdict-from 4 (inputChecks n input) (
@@ -143,12 +146,12 @@ module _ (n : ℕ) (input : FixingInput) where
 
     -- what the pricing of its lines says: a refusal, or references to go on with
     module _ (table : List (List ℕ)) (e : table ≡ indexTable input) (given : References)
-        (promise : ReferencesPromise table (input .numbers) (input .lines) given) where
+        (promise : ReferencesPromise table (input .numbers) (input .lines) (input .inForce) given) where
       priced : (verdict : Verdict) → given .verdict ≡ verdict →
-          verdictOf (tableChecks (indexTable input) (input .numbers) (input .lines)) ≡ verdict
+          verdictOf (tableChecks (indexTable input) (input .numbers) (input .lines) (input .inForce)) ≡ verdict
       priced verdict v =
-          ap (λ t. verdictOf (tableChecks t (input .numbers) (input .lines))) (sym e) ∙ sym (promise .judged .answered)
-          ∙ v
+          ap (λ t. verdictOf (tableChecks t (input .numbers) (input .lines) (input .inForce))) (sym e)
+          ∙ sym (promise .judged .answered) ∙ v
 
       pub priced-refused : (fixing : Fixing) (refusal : Refusal) → fixing ≡ refusedFixing refusal →
           given .verdict ≡ Refused refusal → InputPromise n input fixing
@@ -158,14 +161,14 @@ module _ (n : ℕ) (input : FixingInput) where
         prices-are : given .prices ≡ inputReferences input
         unfolding inputReferences
         prices-are =
-            passed-prices table (input .numbers) (input .lines) given promise v
-            ∙ ap (λ t. referenceList (termMean t (input .numbers)) (input .numbers) (input .lines)) e
+            passed-prices table (input .numbers) (input .lines) (input .inForce) given promise v
+            ∙ ap (λ t. referenceList (termMean t (input .numbers)) (input .numbers) (input .lines) (input .inForce)) e
 
         pub priced-accepted : AcceptedLines n (given .prices) (input .lines)
         priced-accepted =
             checked-accepted n input ok
-            (passed-bounds (indexTable input) (input .numbers) (input .lines) (priced Passed v)) (given .prices)
-            prices-are
+            (passed-bounds (indexTable input) (input .numbers) (input .lines) (input .inForce) (priced Passed v))
+            (given .prices) prices-are
 
         pub priced-worked : (fixing : Fixing) →
             fixing ≡ acceptedFixing n (averageList n (given .prices) (input .lines)) (energyList (input .lines))
@@ -191,9 +194,9 @@ module _ (n : ℕ) (input : FixingInput) where
 
     -- its distributors are in range of the limit
     pub input-range : RightLengths n input → InRange (distributors n (inputAverages n input) (inputEnergies input))
-    unfolding inputVerdict inputChecks tableChecks FirstPass inputAverages inputEnergies
+    unfolding inputVerdict inputChecks tableChecks priceChecks FirstPass inputAverages inputEnergies
     input-range right =
-        let all : FirstPass 6 (inputChecks n input) = all-passed (inputChecks n input) passed in
+        let all : FirstPass 7 (inputChecks n input) = all-passed (inputChecks n input) passed in
         let ok : CheckedInput n input =
         record {
           lengths = right;
@@ -204,5 +207,5 @@ module _ (n : ℕ) (input : FixingInput) where
         } in
         accepted-range n (inputReferences input) (input .lines)
         (checked-accepted n input ok
-        (bounds-passed (inputMean input) (input .numbers) (input .lines) (all .1 .1 .1 .1 .1 .0))
+        (bounds-passed (inputMean input) (input .numbers) (input .lines) (input .inForce) (all .1 .1 .1 .1 .1 .0))
         (inputReferences input) refl)

@@ -1,5 +1,5 @@
--- What a fixing is given beside the ledger, and the checks that it makes of it, causes 6 to 11 of document 01, each
--- over the whole input. Their order is the list `inputChecks`. Assumes nothing.
+-- What a fixing is given beside the ledger, and the checks that it makes of it, causes 6 to 11 of document 01 and 14 of
+-- document 02, each over the whole input. Their order is the list `inputChecks`. Assumes nothing.
 use mathlib.Core.Bool.{Bool}
 use mathlib.Core.List.{List, _∷_}
 use mathlib.Core.Option.{Option}
@@ -12,7 +12,7 @@ use Rattle.numbers.specs.declared.units.Energy.{Energy}
 use Rattle.series.specs.Series.{seriesTable, valuesInRange}
 use Rattle.supply.specs.Range.{inputInRange}
 use Rattle.supply.specs.Months.{Place, lacksMonth, firstMissing}
-use Rattle.supply.specs.Price.{termMean, firstBeyond, tableChecks, referenceList}
+use Rattle.supply.specs.Price.{termMean, firstBeyond, anyMoved, tableChecks, referenceList}
 use Rattle.supply.specs.declared.line.Term.{Term}
 use Rattle.supply.specs.declared.market.FixingNumbers.{FixingNumbers}
 use Rattle.fixing.specs.Limit.{Distributors}
@@ -20,16 +20,19 @@ use Rattle.fixing.specs.Prices.{distributors}
 use Rattle.fixing.specs.Average.{everyoneSupplied, energyList, averageList}
 use Rattle.fixing.specs.Sector.{sectorsAllowed}
 
--- the numbers of a fixing, the 240 words of the series, the lines, the sector factors
+-- the numbers of a fixing, the 240 words of the series, the lines, the sector factors; and of an interim fixing, "line
+-- by line, the indexed price in force": a regular one has none, and its list is empty
 pub record FixingInput : Type 0 where
   pub numbers : FixingNumbers
   pub series : List ℕ
   pub lines : List ℕ
   pub sectors : List ℕ
+  pub inForce : List ℕ
 
 -- an input from its parts
-abbrev pub inputOf : FixingNumbers → List ℕ → List ℕ → List ℕ → FixingInput
-inputOf numbers series lines sectors = record { numbers = numbers; series = series; lines = lines; sectors = sectors }
+abbrev pub inputOf : FixingNumbers → List ℕ → List ℕ → List ℕ → List ℕ → FixingInput
+inputOf numbers series lines sectors inForce =
+    record { numbers = numbers; series = series; lines = lines; sectors = sectors; inForce = inForce }
 
 -- the table that the series fill, and the mean of each term in it
 abbrev pub indexTable : FixingInput → List (List ℕ)
@@ -40,34 +43,37 @@ inputMean input = termMean (indexTable input) (input .numbers)
 
 -- the tests of causes 6 and 9
 abbrev pub ranged : ℕ → FixingInput → Bool
-ranged n input = inputInRange n (input .numbers) (input .lines)
+ranged n input = inputInRange n (input .numbers) (input .lines) (input .inForce)
 
 abbrev pub supplied : ℕ → FixingInput → Bool
 supplied n input = everyoneSupplied n (input .lines)
 
--- the first term with a missing month, and the first line out of bounds
+-- the first term with a missing month, the first line out of bounds, and whether any line moved
 abbrev pub missingPlace : FixingInput → Option Place
 missingPlace input = firstMissing (lacksMonth (indexTable input) (input .numbers)) (input .lines)
 
 abbrev pub beyondLine : FixingInput → Option ℕ
-beyondLine input = firstBeyond (inputMean input) (input .numbers) (input .lines)
+beyondLine input = firstBeyond (inputMean input) (input .numbers) (input .lines) (input .inForce)
 
--- "Checks go by ascending number, each over the whole input": D, F, first month or a line's word; series value too
--- large; sector factor, or no sector; distributor without line; then those that need the index table
+abbrev pub someMoved : FixingInput → Bool
+someMoved input = anyMoved (inputMean input) (input .lines) (input .inForce)
+
+-- "Checks go by ascending number, each over the whole input": D, F, first month, a line's word or a price in force;
+-- series value too large; sector factor, or no sector; distributor without line; then those that need the index table
 unfoldable pub inputChecks : ℕ → FixingInput → List Check
 inputChecks n input =
     check 6 (ranged n input) OutOfRange
     ∷ check 7 (valuesInRange (input .series)) ValueTooLarge
     ∷ check 8 (sectorsAllowed n (input .sectors)) WrongSector
     ∷ check 9 (supplied n input) NoLine
-    ∷ tableChecks (indexTable input) (input .numbers) (input .lines)
+    ∷ tableChecks (indexTable input) (input .numbers) (input .lines) (input .inForce)
 
 unfoldable pub inputVerdict : ℕ → FixingInput → Verdict
 inputVerdict n input = verdictOf (inputChecks n input)
 
 -- the references of an input's lines
 unfoldable pub inputReferences : FixingInput → List PesoPrice
-inputReferences input = referenceList (inputMean input) (input .numbers) (input .lines)
+inputReferences input = referenceList (inputMean input) (input .numbers) (input .lines) (input .inForce)
 
 -- averages of n distributors and energies, from an input's lines
 unfoldable pub inputAverages : ℕ → FixingInput → List PesoPrice

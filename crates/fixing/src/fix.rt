@@ -1,4 +1,4 @@
-// The fixing of input of right lengths: causes 6 to 11 in their order, then averages, prices and sector charges.
+// The fixing of input of right lengths: causes 6 to 11 and 14 in their order, then averages, prices and sector charges.
 ghost use mathlib.Core.Path.{_≡_};
 ghost use mathlib.Core.Bool.{true};
 ghost use Prim.Native.Nat.{_*_};
@@ -101,12 +101,13 @@ pub fn fix_input(
     series: &[u64],
     lines: &[u64],
     sectors: &[u64],
+    in_force: &[u64],
 ) -> Fixing
-    requires { ⌜ RightLengths n (inputOf numbers (now series) (now lines) (now sectors)) ⌝ }
-    ensures { λ r. ⌜ InputPromise n (inputOf numbers (now (series .entry)) (now (lines .entry)) (now (sectors .entry)))
-        r ⌝ }
+    requires { ⌜ RightLengths n (inputOf numbers (now series) (now lines) (now sectors) (now in_force)) ⌝ }
+    ensures { λ r. ⌜ InputPromise n (inputOf numbers (now (series .entry)) (now (lines .entry)) (now (sectors .entry))
+        (now (in_force .entry))) r ⌝ }
 {
-    if !input_in_range(n, numbers, lines) {
+    if !input_in_range(n, numbers, lines, in_force) {
         return refused(Refusal::OutOfRange);
     }
     if !values_in_range(series) {
@@ -119,7 +120,7 @@ pub fn fix_input(
     if !every_energy(n, energies) {
         return refused(Refusal::NoLine);
     }
-    let references = price_lines(fill(series), numbers, lines);
+    let references = price_lines(fill(series), numbers, lines, in_force);
     let verdict = references.verdict;
     if let Verdict::Refused(refusal) = verdict {
         return refused(refusal);

@@ -12,15 +12,16 @@ use Rattle.numbers.specs.Checks.{Met, Check, metUnless, verdictOf, answeredOr, 
 use Rattle.numbers.specs.declared.refusal.Refusal.{Refusal}
 use Rattle.numbers.specs.declared.refusal.Refusal.the-variants.{Unsound, WrongLength, OutOfTurn, NoFixing, OutOfRange}
 use Rattle.numbers.specs.declared.refusal.Refusal.the-variants.{ValueTooLarge, WrongSector, NoLine, WrongReading}
-use Rattle.numbers.specs.declared.refusal.Refusal.the-variants.{PositionBeyond}
+use Rattle.numbers.specs.declared.refusal.Refusal.the-variants.{PositionBeyond, NoLineMoved}
 use Rattle.numbers.specs.Sizes.{mostDistributors}
 use Rattle.numbers.proofs.CheckLaws.{AllTold, verdict-told, passed-number}
 use Rattle.series.specs.Series.{valuesInRange}
 use Rattle.supply.specs.Months.{Place, missingAt, monthCheck}
-use Rattle.supply.specs.Price.{outOfBoundsAt, boundsCheck, tableChecks}
+use Rattle.supply.specs.Price.{outOfBoundsAt, boundsCheck, priceChecks, tableChecks}
 use Rattle.fixing.specs.Prices.{returnedValues}
 use Rattle.fixing.specs.Sector.{sectorsAllowed}
-use Rattle.fixing.specs.Input.{ranged, supplied, missingPlace, beyondLine, inputChecks, inputDistributors}
+use Rattle.fixing.specs.Input.{ranged, supplied, missingPlace, beyondLine, someMoved, inputChecks}
+use Rattle.fixing.specs.Input.{inputDistributors}
 use Rattle.fixing.specs.Fixing.{acceptedFixing, fixingOf}
 use Rattle.fixing.specs.declared.fix.Fixing.{Fixing}
 use Rattle.fixing.proofs.VerdictLaws.{passed-fixing}
@@ -101,8 +102,8 @@ line-same none = refl
 line-same (some line) = refl
 
 fixing-alike : (plain : Plain) (call : FixingCall) → Alike (fixingChecks (image plain) call) (fixingCauses plain call)
-unfolding image anySettled nextMonth plainSettled plainNext fixingChecks inputChecks tableChecks monthCheck boundsCheck
-    fixingCauses Alike
+unfolding image anySettled nextMonth plainSettled plainNext fixingChecks inputChecks tableChecks monthCheck priceChecks
+    boundsCheck fixingCauses Alike
 fixing-alike plain call =
     let n = plain .count in
     let input = call .input in (
@@ -119,7 +120,10 @@ fixing-alike plain call =
                 test-same 8 WrongSector (sectorsAllowed n (input .sectors)),
                 (
                   test-same 9 NoLine (supplied n input),
-                  (term-same (missingPlace input), (line-same (beyondLine input), tt)),
+                  (
+                    term-same (missingPlace input),
+                    (line-same (beyondLine input), (test-same 14 NoLineMoved (someMoved input), tt)),
+                  ),
                 ),
               ),
             ),

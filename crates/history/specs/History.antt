@@ -1,4 +1,5 @@
--- Demand 3 of document 01 as one statement about a whole list of calls. Assumes nothing.
+-- Demand 3 of document 01 as one statement about a whole list of calls, interim fixings among them ("Lists may now
+-- contain interim fixings", W-201 of document 02). Assumes nothing.
 use mathlib.Core.Path.{_≡_}
 use mathlib.Core.Bool.{true}
 use mathlib.Core.List.{List, _∷_, _++_}
@@ -50,7 +51,8 @@ pub record History (n : ℕ) (calls : List Call) : Type 0 where
   pub signs : oneSign mostDistributors (moneyAt (after (opened n) calls .balances)) ≡ true
   -- the ledger is sound, so that no call in such a list meets 2
   pub whole : sound (after (opened n) calls) ≡ true
-  -- each accepted fixing in the list wrote 01's prices, with a smallest largest charge
+  -- each accepted fixing in the list, regular or interim, wrote 01's prices over the prices that its lines take, with a
+  -- smallest largest charge
   pub fixings : (before rest : List Call) (call : FixingCall) → calls ≡ before ++ (fixing call ∷ rest) →
       isPassed (fixingVerdict (after (opened n) before) call) ≡ true →
       WrittenPrices n (inputDistributors n (call .input)) (fixingList (after (opened n) before) call)

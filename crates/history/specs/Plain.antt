@@ -13,7 +13,7 @@ use Rattle.series.specs.Series.{valuesInRange}
 use Rattle.supply.specs.Months.{Place}
 use Rattle.fixing.specs.Limit.{limit, surcharge, rounds, residue, charge}
 use Rattle.fixing.specs.Sector.{sectorsAllowed, sectorCharges, noCharges}
-use Rattle.fixing.specs.Input.{ranged, supplied, missingPlace, beyondLine, inputDistributors}
+use Rattle.fixing.specs.Input.{ranged, supplied, missingPlace, beyondLine, someMoved, inputDistributors}
 use Rattle.fixing.specs.declared.sector.SectorCharges.{SectorCharges}
 use Rattle.settlement.specs.Amount.{billingInRange, collectedAmount}
 use Rattle.settlement.specs.Settlement.{positionOf, positionsInRange, newBalance}
@@ -92,7 +92,7 @@ firstCause [] values = accepted values
 firstCause (none ∷ rest) values = firstCause rest values
 firstCause (some met ∷ rest) values = met
 
--- "Each call is put to the checks below, in their order, on the plain ledger": a fixing
+-- "Each call is put to the checks below, in their order, on the plain ledger": a fixing, regular or interim
 unfoldable pub fixingCauses : Plain → FixingCall → List (Option Answered)
 fixingCauses plain call =
     let n = plain .count in
@@ -106,6 +106,7 @@ fixingCauses plain call =
     ∷ cause 9 (supplied n input)
     ∷ causeAtTerm 10 (missingPlace input)
     ∷ causeAtLine 11 (beyondLine input)
+    ∷ cause 14 (someMoved input)
     ∷ []
 
 unfoldable pub plainFixing : Plain → FixingCall → Answered
@@ -145,8 +146,8 @@ plainAnswer plain (settlement call) = plainSettlement plain call
 unfoldable pub plainAccepts : Plain → Call → Bool
 plainAccepts plain call = eqb (plainAnswer plain call .number) 0
 
--- "An accepted fixing replaces the one held"; "An accepted settlement .. moves the balances .., sets the last month and
--- raises the count"
+-- "An accepted fixing replaces the one held", and so does an interim one, "the prices in force being among its
+-- arguments"; "An accepted settlement .. moves the balances .., sets the last month and raises the count"
 unfoldable pub plainChange : Plain → Call → Plain
 plainChange plain (fixing call) =
     record {

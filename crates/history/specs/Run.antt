@@ -8,7 +8,7 @@ use Rattle.ledger.specs.Fix.{FixingCall, fixingAnswer, fixingAnswered, fixingLe
 use Rattle.ledger.specs.Settle.{SettlementCall, settlementVerdict, settlementLedger}
 use Rattle.ledger.specs.declared.ledger.Ledger.{Ledger}
 
--- a fixing or a settlement, with any arguments
+-- a fixing, regular or interim, or a settlement, with any arguments
 pub data Call : Type 0 where
   fixing : FixingCall → Call
   settlement : SettlementCall → Call

@@ -2,7 +2,7 @@
 -- Assumes nothing.
 use mathlib.Core.Path.{_≡_, refl, sym, _∙_, ap, ap₂}
 use mathlib.Core.Bool.{Bool, true, false}
-use mathlib.Core.List.{List, [], _++_, append-assoc}
+use mathlib.Core.List.{List, [], _∷_, _++_, append-assoc}
 use Prim.Native.Nat.{ℕ, zero, suc, _+_, _-_, _≤_, _<_}
 use native.Mathlib.Numerals.{add-one}
 use native.Mathlib.Omega.{arith}
@@ -294,6 +294,15 @@ pub part-few : {form : List Part} {parts : Parts} (words : List ℕ) → FormHel
 part-few {form} {parts} words h k p =
     rw (mid-len (startOf parts k) (endOf parts k) words (h .within k p))
     (omega (arith, h .counted k p, count-room (partAt form k) (numberOf parts k) (h .bounded k p)))
+
+-- a part without room has no words
+pub part-none : {form : List Part} {parts : Parts} (words : List ℕ) → FormHeld form parts (length words) → (k : ℕ) →
+    k < partCount → roomOf (partAt form k) ≡ 0 → wordsIn parts words k ≡ []
+part-none {form} {parts} words h k p e = go (wordsIn parts words k) (rw e at (part-few words h k p))
+  where
+    go : (l : List ℕ) → length l ≤ 0 → l ≡ []
+    go [] q = refl
+    go (x ∷ l) q = absurd (omega arith)
 
 -- what is said of each of the twelve parts
 pub each-part : (P : ℕ → Type 0) → P 0 → P 1 → P 2 → P 3 → P 4 → P 5 → P 6 → P 7 → P 8 → P 9 → P 10 → P 11 →

@@ -1,6 +1,6 @@
 -- The commands of a journal (docs/JOURNAL.md, "Input"): which one stands next, and the form of what follows its word.
 -- Assumes nothing.
-use mathlib.Core.Bool.{cond}
+use mathlib.Core.Bool.{Bool, true, false, cond}
 use mathlib.Core.List.{List, [], _∷_}
 use Prim.Native.Nat.{ℕ}
 use Prim.Native.String.{String}
@@ -14,7 +14,8 @@ use Rattle.journal.specs.Cursor.{readTo, brokenAt, mostWord}
 use Rattle.journal.specs.Form.{part, partCount, nothing}
 use Rattle.journal.specs.declared.token.Token.{Token}
 use Rattle.journal.specs.declared.command.Command.{Command}
-use Rattle.journal.specs.declared.command.Command.the-variants.{Open, Fix, Settle, Save, Load, Unknown, End}
+use Rattle.journal.specs.declared.command.Command.the-variants.{Open, Fix, Settle, Save, Load, Interim}
+use Rattle.journal.specs.declared.command.Command.the-variants.{Unknown, End}
 use Rattle.journal.specs.declared.command.CommandRead.{CommandRead}
 use Rattle.journal.specs.declared.command.CommandRow.{CommandRow}
 use Rattle.journal.specs.declared.form.Kind.{Kind}
@@ -39,12 +40,14 @@ emptyForm = replicate partCount nothing
 abbrev pub openForm : List Part
 openForm = part "N           " number ∷ replicate 11 nothing
 
--- "fix MONTH DOLLAR FACTOR FIRST series K .. lines K .. sectors K .. prices K"
-abbrev pub fixForm : List Part
-fixForm =
+-- "fix MONTH DOLLAR FACTOR FIRST series K .. lines K .. sectors K .. prices K"; "interim MONTH DOLLAR FACTOR FIRST
+-- series K .. lines K .. sectors K .. inforce K .. prices K"
+abbrev pub fixingForm : Bool → List Part
+fixingForm isInterim =
     part "MONTH       " number ∷ part "DOLLAR      " number ∷ part "FACTOR      " number ∷ part "FIRST       " number
     ∷ part "series      " list ∷ part "lines       " list ∷ part "sectors     " list
-    ∷ part "prices      " (Length longestList) ∷ replicate 4 nothing
+    ∷ cond isInterim (part "inforce     " list) nothing ∷ part "prices      " (Length longestList)
+    ∷ replicate 3 nothing
 
 -- "settle MONTH readings K .. losses K .. transfers K"
 abbrev pub settleForm : List Part
@@ -63,10 +66,11 @@ loadForm =
 
 abbrev pub commandForm : Command → List Part
 commandForm Open = openForm
-commandForm Fix = fixForm
+commandForm Fix = fixingForm false
 commandForm Settle = settleForm
 commandForm Save = emptyForm
 commandForm Load = loadForm
+commandForm Interim = fixingForm true
 commandForm Unknown = emptyForm
 commandForm End = emptyForm
 
@@ -77,7 +81,7 @@ row name command = record { 0 = bytes name; 1 = command }
 abbrev pub commandRows : List CommandRow
 commandRows =
     row "open        " Open ∷ row "fix         " Fix ∷ row "settle      " Settle ∷ row "save        " Save
-    ∷ row "load        " Load ∷ []
+    ∷ row "load        " Load ∷ row "interim     " Interim ∷ []
 
 -- the first command whose name is the token; "an unknown word"
 unfoldable pub commandAmong : List ℕ → Token → List CommandRow → CommandRead

@@ -22,7 +22,7 @@ use Rattle.journal.specs.declared.form.FormRead.{FormRead}
 abbrev pub part : String → Kind → Part
 part name kind = record { 0 = bytes name; 1 = kind }
 
--- a form has twelve parts, the last of them nothing where it has fewer
+-- a form has twelve parts, some of them nothing where it has fewer
 abbrev pub partCount : ℕ
 partCount = 12
 

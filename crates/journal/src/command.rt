@@ -2,7 +2,7 @@
 ghost use mathlib.Core.Path.{_≡_};
 ghost use Prim.Native.Nat.{_≤_};
 ghost use lib.ListN.{length};
-ghost use Rattle.journal.specs.Command.{emptyForm, openForm, fixForm, settleForm, loadForm, commandForm};
+ghost use Rattle.journal.specs.Command.{emptyForm, openForm, fixingForm, settleForm, loadForm, commandForm};
 ghost use Rattle.journal.specs.Command.{commandRows, commandAmong, commandAfter};
 use crate::cursor::Cursor;
 use crate::cursor::broken_at;
@@ -25,7 +25,7 @@ const LONGEST_LIST: u64 = 8192;
 const NOTHING: Part = Part(*b"            ", Kind::Nothing);
 
 // The commands.
-const COMMANDS: usize = 5;
+const COMMANDS: usize = 6;
 
 pub enum Command {
     Open,
@@ -33,6 +33,7 @@ pub enum Command {
     Settle,
     Save,
     Load,
+    Interim,
     Unknown,
     // No token is left.
     End,
@@ -60,8 +61,9 @@ fn open_form() -> [Part; PARTS]
     form
 }
 
-fn fix_form() -> [Part; PARTS]
-    ensures { λ r. ⌜ r ≡ fixForm ⌝ }
+// A fixing's form: an interim one has the prices in force before the lent list.
+fn fixing_form(is_interim: bool) -> [Part; PARTS]
+    ensures { λ r. ⌜ r ≡ fixingForm «is_interim» ⌝ }
 {
     let mut form = [NOTHING; PARTS];
     form[0] = Part(*b"MONTH       ", Kind::Number(MOST_WORD));
@@ -71,7 +73,11 @@ fn fix_form() -> [Part; PARTS]
     form[4] = Part(*b"series      ", Kind::List(LONGEST_LIST, MOST_WORD));
     form[5] = Part(*b"lines       ", Kind::List(LONGEST_LIST, MOST_WORD));
     form[6] = Part(*b"sectors     ", Kind::List(LONGEST_LIST, MOST_WORD));
-    form[7] = Part(*b"prices      ", Kind::Length(LONGEST_LIST));
+    form[8] = Part(*b"prices      ", Kind::Length(LONGEST_LIST));
+    if is_interim {
+        form[7] = Part(*b"inforce     ", Kind::List(LONGEST_LIST, MOST_WORD));
+        return form;
+    }
     form
 }
 
@@ -108,10 +114,11 @@ pub fn form_of(command: Command) -> [Part; PARTS]
 {
     match command {
         Command::Open => open_form(),
-        Command::Fix => fix_form(),
+        Command::Fix => fixing_form(false),
         Command::Settle => settle_form(),
         Command::Save => empty_form(),
         Command::Load => load_form(),
+        Command::Interim => fixing_form(true),
         Command::Unknown => empty_form(),
         Command::End => empty_form(),
     }
@@ -127,6 +134,7 @@ fn command_rows() -> [CommandRow; COMMANDS]
         CommandRow(*b"settle      ", Command::Settle),
         CommandRow(*b"save        ", Command::Save),
         CommandRow(*b"load        ", Command::Load),
+        CommandRow(*b"interim     ", Command::Interim),
     ]
 }
 

@@ -27,7 +27,8 @@ use Rattle.settlement.specs.Month.{moneyAt}
 use Rattle.ledger.specs.Ledger.{anySettled, nextMonth, billedUnder}
 use Rattle.ledger.specs.Sound.{sound}
 use Rattle.ledger.specs.Turn.{fixingTurn}
-use Rattle.ledger.specs.Fix.{FixingCall, linesWhole, fixingLengths, callLengths, fixingChecks, fixingVerdict}
+use Rattle.ledger.specs.Fix.{FixingCall, linesWhole, fixingLengths, inForceLength, callLengths, fixingChecks}
+use Rattle.ledger.specs.Fix.{fixingVerdict}
 use Rattle.ledger.specs.Settle.{SettlementCall, settlementChecks, settlementVerdict, positionsOf}
 use Rattle.ledger.specs.Required.{Due}
 use Rattle.ledger.specs.declared.ledger.Ledger.{Ledger}
@@ -65,8 +66,11 @@ length-parts n call h =
     let lines = linesWhole (call .input .lines) in
     let sectors = eqb (length (call .input .sectors)) (n * sectorCount) in
     let prices = eqb (length (call .prices)) (n * 3) in
-    let three = and-three series lines sectors (and-left (series && lines && sectors) prices h) in
-    (three .0, three .1, three .2, and-right (series && lines && sectors) prices h)
+    let four =
+    and-left (series && lines && sectors && prices)
+    (inForceLength (call .isInterim) (call .input .lines) (call .input .inForce)) h in
+    let three = and-three series lines sectors (and-left (series && lines && sectors) prices four) in
+    (three .0, three .1, three .2, and-right (series && lines && sectors) prices four)
 
 -- the lengths as facts
 pub right-lengths : (n : ℕ) (call : FixingCall) → 1 ≤ n → n ≤ mostDistributors → callLengths n call ≡ true →

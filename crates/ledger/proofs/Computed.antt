@@ -5,8 +5,8 @@ use Rattle.fixing.proofs.Computed.{fixingComputed}
 use Rattle.settlement.proofs.Computed.{settlementComputed}
 use Rattle.ledger.specs.Example.{plainLine, plainNumbers, plainCall, printCall, printLedger, firstBilling}
 use Rattle.ledger.specs.Example.{secondBilling, firstLedger}
-use Rattle.ledger.specs.Fix.{linesWhole, fixingLengths, fixingChecks, fixingVerdict, acceptedAnswer}
-use Rattle.ledger.specs.Fix.{fixingAnswer, fixingLedger, priceWord, priceList, fixingList}
+use Rattle.ledger.specs.Fix.{linesWhole, fixingLengths, inForceLength, fixingChecks, fixingVerdict}
+use Rattle.ledger.specs.Fix.{acceptedAnswer, fixingAnswer, fixingLedger, priceWord, priceList, fixingList}
 use Rattle.ledger.specs.Ledger.{noBalances, emptyLedger, anySettled, nextMonth, billedUnder, fixedLedger}
 use Rattle.ledger.specs.Ledger.{settledLedger, openingChecks, openingVerdict, openingLedger}
 use Rattle.ledger.specs.Settle.{settlementLengths, positionsOf, settlementChecks, settlementVerdict}
@@ -17,9 +17,10 @@ use Rattle.ledger.specs.Turn.{fixingTurn, settlementTurn}
 
 unfoldable pub ledgerComputed : ℕ
 unfolding fixingComputed settlementComputed plainLine plainNumbers plainCall printCall printLedger firstBilling
-    secondBilling firstLedger linesWhole fixingLengths fixingChecks fixingVerdict acceptedAnswer fixingAnswer
-    fixingLedger priceWord priceList fixingList noBalances emptyLedger anySettled nextMonth billedUnder fixedLedger
-    settledLedger openingChecks openingVerdict openingLedger settlementLengths positionsOf settlementChecks
-    settlementVerdict settlementLedger settlementList placesHeld placeTest placeSound forceSound unsetZero
-    monthsSound mostBalanceOf balanceTest balanceSound eachBalance balancesSound sound fixingTurn settlementTurn
+    secondBilling firstLedger linesWhole fixingLengths inForceLength fixingChecks fixingVerdict acceptedAnswer
+    fixingAnswer fixingLedger priceWord priceList fixingList noBalances emptyLedger anySettled nextMonth billedUnder
+    fixedLedger settledLedger openingChecks openingVerdict openingLedger settlementLengths positionsOf
+    settlementChecks settlementVerdict settlementLedger settlementList placesHeld placeTest placeSound forceSound
+    unsetZero monthsSound mostBalanceOf balanceTest balanceSound eachBalance balancesSound sound fixingTurn
+    settlementTurn
 ledgerComputed = 0

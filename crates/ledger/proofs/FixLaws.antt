@@ -27,7 +27,6 @@ use Rattle.ledger.specs.Fix.{FixingCall, callLengths, fixingChecks, fixi
 use Rattle.ledger.specs.Fix.{fixingAnswer, fixingAnswered, roundsBelow, fixingLedger, priceList, fixingList}
 use Rattle.ledger.specs.Fix.{FixingPromise}
 use Rattle.ledger.specs.declared.ledger.Ledger.{Ledger}
-use Rattle.ledger.specs.declared.fix.FixingAnswer.{FixingAnswer}
 use Rattle.ledger.specs.declared.fix.FixingAnswer.the-variants as answer
 use Rattle.ledger.specs.declared.fix.FixingOutcome.{FixingOutcome}
 use Rattle.ledger.proofs.CallLaws.{fixing-passed, length-parts}
@@ -102,24 +101,30 @@ module _ (ledger : Ledger) (call : FixingCall) where
 
     -- what is promised of an accepted fixing
     pub fixed-accepted : RightLengths (ledger .n) (call .input) → fixing .verdict ≡ Passed →
-        (given : FixingAnswer) (next : Ledger) (list : List ℤ) → given ≡ acceptedAnswer (fixing .prices) →
-        next ≡ fixedLedger ledger (call .input .numbers .month) (fixing .sectors) →
-        list ≡ priceList (ledger .n) fixing → FixingPromise ledger call given next list
+        (r : FixingOutcome) (list : List ℤ) → r ≡ record {
+          answer = acceptedAnswer (fixing .prices);
+          ledger = fixedLedger ledger (call .input .numbers .month) (fixing .sectors);
+        } →
+        list ≡ priceList (ledger .n) fixing → FixingPromise ledger call (r .answer) (r .ledger) list
     unfolding fixingLedger fixingList fixingAnswer fixingVerdict acceptedAnswer acceptedFixing fixedPrices
         returnedValues inputDistributors
-    fixed-accepted right h given next list p q r =
+    fixed-accepted right h r list o l =
+        let p : r .answer ≡ acceptedAnswer (fixing .prices) = ap (λ (x : FixingOutcome). x .answer) o in
         let v = verdict-left ∙ h in
         let passed = input-passes h in
         let d = inputDistributors (ledger .n) (call .input) in
         let prices : fixing .prices ≡ fixedPrices d = ap (λ (f : Fixing). f .prices)
         (e ∙ passed-fixing (ledger .n) (call .input) passed) in
-        let told : given ≡ fixingAnswer ledger call = p ∙ ap (λ (f : Fixing). acceptedAnswer (f .prices)) e ∙ rw v in
+        let told : r .answer ≡ fixingAnswer ledger call = p ∙ ap (λ (f : Fixing). acceptedAnswer (f .prices)) e
+        ∙ rw v in
         record {
           answered = told;
           numbered = ap fixingAnswered told ∙ numbered-by;
           few =
               ap (roundsBelow (ledger .n)) (p ∙ ap acceptedAnswer prices) ∙ lt-ltb _ _
               (rounds-few d (input-range (ledger .n) (call .input) passed right));
-          booked = q ∙ ap (λ (f : Fixing). fixedLedger ledger (call .input .numbers .month) (f .sectors)) e ∙ rw v;
-          listed = r ∙ ap (priceList (ledger .n)) e ∙ rw v;
+          booked =
+              ap (λ (x : FixingOutcome). x .ledger) o
+              ∙ ap (λ (f : Fixing). fixedLedger ledger (call .input .numbers .month) (f .sectors)) e ∙ rw v;
+          listed = l ∙ ap (priceList (ledger .n)) e ∙ rw v;
         }

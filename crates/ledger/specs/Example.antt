@@ -1,5 +1,6 @@
 -- The ledgers and calls of class examples 6, 9 and 10 of document 01: "the print", a fixing of three distributors whose
 -- lines have no terms, and two months settled after it. Assumes nothing.
+use mathlib.Core.Bool.{false}
 use mathlib.Core.List.{List, [], _∷_, _++_}
 use Prim.Native.Nat.{ℕ}
 use lib.ListN.{replicate}
@@ -23,7 +24,7 @@ plainNumbers = record { month = 0; dollar = 100000; «reference_factor» = 10000
 -- are lent for the prices
 unfoldable pub plainCall : ℕ → List ℕ → List ℕ → FixingCall
 plainCall words lines sectors =
-    fixingCallOf plainNumbers (replicate wordCount 0) lines sectors (replicate words (pos 0))
+    fixingCallOf false plainNumbers (replicate wordCount 0) lines sectors [] (replicate words (pos 0))
 
 -- "the print": base prices 100,000, 83,000, 60,000 and energies 10, 10, 11, sector 0 alone present
 unfoldable pub printCall : FixingCall

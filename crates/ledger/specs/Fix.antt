@@ -1,5 +1,5 @@
--- The open call of fixing: its checks in their order, its answer, the ledger handed back and the list written.
--- Assumes nothing.
+-- The open calls of fixing, regular and interim (W-201 of document 02): their checks in their order, answer, the ledger
+-- handed back and the list written. Assumes nothing.
 use mathlib.Core.Path.{_≡_}
 use mathlib.Core.Bool.{Bool, true, cond, _&&_}
 use mathlib.Core.List.{List, [], _∷_}
@@ -31,15 +31,17 @@ use Rattle.ledger.specs.declared.ledger.Ledger.{Ledger}
 use Rattle.ledger.specs.declared.fix.FixingAnswer.{FixingAnswer}
 use Rattle.ledger.specs.declared.fix.FixingAnswer.the-variants as answer
 
--- what a fixing is given beside the ledger: its input, and the lent list for the prices, as found
+-- what a fixing is given beside the ledger: its input, whether it is an interim one, and the lent list for the prices,
+-- as found
 pub record FixingCall : Type 0 where
   pub input : FixingInput
+  pub isInterim : Bool
   pub prices : List ℤ
 
 -- a call from its parts
-abbrev pub fixingCallOf : FixingNumbers → List ℕ → List ℕ → List ℕ → List ℤ → FixingCall
-fixingCallOf numbers series lines sectors prices =
-    record { input = inputOf numbers series lines sectors; prices = prices }
+abbrev pub fixingCallOf : Bool → FixingNumbers → List ℕ → List ℕ → List ℕ → List ℕ → List ℤ → FixingCall
+fixingCallOf isInterim numbers series lines sectors inForce prices =
+    record { input = inputOf numbers series lines sectors inForce; isInterim = isInterim; prices = prices }
 
 -- "a lent list of wrong length or line count": whole lines, 1 to 256 of them
 unfoldable pub linesWhole : List ℕ → Bool
@@ -52,9 +54,15 @@ fixingLengths n series lines sectors prices =
     && eqb (length sectors) (n * sectorCount)
     && eqb (length prices) (n * 3)
 
+-- a price in force for each line, "a list of another length 3"; a regular fixing has none
+unfoldable pub inForceLength : Bool → List ℕ → List ℕ → Bool
+inForceLength isInterim lines inForce = eqb (length inForce) (cond isInterim (lineCount lines) 0)
+
 -- of a call
 abbrev pub callLengths : ℕ → FixingCall → Bool
-callLengths n call = fixingLengths n (call .input .series) (call .input .lines) (call .input .sectors) (call .prices)
+callLengths n call =
+    fixingLengths n (call .input .series) (call .input .lines) (call .input .sectors) (call .prices)
+    && inForceLength (call .isInterim) (call .input .lines) (call .input .inForce)
 
 -- the checks of a fixing in their order: unsound ledger, a lent list of wrong length or line count, month above 1,199
 -- or out of turn, then those of its input
@@ -80,7 +88,7 @@ unfoldable pub fixingAnswer : Ledger → FixingCall → FixingAnswer
 fixingAnswer ledger call =
     answerBy (fixingVerdict ledger call) (acceptedAnswer (fixingOf (ledger .n) (call .input) .prices))
 
--- 01's number for each answer (0: accepted), and the values returned with it
+-- the number of each answer (0: accepted), and the values returned with it
 abbrev pub fixingAnswered : FixingAnswer → Answered
 fixingAnswered (answer.Accepted limit surcharge rounds residue) =
     accepted (limit .0 ∷ surcharge .0 ∷ rounds ∷ residue .0 ∷ [])
@@ -117,7 +125,7 @@ fixingList ledger call =
     (priceList (ledger .n) (fixingOf (ledger .n) (call .input)))
     (call .prices)
 
--- what the open call promises, for every ledger and every call: answer, its number and values, rounds below n, ledger
+-- what the open calls promise, for every ledger and every call: answer, its number and values, rounds below n, ledger
 -- and written list
 pub record FixingPromise (ledger : Ledger) (call : FixingCall) (given : FixingAnswer) (next : Ledger) (list : List ℤ) :
     Type 0 where

@@ -1,6 +1,9 @@
-// The open call of fixing: no requires. Causes 2, 3 and 4 are the ledger's, the others the fixing's; the prices are
-// written only when all of them are passed.
+// The open calls of fixing, regular and interim: no requires. Both make the same fixing, an interim one with a price in
+// force for each line. Causes 2, 3 and 4 are the ledger's, the others the fixing's; the prices are written only when
+// all of them are passed.
 ghost use mathlib.Core.Path.{_≡_};
+ghost use mathlib.Core.Bool.{true, false};
+ghost use mathlib.Core.List.{[]};
 ghost use Prim.Native.Nat.{_*_, _≤_, _<_, _^_};
 ghost use lib.ListN.{length};
 ghost use Rattle.numbers.specs.Bounded.{listBelow};
@@ -8,11 +11,13 @@ ghost use Rattle.ledger.specs.Ledger.{fixedLedger};
 ghost use Rattle.ledger.specs.Turn.{fixingTurn};
 ghost use Rattle.ledger.specs.declared.fix.FixingAnswer.the-variants.{Refused};
 ghost use Rattle.numbers.specs.Sizes.{mostDistributors};
-ghost use Rattle.ledger.specs.Fix.{fixingCallOf, linesWhole, fixingLengths, pricePart, priceWord};
+ghost use Rattle.ledger.specs.Fix.{fixingCallOf, linesWhole, fixingLengths, inForceLength};
+ghost use Rattle.ledger.specs.Fix.{pricePart, priceWord, priceList};
 ghost use Rattle.ledger.specs.Fix.{fixingAnswered, acceptedAnswer, FixingPromise};
 ghost use Rattle.ledger.specs.Required.{PricesSmall};
 use crate::ledger::Ledger;
 use crate::sound::is_sound;
+use fixing::fix::Fixing;
 use fixing::fix::fix_input;
 use fixing::prices::FixedPrices;
 use fixing::sector::SectorCharges;
@@ -48,6 +53,12 @@ pub struct FixingOutcome {
     pub ledger: Ledger,
 }
 
+// The numbers of a fixing, and whether it is an interim one.
+struct Request {
+    numbers: FixingNumbers,
+    is_interim: bool,
+}
+
 impl Ledger {
     // The ledger with a new fixing in force.
     fn book_fixing(mut self, month: u64, force: SectorCharges) -> Self
@@ -77,6 +88,16 @@ fn lengths_right(n: usize, series: &[u64], lines: &[u64], sectors: &[u64], price
         & lines_whole(lines)
         & (sectors.len() == n * SECTORS)
         & (prices.len() == n * 3)
+}
+
+// Whether as many prices in force are lent as the fixing takes: one for each line, or none.
+fn in_force_right(is_interim: bool, lines: &[u64], in_force: &[u64]) -> bool
+    ensures { λ r. ⌜ r ≡ inForceLength «is_interim» (now (lines .entry)) (now (in_force .entry)) ⌝ }
+{
+    if is_interim {
+        return in_force.len() == line_count(lines);
+    }
+    in_force.len() == 0
 }
 
 // Whether the fixing's month is due.
@@ -146,6 +167,64 @@ fn refused(refusal: Refusal, ledger: Ledger) -> FixingOutcome
     }
 }
 
+// A fixing that passed every check is written, and it is in force in the ledger.
+fn accept(ledger: Ledger, month: u64, fixing: Fixing, prices: &mut [i64]) -> FixingOutcome
+    requires { ⌜ ledger .n ≤ mostDistributors ⌝ ∗ ⌜ length (now prices) ≡ ledger .n * 3 ⌝
+        ∗ ⌜ PricesSmall (fixing .averages) (fixing .prices .finals) ⌝ }
+    ensures { λ r. ⌜ r ≡ record {
+      answer = acceptedAnswer (fixing .prices);
+      ledger = fixedLedger ledger month (fixing .sectors);
+    } ⌝
+        ∗ ⌜ now (prices .exit) ≡ priceList (ledger .n) fixing ⌝ }
+{
+    let n = ledger.n;
+    let fixed = fixing.prices;
+    let averages = fixing.averages;
+    let finals = fixed.finals;
+    let charges = fixing.charges;
+    let force = fixing.sectors;
+    write_prices(n, averages, finals, charges, prices);
+    let answer = accepted(fixed);
+    let ledger = ledger.book_fixing(month, force);
+    FixingOutcome { answer, ledger }
+}
+
+// A fixing, regular or interim.
+fn make_fixing(
+    ledger: Ledger,
+    request: Request,
+    series: &[u64],
+    lines: &[u64],
+    sectors: &[u64],
+    in_force: &[u64],
+    prices: &mut [i64],
+) -> FixingOutcome
+    ensures { λ r. ⌜ FixingPromise ledger
+        (fixingCallOf (request .«is_interim») (request .numbers) (now (series .entry)) (now (lines .entry))
+        (now (sectors .entry)) (now (in_force .entry)) (now (prices .entry)))
+        (r .answer) (r .ledger) (now (prices .exit)) ⌝ }
+{
+    if !is_sound(ledger) {
+        return refused(Refusal::Unsound, ledger);
+    }
+    let n = ledger.n;
+    let lent = in_force_right(request.is_interim, lines, in_force);
+    if !(lengths_right(n, series, lines, sectors, prices) & lent) {
+        return refused(Refusal::WrongLength, ledger);
+    }
+    let numbers = request.numbers;
+    let month = numbers.month;
+    if !in_turn(ledger.any_settled(), ledger.next_month(), month) {
+        return refused(Refusal::OutOfTurn, ledger);
+    }
+    let fixing = fix_input(n, numbers, series, lines, sectors, in_force);
+    let verdict = fixing.verdict;
+    if let Verdict::Refused(refusal) = verdict {
+        return refused(refusal, ledger);
+    }
+    accept(ledger, month, fixing, prices)
+}
+
 // A fixing of the ledger's distributors for a month, from the dollar, the reference factor, the index series with its
 // first month, the supply lines and the sector factors. Where it is accepted the price list is written and the fixing
 // is in force in the ledger handed back; where it is refused both are as they were.
@@ -158,37 +237,42 @@ pub fn fix(
     prices: &mut [i64],
 ) -> FixingOutcome
     ensures { λ r. ⌜ FixingPromise ledger
-        (fixingCallOf numbers (now (series .entry)) (now (lines .entry)) (now (sectors .entry)) (now (prices .entry)))
+        (fixingCallOf false numbers (now (series .entry)) (now (lines .entry)) (now (sectors .entry)) []
+        (now (prices .entry)))
         (r .answer) (r .ledger) (now (prices .exit)) ⌝ }
 {
-    if !is_sound(ledger) {
-        return refused(Refusal::Unsound, ledger);
-    }
-    let n = ledger.n;
-    if !lengths_right(n, series, lines, sectors, prices) {
-        return refused(Refusal::WrongLength, ledger);
-    }
-    let month = numbers.month;
-    if !in_turn(ledger.any_settled(), ledger.next_month(), month) {
-        return refused(Refusal::OutOfTurn, ledger);
-    }
-    let fixing = fix_input(n, numbers, series, lines, sectors);
-    let verdict = fixing.verdict;
-    if let Verdict::Refused(refusal) = verdict {
-        return refused(refusal, ledger);
-    }
-    let fixed = fixing.prices;
-    let averages = fixing.averages;
-    let finals = fixed.finals;
-    let charges = fixing.charges;
-    let force = fixing.sectors;
-    write_prices(n, averages, finals, charges, prices);
-    let answer = accepted(fixed);
-    let ledger = ledger.book_fixing(month, force);
-    FixingOutcome { answer, ledger }
+    let request = Request {
+        numbers,
+        is_interim: false,
+    };
+    let none = [0u64; 0];
+    make_fixing(ledger, request, series, lines, sectors, &none, prices)
 }
 
-// 01's number of a fixing's answer: 0 where it is accepted.
+// An interim fixing: a fixing in which a line takes its new indexed price only if that moved by more than 10% from the
+// one in force, which is lent for each line.
+pub fn interim(
+    ledger: Ledger,
+    numbers: FixingNumbers,
+    series: &[u64],
+    lines: &[u64],
+    sectors: &[u64],
+    in_force: &[u64],
+    prices: &mut [i64],
+) -> FixingOutcome
+    ensures { λ r. ⌜ FixingPromise ledger
+        (fixingCallOf true numbers (now (series .entry)) (now (lines .entry)) (now (sectors .entry))
+        (now (in_force .entry)) (now (prices .entry)))
+        (r .answer) (r .ledger) (now (prices .exit)) ⌝ }
+{
+    let request = Request {
+        numbers,
+        is_interim: true,
+    };
+    make_fixing(ledger, request, series, lines, sectors, in_force, prices)
+}
+
+// The number of a fixing's answer: 0 where it is accepted.
 pub fn fixing_number(answer: FixingAnswer) -> u64
     ensures { λ r. ⌜ r ≡ fixingAnswered answer .number ⌝ }
 {

@@ -97,3 +97,9 @@ pub any-never : (k : ℕ) (t : ℕ → Bool) → ((j : ℕ) → j < k → t j �
 unfolding anyBelow
 any-never zero t h = refl
 any-never (suc k) t h = rw (any-never k t (λ j p. h j (omega arith)), h k (omega arith))
+
+-- the same tests
+pub any-same : (k : ℕ) (s t : ℕ → Bool) → ((j : ℕ) → j < k → s j ≡ t j) → anyBelow k s ≡ anyBelow k t
+unfolding anyBelow
+any-same zero s t h = refl
+any-same (suc k) s t h = ap₂ _||_ (any-same k s t (λ j p. h j (omega arith))) (h k (omega arith))

@@ -1,4 +1,4 @@
--- Checks in their order: each has 01's number of its cause, and the first whose cause is met gives the verdict, its
+-- Checks in their order: each has the number of its cause, and the first whose cause is met gives the verdict, its
 -- number and its values. The order is the list's. Assumes nothing.
 use mathlib.Core.Path.{_≡_}
 use mathlib.Core.Bool.{Bool, cond}
@@ -10,7 +10,7 @@ use Rattle.numbers.specs.declared.refusal.Refusal.{Refusal}
 use Rattle.numbers.specs.declared.refusal.Verdict.{Verdict}
 use Rattle.numbers.specs.declared.refusal.Verdict.the-variants.{Passed, Refused}
 
--- what is answered where a cause is met: the refusal, and the values that 01 returns with it
+-- what is answered where a cause is met: the refusal, and the values returned with it
 pub record Met : Type 0 where
   pub refusal : Refusal
   pub values : List ℕ

@@ -1,4 +1,5 @@
--- "Refusals by cause" of document 01: the number of each refusal and the values returned with it, case by case.
+-- "Refusals by cause" of document 01 and those that document 02 adds: the number of each refusal and the values
+-- returned with it, case by case.
 -- Assumes nothing.
 use mathlib.Core.Bool.{Bool, true, false}
 use mathlib.Core.List.{List, [], _∷_}
@@ -7,11 +8,11 @@ use Rattle.numbers.specs.declared.refusal.Refusal.{Refusal}
 use Rattle.numbers.specs.declared.refusal.Refusal.the-variants.{WrongCount, Unsound, WrongLength, OutOfTurn}
 use Rattle.numbers.specs.declared.refusal.Refusal.the-variants.{NoFixing, OutOfRange, ValueTooLarge, WrongSector}
 use Rattle.numbers.specs.declared.refusal.Refusal.the-variants.{NoLine, MonthMissing, OutOfBounds, WrongReading}
-use Rattle.numbers.specs.declared.refusal.Refusal.the-variants.{PositionBeyond}
+use Rattle.numbers.specs.declared.refusal.Refusal.the-variants.{PositionBeyond, NoLineMoved}
 use Rattle.numbers.specs.declared.refusal.Verdict.{Verdict}
 use Rattle.numbers.specs.declared.refusal.Verdict.the-variants.{Passed, Refused}
 
--- 01's number of an answer (0: accepted) and the values returned with it; an empty list stands for the zeros
+-- the number of an answer (0: accepted) and the values returned with it; an empty list stands for the zeros
 pub record Answered : Type 0 where
   pub number : ℕ
   pub values : List ℕ
@@ -37,6 +38,8 @@ refusalAnswered (MonthMissing line term) = record { number = 10; values = line �
 refusalAnswered (OutOfBounds line) = record { number = 11; values = line ∷ [] }
 refusalAnswered WrongReading = withoutValues 12
 refusalAnswered PositionBeyond = withoutValues 13
+-- "14 when no line moved by more than 10%"
+refusalAnswered NoLineMoved = withoutValues 14
 
 -- of a verdict, where what passes returns values of its own
 abbrev pub verdictAnswered : List ℕ → Verdict → Answered

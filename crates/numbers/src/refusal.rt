@@ -1,9 +1,10 @@
-// What a call that may be refused answers: that it passed, or one of the refusals of 01's table, "Refusals by cause".
+// What a call that may be refused answers: that it passed, or one of the refusals of 01's table, "Refusals by cause",
+// and of those that 02 adds.
 ghost use mathlib.Core.Path.{_≡_};
 ghost use mathlib.Core.List.{[]};
 ghost use Rattle.numbers.specs.Refusal.{refusalAnswered, verdictAnswered};
 
-// In the order of the table.
+// In the order of their numbers.
 pub enum Refusal {
     WrongCount,
     Unsound,
@@ -18,6 +19,7 @@ pub enum Refusal {
     OutOfBounds { line: usize },
     WrongReading,
     PositionBeyond,
+    NoLineMoved,
 }
 
 pub enum Verdict {
@@ -25,7 +27,7 @@ pub enum Verdict {
     Refused(Refusal),
 }
 
-// 01's number of a refusal.
+// The number of a refusal.
 pub fn refusal_number(refusal: Refusal) -> u64
     ensures { λ r. ⌜ r ≡ refusalAnswered refusal .number ⌝ }
 {
@@ -43,10 +45,11 @@ pub fn refusal_number(refusal: Refusal) -> u64
         Refusal::OutOfBounds { line: _ } => 11,
         Refusal::WrongReading => 12,
         Refusal::PositionBeyond => 13,
+        Refusal::NoLineMoved => 14,
     }
 }
 
-// 01's number of a verdict: 0 where it is passed.
+// The number of a verdict: 0 where it is passed.
 pub fn verdict_number(verdict: Verdict) -> u64
     ensures { λ r. ⌜ r ≡ verdictAnswered [] verdict .number ⌝ }
 {

@@ -6,15 +6,18 @@ use Rattle.supply.specs.Line.{termFrom, lineOf}
 use Rattle.supply.specs.Months.{lacksMonth, missingTerm, missingInLine, firstMissing, monthCheck}
 use Rattle.supply.specs.Price.{ratioOf, indexedOf, purchaseOf, pesoOf, referenceOf, termMean, termRatio}
 use Rattle.supply.specs.Price.{weightedRatio, indexFactor, lineIndexed, indexedAllowed}
-use Rattle.supply.specs.Price.{priceTaken, linePurchase, lineReference, referenceAnswer, priceAnswer, beyondIn}
+use Rattle.supply.specs.Price.{priceInForce, moved, priceTaken, linePurchase, lineReference}
+use Rattle.supply.specs.Price.{referenceAnswer, priceAnswer, answerAt, beyondIn, anyMoved, priceChecks}
 use Rattle.supply.specs.Price.{firstBeyond, boundsCheck, referencePrice, referenceList, tableChecks}
 use Rattle.supply.specs.Range.{headInRange, termInRange, termUnused, termAllowed, termsAllowed, weightTotal}
-use Rattle.supply.specs.Range.{weightsAllowed, lineInRange, linesInRange, numbersInRange, inputInRange}
+use Rattle.supply.specs.Range.{weightsAllowed, lineInRange, linesInRange, numbersInRange, inForceInRange}
+use Rattle.supply.specs.Range.{inputInRange}
 
 unfoldable pub supplyComputed : ℕ
 unfolding seriesComputed termFrom lineOf lacksMonth missingTerm missingInLine firstMissing monthCheck ratioOf
     indexedOf purchaseOf pesoOf referenceOf termMean termRatio weightedRatio indexFactor lineIndexed indexedAllowed
-    priceTaken linePurchase lineReference referenceAnswer priceAnswer beyondIn firstBeyond boundsCheck
+    priceInForce moved priceTaken linePurchase lineReference referenceAnswer priceAnswer answerAt
+    beyondIn firstBeyond boundsCheck anyMoved priceChecks
     referencePrice referenceList tableChecks headInRange termInRange termUnused termAllowed termsAllowed weightTotal
-    weightsAllowed lineInRange linesInRange numbersInRange inputInRange
+    weightsAllowed lineInRange linesInRange numbersInRange inForceInRange inputInRange
 supplyComputed = 0

@@ -1,16 +1,15 @@
 -- The list of all means says of a term what the table says: its mean, and by a 0 that a month is missing. So a search
 -- and prices worked from the list are those of the table. Assumes nothing.
-use mathlib.Core.Path.{_≡_, _∙_, ap, ap₂}
+use mathlib.Core.Path.{_≡_, _∙_, ap}
 use mathlib.Core.Bool.{false}
-use mathlib.Core.List.{List, [], _∷_}
+use mathlib.Core.List.{List, []}
 use mathlib.Core.Option.{none}
 use Prim.Native.Nat.{ℕ, _≤_, _<_}
 use lib.Dec.{eqb}
 use lib.ListN.{getD}
 use Rattle.numbers.specs.Bounded.{anyBelow}
-use Rattle.numbers.specs.Checks.{verdictOf}
 use Rattle.numbers.specs.Units.{noPrice}
-use Rattle.numbers.proofs.TestLaws.{any-none}
+use Rattle.numbers.proofs.TestLaws.{any-none, any-same}
 use Rattle.numbers.proofs.FirstLaws.{first-same}
 use Rattle.numbers.proofs.ListLaws.{filled-same}
 use Rattle.series.specs.Series.{mostValue}
@@ -21,14 +20,14 @@ use Rattle.series.proofs.MeanLaws.{mean-published, zero-missing, place-below, m
 use Rattle.supply.specs.Line.{mostLines, lineCount, lineOf, termOf}
 use Rattle.supply.specs.Months.{lacksMonth, firstMissing, monthCheck, missingAt}
 use Rattle.supply.specs.Listed.{listedMean, listedLacks}
-use Rattle.supply.specs.Price.{termMean, priceAnswer, priceOr, referencePrice, referenceList, beyondAt, beyondIn}
-use Rattle.supply.specs.Price.{firstBeyond}
-use Rattle.supply.specs.Price.{boundsCheck, outOfBoundsAt, boundedReferences, referencesBy}
+use Rattle.supply.specs.Price.{termMean, priceInForce, moved, answerAt, priceOr, referencePrice, referenceList}
+use Rattle.supply.specs.Price.{beyondAt, beyondIn, firstBeyond, boundsCheck, anyMoved, priceChecks}
+use Rattle.supply.specs.Price.{pricedReferences}
 use Rattle.supply.specs.Required.{TermFacts, CheckedLines}
 use Rattle.supply.specs.declared.line.Term.{Term}
 use Rattle.supply.specs.declared.market.FixingNumbers.{FixingNumbers}
 use Rattle.supply.proofs.MonthLaws.{never-missing, none-missing, missing-same}
-use Rattle.supply.proofs.PriceLaws.{price-same}
+use Rattle.supply.proofs.PriceLaws.{indexed-same, price-same}
 
 -- a mean of the list is at most the top value
 pub listed-most : (means : List ℕ) → ValuesWithin means → (term : Term) → listedMean means term ≤ mostValue
@@ -82,33 +81,45 @@ module _ (table : List (List ℕ)) (numbers : FixingNumbers) where
 
     -- where no month is missing
     module _ (present : firstMissing (lacksMonth table numbers) lines ≡ none) where
-      answer-listed : (j : ℕ) → j < lineCount lines →
-          priceAnswer (listedMean means) numbers (lineOf lines j) ≡ priceAnswer (termMean table numbers) numbers
-          (lineOf lines j)
-      answer-listed j p =
-          price-same (listedMean means) (termMean table numbers) (lineOf lines j)
-          (λ k q. listed-mean (termOf (lineOf lines j) k) (checked .facts j p .term k q)
-          (none-missing (lacksMonth table numbers) lines present j p k q))
-          numbers
+      term-same : (j : ℕ) → j < lineCount lines → (k : ℕ) → k < lineOf lines j .«term_count» →
+          listedMean means (termOf (lineOf lines j) k) ≡ termMean table numbers (termOf (lineOf lines j) k)
+      term-same j p k q =
+          listed-mean (termOf (lineOf lines j) k) (checked .facts j p .term k q)
+          (none-missing (lacksMonth table numbers) lines present j p k q)
 
-      beyond-listed : firstBeyond (listedMean means) numbers lines ≡ firstBeyond (termMean table numbers) numbers lines
-      unfolding firstBeyond beyondIn
-      beyond-listed =
-          first-same (beyondIn (listedMean means) numbers lines) (beyondIn (termMean table numbers) numbers lines)
-          (lineCount lines)
-          (λ j p. ap (beyondAt j) (answer-listed j p))
+      module _ (inForce : List ℕ) where
+        answer-listed : (j : ℕ) → j < lineCount lines →
+            answerAt (listedMean means) numbers lines inForce j ≡ answerAt (termMean table numbers) numbers lines
+            inForce j
+        unfolding answerAt
+        answer-listed j p =
+            price-same (listedMean means) (termMean table numbers) (lineOf lines j) (term-same j p) numbers
+            (priceInForce inForce j)
 
-      prices-listed : referenceList (listedMean means) numbers lines ≡ referenceList (termMean table numbers) numbers
-          lines
-      unfolding referenceList referencePrice
-      prices-listed =
-          filled-same mostLines noPrice (lineCount lines) (referencePrice (listedMean means) numbers lines)
-          (referencePrice (termMean table numbers) numbers lines)
-          (λ j p. ap priceOr (answer-listed j p))
+        beyond-listed : firstBeyond (listedMean means) numbers lines inForce ≡ firstBeyond (termMean table numbers)
+            numbers lines inForce
+        unfolding firstBeyond beyondIn
+        beyond-listed =
+            first-same (beyondIn (listedMean means) numbers lines inForce)
+            (beyondIn (termMean table numbers) numbers lines inForce) (lineCount lines)
+            (λ j p. ap (beyondAt j) (answer-listed j p))
 
-      pub references-listed : boundedReferences (listedMean means) numbers lines ≡ boundedReferences
-          (termMean table numbers) numbers lines
-      unfolding boundedReferences boundsCheck
-      references-listed =
-          ap₂ (λ o l. referencesBy (verdictOf (record { number = 11; met = outOfBoundsAt o } ∷ [])) l) beyond-listed
-          prices-listed
+        moved-listed : anyMoved (listedMean means) lines inForce ≡ anyMoved (termMean table numbers) lines inForce
+        unfolding anyMoved
+        moved-listed =
+            any-same (lineCount lines) _ _
+            (λ j p. ap (moved (priceInForce inForce j))
+            (indexed-same (listedMean means) (termMean table numbers) (lineOf lines j) (term-same j p)))
+
+        prices-listed : referenceList (listedMean means) numbers lines inForce ≡ referenceList
+            (termMean table numbers) numbers lines inForce
+        unfolding referenceList referencePrice
+        prices-listed =
+            filled-same mostLines noPrice (lineCount lines) (referencePrice (listedMean means) numbers lines inForce)
+            (referencePrice (termMean table numbers) numbers lines inForce)
+            (λ j p. ap priceOr (answer-listed j p))
+
+        pub references-listed : pricedReferences (listedMean means) numbers lines inForce ≡ pricedReferences
+            (termMean table numbers) numbers lines inForce
+        unfolding pricedReferences priceChecks boundsCheck
+        references-listed = rw (beyond-listed, moved-listed, prices-listed)

@@ -1,16 +1,18 @@
 -- Bounds of every number on the way from a line's base price to its reference, so that nothing leaves 64 bits; and
--- what a line that passes has: indexed and purchase in 1 to 1,000,000, reference in 1,000 to 2,000,000.
+-- what a line that passes has: indexed and purchase in 1 to 1,000,000, reference in 1,000 to 2,000,000; and which
+-- price it takes.
 -- Assumes nothing.
-use mathlib.Core.Path.{_≡_, refl, ap}
-use mathlib.Core.Bool.{Bool, true, false, cond, _&&_}
+use mathlib.Core.Path.{_≡_, refl, sym, _∙_, ap, ap₂}
+use mathlib.Core.Bool.{Bool, true, false, cond, _&&_, true≢false}
 use mathlib.Core.List.{List}
 use mathlib.Core.Option.{Option, none, some}
 use Prim.Native.Nat.{ℕ, _*_, _≤_, _<_}
 use native.Mathlib.Omega.{arith}
 use native.Mathlib.Nat.{mul-le-mul}
+use native.Mathlib.Decide.{decLt}
 use lib.Dec.{leb, ltb, eqb}
-use lib.ListN.{getD}
-use borrow.Author.Tests.{ltb-true, ne-eqb}
+use lib.ListN.{length, getD}
+use borrow.Author.Tests.{ltb-true, lt-ltb, le-ltb, ne-eqb}
 use Rattle.numbers.specs.Rounding.{halfUp}
 use Rattle.numbers.specs.Units.{between, leastPrice, mostPrice, checkedPrice}
 use Rattle.numbers.specs.declared.units.PesoPrice.{PesoPrice}
@@ -19,18 +21,23 @@ use Rattle.numbers.specs.declared.units.CheckedPrice.the-variants.{Within, Outs
 use Rattle.numbers.proofs.BoolLaws.{and-right}
 use Rattle.numbers.proofs.FirstLaws.{first-none}
 use Rattle.numbers.proofs.ListLaws.{filled-at}
-use Rattle.numbers.proofs.CheckLaws.{Told, none-told, met-told}
+use Rattle.numbers.proofs.CheckLaws.{Told, AllTold, none-told, met-told, check-told}
+use Rattle.numbers.proofs.TestLaws.{any-same}
+use Rattle.numbers.specs.declared.refusal.Refusal.the-variants.{OutOfBounds, NoLineMoved}
+use Rattle.numbers.specs.declared.refusal.Verdict.the-variants.{Passed, Refused}
+use Rattle.numbers.specs.Checks.{verdictOf}
 use Rattle.numbers.proofs.UnitLaws.{between-low, between-high}
 use Rattle.numbers.proofs.SumLaws.{sum-same}
 use Rattle.numbers.proofs.RoundingLaws.{half-up-self}
 use Rattle.series.specs.Series.{mostValue}
 use Rattle.supply.specs.Line.{mostLines, mostTerms, lineCount, lineOf, termOf}
-use Rattle.supply.specs.Price.{ratioOf, termRatio, weightedRatio, indexFactor, indexedOf, lineIndexed, priceTaken}
+use Rattle.supply.specs.Price.{ratioOf, termRatio, weightedRatio, indexFactor, indexedOf, lineIndexed}
+use Rattle.supply.specs.Price.{priceInForce, moved, priceTaken}
 use Rattle.supply.specs.Price.{linePurchase, lineReference, indexedAllowed, referenceAnswer, priceAnswer}
-use Rattle.supply.specs.Price.{beyondAt, beyondIn, firstBeyond, outOfBoundsAt, boundsCheck, priceOr}
-use Rattle.supply.specs.Price.{referencePrice}
-use Rattle.supply.specs.Listed.{indexedOrZero, indexedList, indexedReference}
-use Rattle.supply.specs.Required.{TermFacts}
+use Rattle.supply.specs.Price.{answerAt, beyondAt, beyondIn, firstBeyond, outOfBoundsAt, boundsCheck}
+use Rattle.supply.specs.Price.{anyMoved, priceChecks, priceOr, referencePrice}
+use Rattle.supply.specs.Listed.{indexedOrZero, indexedList, indexedReference, anyWordMoved}
+use Rattle.supply.specs.Required.{TermFacts, InForceFacts}
 use Rattle.supply.specs.declared.line.Term.{Term}
 use Rattle.supply.specs.declared.line.Line.{Line}
 use Rattle.supply.specs.declared.market.FixingNumbers.{FixingNumbers}
@@ -64,18 +71,31 @@ module _ (mean : Term → ℕ) (line : Line) where
       go true e = indexed-bounds e .1
       go false e = omega arith
 
-  -- the word says by a 0 that factor or price is out of bounds, and nothing else: a price is at least 1
-  pub indexed-reference : (numbers : FixingNumbers) →
-      indexedReference numbers line (indexedOrZero mean line) ≡ priceAnswer mean numbers line
-  unfolding indexedReference indexedOrZero priceAnswer
-  indexed-reference numbers = go (indexedAllowed mean line) refl
-    where
-      go : (b : Bool) → indexedAllowed mean line ≡ b →
-          cond (eqb (cond b (lineIndexed mean line) 0) 0) OutsideBounds
-          (referenceAnswer numbers line (priceTaken (cond b (lineIndexed mean line) 0)))
-          ≡ cond b (referenceAnswer numbers line (priceTaken (lineIndexed mean line))) OutsideBounds
-      go true e = rw (ne-eqb (lineIndexed mean line) 0 (λ z. omega (arith, indexed-bounds e .0)))
-      go false e = refl
+  module _ (numbers : FixingNumbers) (old : Option ℕ) where
+    -- a new indexed price is tested, taken or not
+    answer-beyond : indexedAllowed mean line ≡ false → priceAnswer mean numbers line old ≡ OutsideBounds
+    unfolding priceAnswer
+    answer-beyond h = rw h
+
+    -- where it is allowed, the price taken is gone on with
+    answer-allowed : indexedAllowed mean line ≡ true →
+        priceAnswer mean numbers line old ≡ referenceAnswer numbers line (priceTaken old (lineIndexed mean line))
+    unfolding priceAnswer
+    answer-allowed h = rw h
+
+    -- the word says by a 0 that factor or price is out of bounds, and nothing else: a price is at least 1
+    pub indexed-reference :
+        indexedReference numbers line old (indexedOrZero mean line) ≡ priceAnswer mean numbers line old
+    unfolding indexedReference indexedOrZero
+    indexed-reference = go (indexedAllowed mean line) refl
+      where
+        go : (b : Bool) → indexedAllowed mean line ≡ b →
+            cond (eqb (cond b (lineIndexed mean line) 0) 0) OutsideBounds
+            (referenceAnswer numbers line (priceTaken old (cond b (lineIndexed mean line) 0)))
+            ≡ priceAnswer mean numbers line old
+        go true e =
+            rw (ne-eqb (lineIndexed mean line) 0 (λ z. omega (arith, indexed-bounds e .0))) (sym (answer-allowed e))
+        go false e = sym (answer-beyond e)
 
 -- the word of a line stands at its place
 pub indexed-at : (mean : Term → ℕ) (lines : List ℕ) (j : ℕ) → j < lineCount lines → lineCount lines ≤ mostLines →
@@ -84,10 +104,40 @@ unfolding indexedList
 indexed-at mean lines j p few =
     filled-at mostLines 0 (λ i. indexedOrZero mean (lineOf lines i)) (lineCount lines) j p (omega arith)
 
--- the price taken keeps the bounds of an indexed price
-pub taken-most : (indexed : ℕ) → indexed ≤ 1000000 → priceTaken indexed ≤ 1000000
+-- a line's price in force: none past the list's end, else the word at its place
+module _ (inForce : List ℕ) (j : ℕ) where
+  pub none-in-force : length inForce ≤ j → priceInForce inForce j ≡ none
+  unfolding priceInForce
+  none-in-force p = rw (le-ltb j (length inForce) p)
+
+  pub some-in-force : j < length inForce → priceInForce inForce j ≡ some (getD inForce j 0)
+  unfolding priceInForce
+  some-in-force p = rw (lt-ltb j (length inForce) p)
+
+-- by whether it moved: the new price, else the one in force
+pub taken-new : (old : Option ℕ) (indexed : ℕ) → moved old indexed ≡ true → priceTaken old indexed ≡ indexed
 unfolding priceTaken
-taken-most indexed h = h
+taken-new none indexed h = refl
+taken-new (some old) indexed h = rw h
+
+pub taken-old : (inForce : List ℕ) (j indexed : ℕ) → moved (priceInForce inForce j) indexed ≡ false →
+    (j < length inForce) × (priceTaken (priceInForce inForce j) indexed ≡ getD inForce j 0)
+unfolding moved priceTaken
+taken-old inForce j indexed h = go (decLt j (length inForce))
+  where
+    go : Dec (j < length inForce) →
+        (j < length inForce) × (priceTaken (priceInForce inForce j) indexed ≡ getD inForce j 0)
+    go (yes p) = let e = some-in-force inForce j p in (p, rw (e, rw e at h))
+    go (no p) = absurd (true≢false (rw (none-in-force inForce j (omega arith)) at h))
+
+-- the price taken keeps the bounds of an indexed price
+pub taken-most : (inForce : List ℕ) → InForceFacts inForce → (j indexed : ℕ) → indexed ≤ 1000000 →
+    priceTaken (priceInForce inForce j) indexed ≤ 1000000
+taken-most inForce facts j indexed h = go (moved (priceInForce inForce j) indexed) refl
+  where
+    go : (b : Bool) → moved (priceInForce inForce j) indexed ≡ b → priceTaken (priceInForce inForce j) indexed ≤ 1000000
+    go true e = rw (taken-new (priceInForce inForce j) indexed e) h
+    go false e = rw (taken-old inForce j indexed e .1) (facts .most j)
 
 -- a checked price that is given lies in its bounds
 checked-bounds : (x : ℕ) (p : PesoPrice) → checkedPrice x ≡ Within p → (leastPrice ≤ p .0) × (p .0 ≤ mostPrice)
@@ -118,45 +168,89 @@ reference-bounds numbers line taken p h = go (between 1 1000000 (linePurchase li
     go true q = checked-bounds (lineReference numbers line taken) p q
     go false q = absurd (let z : _≡_ {A = ℕ} 0 1 = cc in omega arith)
 
-pub price-bounds : (mean : Term → ℕ) (numbers : FixingNumbers) (line : Line) (p : PesoPrice) →
-    priceAnswer mean numbers line ≡ Within p →
-    (leastPrice ≤ p .0) × (p .0 ≤ mostPrice)
-unfolding priceAnswer
-price-bounds mean numbers line p h = go (indexedAllowed mean line) h
+-- so does that of a line, whose indexed price is allowed
+answered-price : (mean : Term → ℕ) (numbers : FixingNumbers) (line : Line) (old : Option ℕ) (p : PesoPrice) →
+    priceAnswer mean numbers line old ≡ Within p →
+    (indexedAllowed mean line ≡ true) × ((leastPrice ≤ p .0) × (p .0 ≤ mostPrice))
+answered-price mean numbers line old p h = go (indexedAllowed mean line) refl
   where
-    go : (b : Bool) →
-        cond b (referenceAnswer numbers line (priceTaken (lineIndexed mean line))) OutsideBounds ≡ Within p →
-        (leastPrice ≤ p .0) × (p .0 ≤ mostPrice)
-    go true q = reference-bounds numbers line (priceTaken (lineIndexed mean line)) p q
-    go false q = absurd (let z : _≡_ {A = ℕ} 0 1 = cc in omega arith)
+    go : (b : Bool) → indexedAllowed mean line ≡ b →
+        (indexedAllowed mean line ≡ true) × ((leastPrice ≤ p .0) × (p .0 ≤ mostPrice))
+    go true e = (
+      e,
+      reference-bounds numbers line (priceTaken old (lineIndexed mean line)) p
+          (sym (answer-allowed mean line numbers old e) ∙ h),
+    )
+    go false e =
+        let q : OutsideBounds ≡ Within p = sym (answer-beyond mean line numbers old e) ∙ h in
+        absurd (let z : _≡_ {A = ℕ} 0 1 = cc in omega arith)
 
-module _ (mean : Term → ℕ) (numbers : FixingNumbers) (lines : List ℕ) where
-  -- where the search for a line out of bounds finds none, every line has a reference within the bounds
-  pub search-within : firstBeyond mean numbers lines ≡ none → (j : ℕ) → j < lineCount lines →
-      (leastPrice ≤ referencePrice mean numbers lines j .0) × (referencePrice mean numbers lines j .0 ≤ mostPrice)
-  unfolding firstBeyond beyondIn referencePrice
-  search-within h j q =
-      go (priceAnswer mean numbers (lineOf lines j)) refl
-      (first-none (beyondIn mean numbers lines) (lineCount lines) h j q)
-    where
-      go : (a : CheckedPrice) → priceAnswer mean numbers (lineOf lines j) ≡ a → beyondAt j a ≡ none →
-          (leastPrice ≤ priceOr a .0) × (priceOr a .0 ≤ mostPrice)
-      go (Within p) e n = price-bounds mean numbers (lineOf lines j) p e
-      go OutsideBounds e n = absurd (let z : _≡_ {A = ℕ} 0 1 = cc in omega arith)
+module _ (mean : Term → ℕ) (numbers : FixingNumbers) (lines inForce : List ℕ) where
+  -- where the search for a line out of bounds finds none, every line's indexed price is allowed, and it has a reference
+  -- within the bounds
+  module _ (h : firstBeyond mean numbers lines inForce ≡ none) (j : ℕ) (q : j < lineCount lines) where
+    searched : (indexedAllowed mean (lineOf lines j) ≡ true)
+        × ((leastPrice ≤ referencePrice mean numbers lines inForce j .0)
+        × (referencePrice mean numbers lines inForce j .0 ≤ mostPrice))
+    unfolding firstBeyond beyondIn referencePrice answerAt
+    searched =
+        go (answerAt mean numbers lines inForce j) refl
+        (first-none (beyondIn mean numbers lines inForce) (lineCount lines) h j q)
+      where
+        go : (a : CheckedPrice) → answerAt mean numbers lines inForce j ≡ a → beyondAt j a ≡ none →
+            (indexedAllowed mean (lineOf lines j) ≡ true) × ((leastPrice ≤ priceOr a .0) × (priceOr a .0 ≤ mostPrice))
+        go (Within p) e n = answered-price mean numbers (lineOf lines j) (priceInForce inForce j) p e
+        go OutsideBounds e n = absurd (let z : _≡_ {A = ℕ} 0 1 = cc in omega arith)
 
-  -- cause 11 has its number and its line
-  pub bounds-told : Told (boundsCheck mean numbers lines)
-  unfolding boundsCheck
-  bounds-told = go (firstBeyond mean numbers lines)
+    pub search-within : (leastPrice ≤ referencePrice mean numbers lines inForce j .0)
+        × (referencePrice mean numbers lines inForce j .0 ≤ mostPrice)
+    search-within = searched .1
+
+    -- so its word is the price
+    word-indexed : indexedOrZero mean (lineOf lines j) ≡ lineIndexed mean (lineOf lines j)
+    unfolding indexedOrZero
+    word-indexed = rw (searched .0)
+
+  -- and the words tell whether any line moved
+  pub words-moved : firstBeyond mean numbers lines inForce ≡ none → lineCount lines ≤ mostLines →
+      anyWordMoved inForce (indexedList mean lines) (lineCount lines) ≡ anyMoved mean lines inForce
+  unfolding anyWordMoved anyMoved
+  words-moved h few =
+      any-same (lineCount lines) _ _
+      (λ j p. ap (moved (priceInForce inForce j)) (indexed-at mean lines j p few ∙ word-indexed h j p))
+
+  -- the verdict: a line out of bounds is 11, whether any moved or not; then 14 where none did
+  pub prices-beyond : (j : ℕ) → firstBeyond mean numbers lines inForce ≡ some j →
+      verdictOf (priceChecks mean numbers lines inForce) ≡ Refused (OutOfBounds j)
+  unfolding priceChecks boundsCheck verdictOf
+  prices-beyond j h = rw h
+
+  module _ (h : firstBeyond mean numbers lines inForce ≡ none) where
+    pub prices-unmoved : anyMoved mean lines inForce ≡ false →
+        verdictOf (priceChecks mean numbers lines inForce) ≡ Refused NoLineMoved
+    unfolding priceChecks boundsCheck verdictOf
+    prices-unmoved e = rw (h, e)
+
+    pub prices-passed : anyMoved mean lines inForce ≡ true → verdictOf (priceChecks mean numbers lines inForce) ≡ Passed
+    unfolding priceChecks boundsCheck verdictOf
+    prices-passed e = rw (h, e)
+
+  -- cause 11 has its number and its line, and 14 its number
+  pub prices-told : AllTold (priceChecks mean numbers lines inForce)
+  unfolding priceChecks boundsCheck AllTold
+  prices-told = (
+    go (firstBeyond mean numbers lines inForce),
+    (check-told 14 (anyMoved mean lines inForce) NoLineMoved refl, tt),
+  )
     where
       go : (o : Option ℕ) → Told (record { number = 11; met = outOfBoundsAt o })
       go none = none-told 11
       go (some line) = met-told 11 _ refl
 
   -- where cause 11 is not met, the search finds nothing
-  pub bounds-passed : boundsCheck mean numbers lines .met ≡ none → firstBeyond mean numbers lines ≡ none
+  pub bounds-passed : boundsCheck mean numbers lines inForce .met ≡ none → firstBeyond mean numbers lines inForce ≡ none
   unfolding boundsCheck
-  bounds-passed = go (firstBeyond mean numbers lines)
+  bounds-passed = go (firstBeyond mean numbers lines inForce)
     where
       go : (o : Option ℕ) → outOfBoundsAt o ≡ none → o ≡ none
       go none h = refl
@@ -164,17 +258,18 @@ module _ (mean : Term → ℕ) (numbers : FixingNumbers) (lines : List ℕ) wher
 
   -- what a line's answer says to the search, and as a reference
   module _ (j : ℕ) where
-    pub line-within : (p : PesoPrice) → priceAnswer mean numbers (lineOf lines j) ≡ Within p →
-        beyondIn mean numbers lines j ≡ none
+    pub line-within : (p : PesoPrice) → answerAt mean numbers lines inForce j ≡ Within p →
+        beyondIn mean numbers lines inForce j ≡ none
     unfolding beyondIn
     line-within p h = rw h
 
-    pub line-beyond : priceAnswer mean numbers (lineOf lines j) ≡ OutsideBounds → beyondIn mean numbers lines j ≡ some j
+    pub line-beyond : answerAt mean numbers lines inForce j ≡ OutsideBounds →
+        beyondIn mean numbers lines inForce j ≡ some j
     unfolding beyondIn
     line-beyond h = rw h
 
-    pub line-price : (p : PesoPrice) → priceAnswer mean numbers (lineOf lines j) ≡ Within p →
-        p ≡ referencePrice mean numbers lines j
+    pub line-price : (p : PesoPrice) → answerAt mean numbers lines inForce j ≡ Within p →
+        p ≡ referencePrice mean numbers lines inForce j
     unfolding referencePrice
     line-price p h = rw h
 
@@ -194,9 +289,14 @@ module _ (one other : Term → ℕ) (line : Line)
       go k true e = ap (λ m. termOf line k .weight * ratioOf m (termOf line k .«base_value»)) (same k (ltb-true _ _ e))
       go k false e = refl
 
-  pub price-same : (numbers : FixingNumbers) → priceAnswer one numbers line ≡ priceAnswer other numbers line
-  unfolding priceAnswer indexedAllowed lineIndexed
-  price-same numbers =
-      ap (λ f. cond (leb f 100000000 && between 1 1000000 (indexedOf (line .«base_price») f))
-      (referenceAnswer numbers line (priceTaken (indexedOf (line .«base_price») f))) OutsideBounds)
-      factor-same
+  pub indexed-same : lineIndexed one line ≡ lineIndexed other line
+  unfolding lineIndexed
+  indexed-same = ap (indexedOf (line .«base_price»)) factor-same
+
+  pub price-same : (numbers : FixingNumbers) (old : Option ℕ) →
+      priceAnswer one numbers line old ≡ priceAnswer other numbers line old
+  unfolding priceAnswer indexedAllowed
+  price-same numbers old =
+      ap₂ (λ f x. cond (leb f 100000000 && between 1 1000000 x)
+      (referenceAnswer numbers line (priceTaken old x)) OutsideBounds)
+      factor-same indexed-same

@@ -1,17 +1,18 @@
--- "Steps for a line" of document 01, each half up, and the bounds of cause 11. The steps up to the indexed price take
--- the mean of each term as given; all later ones take the price that the line takes. Assumes nothing.
+-- "Steps for a line" of document 01, each half up, the bounds of cause 11, and which price a line takes in an interim
+-- fixing (W-201 of document 02). The steps up to the indexed price take the mean of each term as given; all later ones
+-- take the price that the line takes. Assumes nothing.
 use mathlib.Core.Path.{_≡_}
-use mathlib.Core.Bool.{Bool, cond, _&&_}
+use mathlib.Core.Bool.{Bool, true, cond, _&&_}
 use mathlib.Core.List.{List, [], _∷_}
 use mathlib.Core.Option.{Option, none, some}
-use Prim.Native.Nat.{ℕ, _*_}
+use Prim.Native.Nat.{ℕ, _+_, _-_, _*_}
 use lib.Dec.{leb, ltb, eqb}
-use lib.ListN.{getD}
-use Rattle.numbers.specs.Bounded.{sumBelow, firstBelow, filledBelow}
+use lib.ListN.{length, getD}
+use Rattle.numbers.specs.Bounded.{sumBelow, anyBelow, firstBelow, filledBelow}
 use Rattle.numbers.specs.Rounding.{halfUp}
-use Rattle.numbers.specs.Checks.{Met, Check, verdictOf, Judged}
+use Rattle.numbers.specs.Checks.{Met, Check, check, verdictOf, Judged}
 use Rattle.numbers.specs.declared.refusal.Refusal.{Refusal}
-use Rattle.numbers.specs.declared.refusal.Refusal.the-variants.{OutOfBounds}
+use Rattle.numbers.specs.declared.refusal.Refusal.the-variants.{OutOfBounds, NoLineMoved}
 use Rattle.numbers.specs.declared.refusal.Verdict.{Verdict}
 use Rattle.numbers.specs.declared.refusal.Verdict.the-variants.{Passed, Refused}
 use Rattle.numbers.specs.Units.{between, checkedPrice, noPrice}
@@ -74,9 +75,24 @@ lineIndexed mean line = indexedOf (line .«base_price») (indexFactor mean line)
 unfoldable pub indexedAllowed : (Term → ℕ) → Line → Bool
 indexedAllowed mean line = leb (indexFactor mean line) 100000000 && between 1 1000000 (lineIndexed mean line)
 
--- the price that a line takes: its new indexed price
-unfoldable pub priceTaken : ℕ → ℕ
-priceTaken indexed = indexed
+-- "The caller lends, line by line, the indexed price in force": that of line j. A regular fixing is lent none
+unfoldable pub priceInForce : List ℕ → ℕ → Option ℕ
+priceInForce inForce j = cond (ltb j (length inForce)) (some (getD inForce j 0)) none
+
+abbrev pub absoluteDifference : ℕ → ℕ → ℕ
+absoluteDifference one other = (one - other) + (other - one)
+
+-- whether a price moved by more than 10%: "if ten times the difference is more than the price in force; exactly 10%
+-- keeps the old one". With none in force, it did
+unfoldable pub moved : Option ℕ → ℕ → Bool
+moved none indexed = true
+moved (some old) indexed = ltb old (10 * absoluteDifference old indexed)
+
+-- the price that a line takes: the new indexed price where it moved, else the one in force; with none in force, so in a
+-- regular fixing, every new one
+unfoldable pub priceTaken : Option ℕ → ℕ → ℕ
+priceTaken none indexed = indexed
+priceTaken (some old) indexed = cond (moved (some old) indexed) indexed old
 
 -- the later steps, from the price taken
 unfoldable pub linePurchase : Line → ℕ → ℕ
@@ -92,42 +108,59 @@ unfoldable pub referenceAnswer : FixingNumbers → Line → ℕ → CheckedPrice
 referenceAnswer numbers line taken =
     cond (between 1 1000000 (linePurchase line taken)) (checkedPrice (lineReference numbers line taken)) OutsideBounds
 
--- the line's reference, or that its index factor or a price of it is out of bounds
-unfoldable pub priceAnswer : (Term → ℕ) → FixingNumbers → Line → CheckedPrice
-priceAnswer mean numbers line =
-    cond (indexedAllowed mean line) (referenceAnswer numbers line (priceTaken (lineIndexed mean line))) OutsideBounds
+-- the line's reference, or that its index factor or a price of it is out of bounds: "11 also tests every new indexed
+-- price", taken or not
+unfoldable pub priceAnswer : (Term → ℕ) → FixingNumbers → Line → Option ℕ → CheckedPrice
+priceAnswer mean numbers line old =
+    cond (indexedAllowed mean line)
+    (referenceAnswer numbers line (priceTaken old (lineIndexed mean line)))
+    OutsideBounds
+
+-- that of line j, with its price in force
+unfoldable pub answerAt : (Term → ℕ) → FixingNumbers → List ℕ → List ℕ → ℕ → CheckedPrice
+answerAt mean numbers lines inForce j = priceAnswer mean numbers (lineOf lines j) (priceInForce inForce j)
 
 -- the "first such line" of cause 11
 abbrev pub beyondAt : ℕ → CheckedPrice → Option ℕ
 beyondAt j (Within p) = none
 beyondAt j OutsideBounds = some j
 
-unfoldable pub beyondIn : (Term → ℕ) → FixingNumbers → List ℕ → ℕ → Option ℕ
-beyondIn mean numbers lines j = beyondAt j (priceAnswer mean numbers (lineOf lines j))
+unfoldable pub beyondIn : (Term → ℕ) → FixingNumbers → List ℕ → List ℕ → ℕ → Option ℕ
+beyondIn mean numbers lines inForce j = beyondAt j (answerAt mean numbers lines inForce j)
 
-unfoldable pub firstBeyond : (Term → ℕ) → FixingNumbers → List ℕ → Option ℕ
-firstBeyond mean numbers lines = firstBelow (lineCount lines) (beyondIn mean numbers lines)
+unfoldable pub firstBeyond : (Term → ℕ) → FixingNumbers → List ℕ → List ℕ → Option ℕ
+firstBeyond mean numbers lines inForce = firstBelow (lineCount lines) (beyondIn mean numbers lines inForce)
 
 -- 11: "factor or price out of bounds", with the "first such line"
 abbrev pub outOfBoundsAt : Option ℕ → Option Met
 outOfBoundsAt none = none
 outOfBoundsAt (some line) = some (record { refusal = OutOfBounds line; values = line ∷ [] })
 
-unfoldable pub boundsCheck : (Term → ℕ) → FixingNumbers → List ℕ → Check
-boundsCheck mean numbers lines = record { number = 11; met = outOfBoundsAt (firstBeyond mean numbers lines) }
+unfoldable pub boundsCheck : (Term → ℕ) → FixingNumbers → List ℕ → List ℕ → Check
+boundsCheck mean numbers lines inForce =
+    record { number = 11; met = outOfBoundsAt (firstBeyond mean numbers lines inForce) }
+
+-- whether a line's new indexed price moved; "14 when no line moved by more than 10%, checked after 11"
+unfoldable pub anyMoved : (Term → ℕ) → List ℕ → List ℕ → Bool
+anyMoved mean lines inForce =
+    anyBelow (lineCount lines) (λ j. moved (priceInForce inForce j) (lineIndexed mean (lineOf lines j)))
+
+unfoldable pub priceChecks : (Term → ℕ) → FixingNumbers → List ℕ → List ℕ → List Check
+priceChecks mean numbers lines inForce =
+    boundsCheck mean numbers lines inForce ∷ check 14 (anyMoved mean lines inForce) NoLineMoved ∷ []
 
 -- the reference of a line that has one
 abbrev pub priceOr : CheckedPrice → PesoPrice
 priceOr (Within p) = p
 priceOr OutsideBounds = noPrice
 
-unfoldable pub referencePrice : (Term → ℕ) → FixingNumbers → List ℕ → ℕ → PesoPrice
-referencePrice mean numbers lines j = priceOr (priceAnswer mean numbers (lineOf lines j))
+unfoldable pub referencePrice : (Term → ℕ) → FixingNumbers → List ℕ → List ℕ → ℕ → PesoPrice
+referencePrice mean numbers lines inForce j = priceOr (answerAt mean numbers lines inForce j)
 
 -- the references of all lines; the places past them are empty
-unfoldable pub referenceList : (Term → ℕ) → FixingNumbers → List ℕ → List PesoPrice
-referenceList mean numbers lines =
-    filledBelow mostLines noPrice (lineCount lines) (referencePrice mean numbers lines)
+unfoldable pub referenceList : (Term → ℕ) → FixingNumbers → List ℕ → List ℕ → List PesoPrice
+referenceList mean numbers lines inForce =
+    filledBelow mostLines noPrice (lineCount lines) (referencePrice mean numbers lines inForce)
 
 -- what the references come to by a verdict: the list where it is passed, none where it is refused
 unfoldable pub refusedReferences : Refusal → References
@@ -138,21 +171,22 @@ abbrev pub referencesBy : Verdict → List PesoPrice → References
 referencesBy Passed prices = record { prices = prices; verdict = Passed }
 referencesBy (Refused refusal) prices = refusedReferences refusal
 
-unfoldable pub boundedReferences : (Term → ℕ) → FixingNumbers → List ℕ → References
-boundedReferences mean numbers lines =
-    referencesBy (verdictOf (boundsCheck mean numbers lines ∷ [])) (referenceList mean numbers lines)
+unfoldable pub pricedReferences : (Term → ℕ) → FixingNumbers → List ℕ → List ℕ → References
+pricedReferences mean numbers lines inForce =
+    referencesBy (verdictOf (priceChecks mean numbers lines inForce)) (referenceList mean numbers lines inForce)
 
--- the checks that need the index table: month missing; factor or price out of bounds
-unfoldable pub tableChecks : List (List ℕ) → FixingNumbers → List ℕ → List Check
-tableChecks table numbers lines =
-    monthCheck (lacksMonth table numbers) lines ∷ boundsCheck (termMean table numbers) numbers lines ∷ []
+-- the checks that need the index table: month missing; then those of the prices
+unfoldable pub tableChecks : List (List ℕ) → FixingNumbers → List ℕ → List ℕ → List Check
+tableChecks table numbers lines inForce =
+    monthCheck (lacksMonth table numbers) lines ∷ priceChecks (termMean table numbers) numbers lines inForce
 
-unfoldable pub linesReferences : List (List ℕ) → FixingNumbers → List ℕ → References
-linesReferences table numbers lines =
-    referencesBy (verdictOf (tableChecks table numbers lines)) (referenceList (termMean table numbers) numbers lines)
+unfoldable pub linesReferences : List (List ℕ) → FixingNumbers → List ℕ → List ℕ → References
+linesReferences table numbers lines inForce =
+    referencesBy (verdictOf (tableChecks table numbers lines inForce))
+    (referenceList (termMean table numbers) numbers lines inForce)
 
 -- what pricing promises: it is the definition's, and its verdict has the number and values of the checks
-pub record ReferencesPromise (table : List (List ℕ)) (numbers : FixingNumbers) (lines : List ℕ) (given : References) :
-    Type 0 where
-  pub worked : given ≡ linesReferences table numbers lines
-  pub judged : Judged (given .verdict) (tableChecks table numbers lines)
+pub record ReferencesPromise (table : List (List ℕ)) (numbers : FixingNumbers) (lines inForce : List ℕ)
+    (given : References) : Type 0 where
+  pub worked : given ≡ linesReferences table numbers lines inForce
+  pub judged : Judged (given .verdict) (tableChecks table numbers lines inForce)

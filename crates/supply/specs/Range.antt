@@ -1,9 +1,10 @@
 -- The ranges of "Supply lines" of document 01, as the test that cause 6 makes of D, F, the first month and every word
--- of every line. Assumes nothing.
+-- of every line, and of the prices in force (W-201 of document 02). Assumes nothing.
 use mathlib.Core.Bool.{Bool, cond, _&&_, _||_}
 use mathlib.Core.List.{List}
 use Prim.Native.Nat.{ℕ}
 use lib.Dec.{leb, ltb, eqb}
+use lib.ListN.{length, getD}
 use Rattle.numbers.specs.Bounded.{sumBelow, allBelow}
 use Rattle.numbers.specs.Units.{between}
 use Rattle.series.specs.Series.{seriesCount, mostValue, lastMonth, windowAllowed}
@@ -68,6 +69,11 @@ numbersInRange numbers =
     && between 5000 20000 (numbers .«reference_factor»)
     && leb (numbers .«first_month») lastMonth
 
--- cause 6 is met where this is false
-unfoldable pub inputInRange : ℕ → FixingNumbers → List ℕ → Bool
-inputInRange n numbers lines = numbersInRange numbers && linesInRange n lines
+-- "the indexed price in force, 1 to 1,000,000"
+unfoldable pub inForceInRange : List ℕ → Bool
+inForceInRange inForce = allBelow (length inForce) (λ j. between 1 1000000 (getD inForce j 0))
+
+-- cause 6 is met where this is false; "a price in force out of range is 6"
+unfoldable pub inputInRange : ℕ → FixingNumbers → List ℕ → List ℕ → Bool
+inputInRange n numbers lines inForce =
+    numbersInRange numbers && linesInRange n lines && inForceInRange inForce

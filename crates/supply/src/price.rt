@@ -1,4 +1,5 @@
-// The steps from a line's base price to its reference, and the first line out of bounds (cause 11).
+// The steps from a line's base price to its reference, the first line out of bounds (cause 11), and whether any line
+// moved (cause 14).
 ghost use mathlib.Core.Path.{_≡_};
 ghost use mathlib.Core.Bool.{true};
 ghost use Prim.Native.Nat.{_≤_};
@@ -6,11 +7,12 @@ ghost use lib.ListN.{replicate};
 ghost use Rattle.numbers.specs.Units.{noPrice};
 ghost use Rattle.series.specs.Required.{ValuesWithin, TableInRange};
 ghost use Rattle.supply.specs.Line.{mostLines};
-ghost use Rattle.supply.specs.Price.{pesoOf, priceTaken, termRatio, weightedRatio, indexFactor};
-ghost use Rattle.supply.specs.Price.{referenceAnswer};
-ghost use Rattle.supply.specs.Price.{refusedReferences, boundedReferences, ReferencesPromise};
-ghost use Rattle.supply.specs.Listed.{listedMean, indexedOrZero, indexedList, indexedReference};
-ghost use Rattle.supply.specs.Required.{TermFacts, LineFacts, CheckedLines, NumbersFacts};
+ghost use Rattle.supply.specs.Price.{pesoOf, termRatio, weightedRatio, indexFactor};
+ghost use Rattle.supply.specs.Price.{priceInForce, absoluteDifference, moved, priceTaken, referenceAnswer};
+ghost use Rattle.supply.specs.Price.{refusedReferences, pricedReferences, ReferencesPromise};
+ghost use Rattle.supply.specs.Listed.{listedMean, indexedOrZero, indexedList, indexedReference, anyWordMoved};
+ghost use Rattle.supply.specs.Required.{TermFacts, LineFacts, CheckedLines, NumbersFacts, InForceFacts};
+ghost use Rattle.supply.specs.Required.{IndexedFacts};
 use crate::line::Line;
 use crate::line::MOST_LINES;
 use crate::line::MOST_TERMS;
@@ -112,11 +114,38 @@ fn indexed_prices(means: &[u64; MEANS], lines: &[u64]) -> [u64; MOST_LINES]
     indexed
 }
 
-// The price that a line takes: its new indexed price.
-fn price_taken(indexed: u64) -> u64
-    ensures { λ r. ⌜ r ≡ priceTaken indexed ⌝ }
+fn absolute_difference(one: u64, other: u64) -> u64
+    ensures { λ r. ⌜ r ≡ absoluteDifference one other ⌝ }
 {
-    indexed
+    if one < other {
+        other - one
+    } else {
+        one - other
+    }
+}
+
+// Whether a line's indexed price moved by more than 10% from the one in force. With none in force, it did.
+fn has_moved(in_force: &[u64], j: usize, indexed: u64) -> bool
+    requires { ⌜ InForceFacts (now in_force) ⌝ ∗ ⌜ indexed ≤ 1000000 ⌝ }
+    ensures { λ r. ⌜ r ≡ moved (priceInForce (now (in_force .entry)) j) indexed ⌝ }
+{
+    if j >= in_force.len() {
+        return true;
+    }
+    let old = in_force[j];
+    10 * absolute_difference(old, indexed) > old
+}
+
+// The price that a line takes: its new indexed price where it moved, else the one in force.
+fn price_taken(in_force: &[u64], j: usize, indexed: u64) -> u64
+    requires { ⌜ InForceFacts (now in_force) ⌝ ∗ ⌜ indexed ≤ 1000000 ⌝ }
+    ensures { λ r. ⌜ r ≡ priceTaken (priceInForce (now (in_force .entry)) j) indexed ⌝ }
+{
+    if has_moved(in_force, j, indexed) {
+        indexed
+    } else {
+        in_force[j]
+    }
 }
 
 // The reference of a line from the price taken: purchase, peso, reference. The bounds of a peso price are put to the
@@ -135,14 +164,37 @@ fn reference_price(numbers: FixingNumbers, line: Line, taken: u64) -> CheckedPri
 }
 
 // The reference of a line from its indexed price, or that its index factor or a price of it is out of bounds.
-fn price_line(numbers: FixingNumbers, line: Line, indexed: u64) -> CheckedPrice
-    requires { ⌜ NumbersFacts numbers ⌝ ∗ ⌜ LineFacts line ⌝ ∗ ⌜ indexed ≤ 1000000 ⌝ }
-    ensures { λ r. ⌜ r ≡ indexedReference numbers line indexed ⌝ }
+fn price_line(
+    numbers: FixingNumbers,
+    line: Line,
+    in_force: &[u64],
+    j: usize,
+    indexed: u64,
+) -> CheckedPrice
+    requires { ⌜ NumbersFacts numbers ⌝ ∗ ⌜ LineFacts line ⌝ ∗ ⌜ InForceFacts (now in_force) ⌝
+        ∗ ⌜ indexed ≤ 1000000 ⌝ }
+    ensures { λ r. ⌜ r ≡ indexedReference numbers line (priceInForce (now (in_force .entry)) j) indexed ⌝ }
 {
     if indexed == 0 {
         return CheckedPrice::OutsideBounds;
     }
-    reference_price(numbers, line, price_taken(indexed))
+    let taken = price_taken(in_force, j, indexed);
+    reference_price(numbers, line, taken)
+}
+
+// Whether any of the first indexed prices moved.
+fn any_moved(in_force: &[u64], indexed: &[u64; MOST_LINES], count: usize) -> bool
+    requires { ⌜ InForceFacts (now in_force) ⌝ ∗ ⌜ IndexedFacts (now indexed) count ⌝ }
+    ensures { λ r. ⌜ r ≡ anyWordMoved (now (in_force .entry)) (now (indexed .entry)) count ⌝ }
+{
+    let mut j: usize = 0;
+    while j < count {
+        if has_moved(in_force, j, indexed[j]) {
+            return true;
+        }
+        j += 1;
+    }
+    false
 }
 
 // The references of all lines, or why there are none.
@@ -169,17 +221,24 @@ fn refused(refusal: Refusal) -> References
     }
 }
 
-// The references of all lines, or the first line that is out of bounds.
-fn reference_prices(means: &[u64; MEANS], numbers: FixingNumbers, lines: &[u64]) -> References
-    requires { ⌜ ValuesWithin (now means) ⌝ ∗ ⌜ NumbersFacts numbers ⌝ ∗ ⌜ CheckedLines (now lines) ⌝ }
-    ensures { λ r. ⌜ r ≡ boundedReferences (listedMean (now (means .entry))) numbers (now (lines .entry)) ⌝ }
+// The references of all lines, or the first line that is out of bounds, or that no line moved.
+fn reference_prices(
+    means: &[u64; MEANS],
+    numbers: FixingNumbers,
+    lines: &[u64],
+    in_force: &[u64],
+) -> References
+    requires { ⌜ ValuesWithin (now means) ⌝ ∗ ⌜ NumbersFacts numbers ⌝ ∗ ⌜ CheckedLines (now lines) ⌝
+        ∗ ⌜ InForceFacts (now in_force) ⌝ }
+    ensures { λ r. ⌜ r ≡ pricedReferences (listedMean (now (means .entry))) numbers (now (lines .entry))
+        (now (in_force .entry)) ⌝ }
 {
     let count = line_count(lines);
     let indexed = indexed_prices(means, lines);
     let mut prices = no_references();
     let mut j: usize = 0;
     while j < count {
-        match price_line(numbers, line_at(lines, j), indexed[j]) {
+        match price_line(numbers, line_at(lines, j), in_force, j, indexed[j]) {
             CheckedPrice::Within(price) => {
                 prices[j] = price;
             }
@@ -189,6 +248,9 @@ fn reference_prices(means: &[u64; MEANS], numbers: FixingNumbers, lines: &[u64])
         }
         j += 1;
     }
+    if !any_moved(in_force, &indexed, count) {
+        return refused(Refusal::NoLineMoved);
+    }
     References {
         prices,
         verdict: Verdict::Passed,
@@ -196,18 +258,20 @@ fn reference_prices(means: &[u64; MEANS], numbers: FixingNumbers, lines: &[u64])
 }
 
 // The references of all lines from the index table: the first missing month (cause 10), then the first line out of
-// bounds (cause 11), then the prices.
+// bounds (cause 11), then whether any line moved (cause 14), then the prices.
 pub fn price_lines(
     table: [[u64; MONTHS]; SERIES],
     numbers: FixingNumbers,
     lines: &[u64],
+    in_force: &[u64],
 ) -> References
-    requires { ⌜ TableInRange table ⌝ ∗ ⌜ NumbersFacts numbers ⌝ ∗ ⌜ CheckedLines (now lines) ⌝ }
-    ensures { λ r. ⌜ ReferencesPromise table numbers (now (lines .entry)) r ⌝ }
+    requires { ⌜ TableInRange table ⌝ ∗ ⌜ NumbersFacts numbers ⌝ ∗ ⌜ CheckedLines (now lines) ⌝
+        ∗ ⌜ InForceFacts (now in_force) ⌝ }
+    ensures { λ r. ⌜ ReferencesPromise table numbers (now (lines .entry)) (now (in_force .entry)) r ⌝ }
 {
     let means = means(table, numbers.first_month, numbers.month);
     match search_months(&means, lines) {
         Verdict::Refused(refusal) => refused(refusal),
-        Verdict::Passed => reference_prices(&means, numbers, lines),
+        Verdict::Passed => reference_prices(&means, numbers, lines, in_force),
     }
 }

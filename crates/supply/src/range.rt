@@ -1,9 +1,9 @@
-// The ranges of document 01 for D, F, the first month and every word of every line (cause 6).
+// The ranges of D, F, the first month, every word of every line and the prices in force (cause 6).
 ghost use mathlib.Core.Path.{_≡_};
 ghost use mathlib.Core.Bool.{true};
 ghost use Rattle.supply.specs.Range.{headInRange, termInRange, termUnused, termAllowed, termsAllowed};
 ghost use Rattle.supply.specs.Range.{weightTotal};
-ghost use Rattle.supply.specs.Range.{lineInRange, linesInRange, numbersInRange, inputInRange};
+ghost use Rattle.supply.specs.Range.{lineInRange, linesInRange, numbersInRange, inForceInRange, inputInRange};
 use crate::line::Line;
 use crate::line::MOST_TERMS;
 use crate::line::Term;
@@ -129,9 +129,30 @@ fn numbers_in_range(numbers: FixingNumbers) -> bool
         & (numbers.first_month <= LAST_MONTH)
 }
 
-// Whether the dollar, the reference factor, the first month and every word of every line are in their ranges.
-pub fn input_in_range(n: usize, numbers: FixingNumbers, lines: &[u64]) -> bool
-    ensures { λ r. ⌜ r ≡ inputInRange n numbers (now (lines .entry)) ⌝ }
+// Every price in force.
+fn in_force_in_range(in_force: &[u64]) -> bool
+    ensures { λ r. ⌜ r ≡ inForceInRange (now (in_force .entry)) ⌝ }
 {
-    numbers_in_range(numbers) && lines_in_range(n, lines)
+    let mut j: usize = 0;
+    while j < in_force.len() {
+        if !is_between(1, 1000000, in_force[j]) {
+            return false;
+        }
+        j += 1;
+    }
+    true
+}
+
+// Whether the dollar, the reference factor, the first month, every word of every line and every price in force are in
+// their ranges.
+pub fn input_in_range(n: usize, numbers: FixingNumbers, lines: &[u64], in_force: &[u64]) -> bool
+    ensures { λ r. ⌜ r ≡ inputInRange n numbers (now (lines .entry)) (now (in_force .entry)) ⌝ }
+{
+    if !numbers_in_range(numbers) {
+        return false;
+    }
+    if !lines_in_range(n, lines) {
+        return false;
+    }
+    in_force_in_range(in_force)
 }

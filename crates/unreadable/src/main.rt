@@ -28,6 +28,14 @@ fn words() {
         b"a list by another's name",
         b"settle 0 losses 0 readings 0 transfers 0\n",
     );
+    report(
+        b"prices in force in a regular fixing",
+        b"fix 0 1 1 0 series 0 lines 0 sectors 0 inforce 0 prices 0\n",
+    );
+    report(
+        b"an interim fixing without prices in force",
+        b"interim 0 1 1 0 series 0 lines 0 sectors 0 prices 0\n",
+    );
     report(b"a comment in a word", b"op#en\n");
 }
 

@@ -8,7 +8,7 @@ use Rattle.text.specs.Buffer.{written}
 use Rattle.journal.specs.Form.{partCount, partAt, boundOf, numberOf, partsIn, FormHeld}
 use Rattle.journal.specs.Command.{longestList, commandForm}
 use Rattle.journal.specs.declared.command.Command.{Command}
-use Rattle.journal.specs.declared.command.Command.the-variants.{Fix, Settle, Load}
+use Rattle.journal.specs.declared.command.Command.the-variants.{Fix, Settle, Load, Interim}
 use borrow.Author.Needs.{needs}
 use Rattle.commands.proofs.run.make_command.Statement.{statement}
 use Rattle.commands.proofs.run.make_command.Tie as tie
@@ -44,7 +44,7 @@ make-command-spec =
     (λ c. search needs) (λ c κs. search needs) (λ c. search needs)
     (λ c κs. held (c .before .before .before .before .before .before) Load (c .before .enum-told5 .given .1))
     (λ c. search needs) (λ c. search needs)
-    (λ c κs. few (c .before .before .before .before .before .before) Fix (c .before .enum-told6 .given .1) 7
+    (λ c κs. few (c .before .before .before .before .before .before) Fix (c .before .enum-told6 .given .1) 8
     (omega arith) refl)
     (λ c κs. let t = c .before .before .before in
     (held (t .before .before .before .before .before) Fix (t .enum-told6 .given .1), c .before .lent .ensures))
@@ -53,6 +53,11 @@ make-command-spec =
     (omega arith) refl)
     (λ c κs. let t = c .before .before .before in
     (held (t .before .before .before .before .before) Settle (t .enum-told7 .given .1), c .before .lent2 .ensures))
+    (λ c. search needs) (λ c. search needs)
+    (λ c κs. few (c .before .before .before .before .before .before) Interim (c .before .enum-told8 .given .1) 8
+    (omega arith) refl)
+    (λ c κs. let t = c .before .before .before in
+    (held (t .before .before .before .before .before) Interim (t .enum-told8 .given .1), c .before .lent3 .ensures))
     returns
     returns-2
     (λ c. search needs)
@@ -63,7 +68,10 @@ make-command-spec =
     (λ c. let r = c .before .before in rw (r .before .before .enum-told5 .given .1) (r .run-load .ensures))
     (λ c. search needs) (λ c. search needs)
     (λ c. let r = c .before .before .before in
-    rw (r .before .before .before .before .enum-told6 .given .1) (r .run-fix .ensures))
+    rw (r .before .before .before .before .enum-told6 .given .1) (r .run-fixing .ensures))
     (λ c. search needs) (λ c. search needs)
     (λ c. let r = c .before .before .before in
-    rw (r .before .before .before .before .enum-told7 .given .1) (r .run-settle .ensures)))
+    rw (r .before .before .before .before .enum-told7 .given .1) (r .run-settle .ensures))
+    (λ c. search needs) (λ c. search needs)
+    (λ c. let r = c .before .before .before in
+    rw (r .before .before .before .before .enum-told8 .given .1) (r .run-fixing2 .ensures)))

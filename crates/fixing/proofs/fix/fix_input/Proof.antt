@@ -10,17 +10,20 @@ use Rattle.fixing.specs.Required.{OwnLines, CheckedInput}
 use Rattle.fixing.specs.Sector.{sectorsAllowed}
 use Rattle.fixing.specs.Input.{FixingInput, inputOf, ranged, supplied, inputChecks}
 use Rattle.fixing.proofs.AverageLaws.{energies-tell}
-use Rattle.fixing.proofs.VerdictLaws.{no-line, ranged-own, checked-own, checked-numbers, checked-table}
+use Rattle.fixing.proofs.VerdictLaws.{no-line, ranged-own, checked-own, checked-numbers, checked-in-force}
+use Rattle.fixing.proofs.VerdictLaws.{checked-table}
 use Rattle.fixing.proofs.VerdictLaws.{worked-refused, priced-refused, priced-accepted, priced-worked}
 use borrow.Author.Needs.{needs}
 use Rattle.fixing.proofs.fix.fix_input.Statement.{statement}
 use Rattle.fixing.proofs.fix.fix_input.Tie as tie
 
 abbrev input : tie.Start → FixingInput
-input s = inputOf (s .args .numbers) (s .args .series .now) (s .args .lines .now) (s .args .sectors .now)
+input s =
+    inputOf (s .args .numbers) (s .args .series .now) (s .args .lines .now) (s .args .sectors .now)
+    (s .args .in-force .now)
 
 abbrev start : tie.After-input-in-range → tie.Start
-start c = c .before .before .before .before
+start c = c .before .before .before .before .before
 
 -- what is known where a check is passed
 passed-six : (c : tie.Else1) → ranged (start (c .before) .args .n) (input (start (c .before))) ≡ true
@@ -115,7 +118,7 @@ price-lines-requires c κs =
     let s = begun (e .before .before .before) in
     let ok = passed-nine e in (
       checked-table _ (input s) ok _ (c .fill .ensures),
-      (checked-numbers _ (input s) ok, checked-own _ (input s) ok .checked),
+      (checked-numbers _ (input s) ok, (checked-own _ (input s) ok .checked, checked-in-force _ (input s) ok)),
     )
 
 -- what the pricing of the lines says

@@ -6,16 +6,16 @@ use Rattle.numbers.specs.Checks.{verdictOf}
 use Rattle.series.proofs.MeanLaws.{means-within}
 use Rattle.supply.specs.Listed.{listedMean, listedLacks}
 use Rattle.supply.specs.Months.{lacksMonth, monthCheck}
-use Rattle.supply.specs.Price.{boundedReferences}
+use Rattle.supply.specs.Price.{pricedReferences}
 use Rattle.supply.proofs.ListedLaws.{check-listed, references-listed}
-use Rattle.supply.proofs.ReferenceLaws.{references-promised, months-refused, months-present, months-bounded}
+use Rattle.supply.proofs.ReferenceLaws.{references-promised, months-refused, months-present, months-priced}
 use Rattle.supply.proofs.price.price_lines.Statement.{statement}
 use Rattle.supply.proofs.price.price_lines.Tie as tie
 
 -- the search is that of the table
 module _ (m : tie.After-search-months) where
   abbrev s : tie.Start
-  s = m .before .before .before .before
+  s = m .before .before .before .before .before
 
   searched : m .search-months .result ≡ verdictOf
       (monthCheck (lacksMonth (s .args .table) (s .args .numbers)) (s .args .lines .now) ∷ [])
@@ -24,10 +24,10 @@ module _ (m : tie.After-search-months) where
       ∙ ap (λ means. verdictOf (monthCheck (listedLacks means) (s .args .lines .now) ∷ []))
       (m .before .before .means .ensures)
       ∙ ap (λ check. verdictOf (check ∷ []))
-      (check-listed (s .args .table) (s .args .numbers) (s .args .lines .now) (s .pre .1 .1))
+      (check-listed (s .args .table) (s .args .numbers) (s .args .lines .now) (s .pre .1 .1 .0))
 
 means-requires : tie.Need-means-requires
-means-requires c κs = let s = c .before in (s .pre .0, s .pre .1 .0 .start)
+means-requires c κs = let s = c .before .before in (s .pre .0, s .pre .1 .0 .start)
 
 reference-prices-requires : tie.Need-reference-prices-requires
 reference-prices-requires c κs =
@@ -40,9 +40,9 @@ returns : tie.Need-returns
 returns c =
     let m = c .before .before .before .before in
     let a = s m .args in
-    references-promised (a .table) (a .numbers) (a .lines .now) _
+    references-promised (a .table) (a .numbers) (a .lines .now) (a .in-force .now) _
     (c .refused .ensures
-    ∙ sym (months-refused (a .table) (a .numbers) (a .lines .now) _
+    ∙ sym (months-refused (a .table) (a .numbers) (a .lines .now) (a .in-force .now) _
     (sym (searched m) ∙ c .before .before .refusal .given .1)))
 
 returns-2 : tie.Need-returns-2
@@ -50,13 +50,13 @@ returns-2 c =
     let m = c .before .before .before .before in
     let a = s m .args in
     let present = sym (searched m) ∙ c .before .before .enum-told .given .1 in
-    references-promised (a .table) (a .numbers) (a .lines .now) _
+    references-promised (a .table) (a .numbers) (a .lines .now) (a .in-force .now) _
     (c .reference-prices .ensures
-    ∙ ap (λ means. boundedReferences (listedMean means) (a .numbers) (a .lines .now))
+    ∙ ap (λ means. pricedReferences (listedMean means) (a .numbers) (a .lines .now) (a .in-force .now))
     (m .before .before .means .ensures)
-    ∙ references-listed (a .table) (a .numbers) (a .lines .now) (s m .pre .1 .1)
-    (months-present (a .table) (a .numbers) (a .lines .now) present)
-    ∙ sym (months-bounded (a .table) (a .numbers) (a .lines .now) present))
+    ∙ references-listed (a .table) (a .numbers) (a .lines .now) (s m .pre .1 .1 .0)
+    (months-present (a .table) (a .numbers) (a .lines .now) (a .in-force .now) present) (a .in-force .now)
+    ∙ sym (months-priced (a .table) (a .numbers) (a .lines .now) (a .in-force .now) present))
 
 pub price-lines-spec : {M : Type 1} → statement M
 price-lines-spec =

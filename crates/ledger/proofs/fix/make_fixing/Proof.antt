@@ -1,6 +1,6 @@
 -- Each test is the check of its cause, made where those before it are passed; what passes all is written and booked.
-use mathlib.Core.Path.{_≡_, refl, _∙_}
-use mathlib.Core.Bool.{true}
+use mathlib.Core.Path.{_≡_, refl, _∙_, ap₂}
+use mathlib.Core.Bool.{true, _&&_}
 use borrow.Author.Needs.{needs}
 use Rattle.numbers.specs.declared.refusal.Refusal.the-variants.{Unsound, WrongLength, OutOfTurn}
 use Rattle.numbers.specs.declared.refusal.Verdict.the-variants.{Passed}
@@ -10,37 +10,38 @@ use Rattle.fixing.specs.Required.{RightLengths}
 use Rattle.ledger.specs.Ledger.{anySettled, nextMonth}
 use Rattle.ledger.specs.Sound.{sound}
 use Rattle.ledger.specs.Turn.{fixingTurn}
-use Rattle.ledger.specs.Fix.{FixingCall, fixingCallOf, callLengths, fixingChecks, priceList}
+use Rattle.ledger.specs.Fix.{FixingCall, fixingCallOf, callLengths, fixingChecks}
 use Rattle.ledger.specs.declared.ledger.Ledger.{Ledger}
 use Rattle.ledger.proofs.SoundLaws.{sound-some, sound-few, sound-last}
 use Rattle.ledger.proofs.PassedLaws.{prices-small}
 use Rattle.ledger.proofs.CallLaws.{right-lengths}
 use Rattle.ledger.proofs.FixLaws.{prices-length, verdict-left, input-passes, fixed-accepted, fixed-refused}
-use Rattle.ledger.proofs.fix.fix.Statement.{statement}
-use Rattle.ledger.proofs.fix.fix.Tie as tie
+use Rattle.ledger.proofs.fix.make_fixing.Statement.{statement}
+use Rattle.ledger.proofs.fix.make_fixing.Tie as tie
 
 -- the ledger and the call, and what is known where each check is passed
 module _ (c : tie.Else1) where
   abbrev start : tie.Start
-  start = c .before .before .before .before .before
+  start = c .before .before .before .before .before .before
 
   abbrev ledger : Ledger
   ledger = start .args .ledger
 
   abbrev call : FixingCall
   call =
-      fixingCallOf (start .args .numbers) (start .args .series .now) (start .args .lines .now)
-      (start .args .sectors .now) (start .args .prices .now)
+      fixingCallOf (start .args .request .«is_interim») (start .args .request .numbers) (start .args .series .now)
+      (start .args .lines .now) (start .args .sectors .now) (start .args .in-force .now) (start .args .prices .now)
 
   whole : sound ledger ≡ true
   whole = told-true (c .before .is-sound .ensures) (c .if1 .left)
 
 module _ (c : tie.After-lengths-right) where
   abbrev two : tie.Else1
-  two = c .before .before
+  two = c .before .before .before
 
-  told : c .lengths-right .result ≡ callLengths (ledger two .n) (call two)
-  told = c .lengths-right .ensures
+  told : (c .lengths-right .result && c .before .before .in-force-right .result) ≡ callLengths (ledger two .n)
+      (call two)
+  told = ap₂ _&&_ (c .lengths-right .ensures) (c .before .before .in-force-right .ensures)
 
 lengths : (c : tie.Else2) → callLengths (ledger (two (c .before)) .n) (call (two (c .before))) ≡ true
 lengths c = told-true (told (c .before)) (c .if2 .left)
@@ -48,7 +49,7 @@ lengths c = told-true (told (c .before)) (c .if2 .left)
 -- the turn, by whether a month is settled and which comes next
 module _ (c : tie.After-in-turn) where
   abbrev counted : tie.Else2
-  counted = c .before .before .before
+  counted = c .before .before .before .before
 
   due : c .in-turn .result ≡ fixingTurn (anySettled (ledger (two (counted .before))))
       (nextMonth (ledger (two (counted .before)))) (call (two (counted .before)) .input .numbers .month)
@@ -118,9 +119,9 @@ module _ (c : tie.After-enum-told) where
   passed : worked .fix-input .result .verdict ≡ Passed
   passed = c .enum-told .given .1
 
-write-prices-requires : tie.Need-write-prices-requires
-write-prices-requires c κs =
-    let t = c .before .before .before .before .before .before in
+accept-requires : tie.Need-accept-requires
+accept-requires c κs =
+    let t = c .before in
     let g = worked t in
     let e = g .before in
     let b = ledger (from e) in
@@ -134,31 +135,30 @@ write-prices-requires c κs =
     )
 
 returns-5 : tie.Need-returns-5
-unfolding priceList
 returns-5 c =
-    let w = c .before .before .before in
-    let t = w .before .before .before .before .before .before .before in
+    let a = c .before in
+    let t = a .before .before in
     let g = worked t in
     let e = g .before in
     fixed-accepted (ledger (from e)) (call (from e)) (first e) _ (g .fix-input .ensures .worked) (right e) (passed t)
-    _ _ _ (c .before .accepted .ensures) (c .book-fixing .ensures) (w .write-prices .ensures)
+    _ _ (a .accept .ensures .0) (a .accept .ensures .1)
 
-pub fix-spec : {M : Type 1} → statement M
-fix-spec =
+pub make-fixing-spec : {M : Type 1} → statement M
+make-fixing-spec =
     tie.close
     (tie.spec
     (λ c κs. search needs) (λ c κs. search needs)
     returns
-    (λ c κs. sound-few _ (whole (c .before)))
+    (λ c κs. search needs) (λ c κs. sound-few _ (whole (c .before .before)))
     (λ c κs. search needs) (λ c. search needs)
     returns-2
-    (λ c κs. search needs) (λ c κs. sound-last _ (whole (two (c .before .before)))) (λ c κs. search needs)
+    (λ c κs. search needs) (λ c κs. sound-last _ (whole (two (c .before .before .before)))) (λ c κs. search needs)
     (λ c κs. search needs) (λ c. search needs)
     returns-3
     (λ c κs. right c)
     (λ c. search needs) (λ c κs. search needs) (λ c. search needs)
     returns-4
     (λ c. search needs)
-    write-prices-requires
-    (λ c κs. search needs) (λ c κs. search needs) (λ c. search needs)
+    accept-requires
+    (λ c. search needs)
     returns-5)

@@ -1,0 +1,34 @@
+-- The answer is that of the call.
+use mathlib.Core.Path.{refl, _∙_}
+use Rattle.commands.specs.Replay.{fixingCall, fixingText}
+use borrow.Author.Needs.{needs}
+use Rattle.commands.proofs.answer.run_fixing.Statement.{statement}
+use Rattle.commands.proofs.answer.run_fixing.Tie as tie
+
+returns : tie.Need-returns
+unfolding fixingCall fixingText
+returns c =
+    let w = c .before .before .before in
+    let n = w .before .before .before .before in
+    let m = n .before .before .before .before in
+    let promise = m .call-fixing .ensures in
+    record {
+      booked = promise .booked;
+      answered = w .write-answer .ensures
+          ∙ rw (
+            n .before .fixing-line .ensures,
+            n .before .before .fixing-name .ensures,
+            n .fixing-number .ensures,
+            promise .listed,
+            promise .answered,
+          )
+          refl;
+    }
+
+pub run-fixing-spec : {M : Type 1} → statement M
+run-fixing-spec =
+    tie.close
+    (tie.spec
+    (λ c κs. search needs) (λ c κs. search needs) (λ c κs. search needs) (λ c κs. search needs) (λ c. search needs)
+    (λ c κs. search needs) (λ c. search needs) (λ c. search needs)
+    returns)
