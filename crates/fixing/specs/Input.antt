@@ -12,7 +12,7 @@ use Rattle.numbers.specs.declared.units.Energy.{Energy}
 use Rattle.series.specs.Series.{seriesTable, valuesInRange}
 use Rattle.supply.specs.Range.{inputInRange}
 use Rattle.supply.specs.Months.{Place, lacksMonth, firstMissing}
-use Rattle.supply.specs.Price.{termMean, firstBeyond, anyMoved, tableChecks, referenceList}
+use Rattle.supply.specs.Price.{termMean, firstBeyond, anyLineMoved, tableChecks, referenceList}
 use Rattle.supply.specs.declared.line.Term.{Term}
 use Rattle.supply.specs.declared.market.FixingNumbers.{FixingNumbers}
 use Rattle.fixing.specs.Limit.{Distributors}
@@ -56,7 +56,7 @@ abbrev pub beyondLine : FixingInput → Option ℕ
 beyondLine input = firstBeyond (inputMean input) (input .numbers) (input .lines) (input .inForce)
 
 abbrev pub someMoved : FixingInput → Bool
-someMoved input = anyMoved (inputMean input) (input .lines) (input .inForce)
+someMoved input = anyLineMoved (inputMean input) (input .lines) (input .inForce)
 
 -- "Checks go by ascending number, each over the whole input": D, F, first month, a line's word or a price in force;
 -- series value too large; sector factor, or no sector; distributor without line; then those that need the index table

@@ -2,13 +2,12 @@
 ghost use mathlib.Core.Path.{_≡_};
 ghost use mathlib.Core.Bool.{false};
 ghost use Prim.Native.Nat.{_*_, _≤_, _<_};
-ghost use lib.Dec.{leb};
 ghost use lib.ListN.{length, getD};
 ghost use lib.IntN.{pos, natAbs};
 ghost use Rattle.numbers.specs.Bounded.{allBelow};
 ghost use Rattle.numbers.specs.Sizes.{mostDistributors, sectorCount};
 ghost use Rattle.numbers.specs.Units.{mostPrice};
-ghost use Rattle.fixing.specs.Sector.{mostFactor, factorAt, hasSector, sectorsAllowed};
+ghost use Rattle.fixing.specs.Sector.{hasSector, sectorsAllowed};
 ghost use Rattle.fixing.specs.Sector.{sectorCharge, sectorCharges, noCharges};
 ghost use Rattle.fixing.specs.Required.{ChargedSectors};
 use numbers::rounding::half_away;
@@ -16,6 +15,7 @@ use numbers::signed::difference;
 use numbers::sizes::MOST_DISTRIBUTORS;
 use numbers::sizes::PLACES;
 use numbers::sizes::SECTORS;
+use numbers::units::all_between;
 
 // Presence and charge of 8 sectors of 40 distributors: what a fixing puts in force, without its month.
 pub struct SectorCharges {
@@ -24,21 +24,6 @@ pub struct SectorCharges {
 }
 
 const MOST_FACTOR: u64 = 50000;
-
-// Whether no factor is too large.
-fn factors_allowed(n: usize, sectors: &[u64]) -> bool
-    requires { ⌜ n ≤ mostDistributors ⌝ ∗ ⌜ length (now sectors) ≡ n * sectorCount ⌝ }
-    ensures { λ r. ⌜ r ≡ allBelow (n * sectorCount) (λ k. leb (factorAt (now (sectors .entry)) k) mostFactor) ⌝ }
-{
-    let mut k: usize = 0;
-    while k < sectors.len() {
-        if sectors[k] > MOST_FACTOR {
-            return false;
-        }
-        k += 1;
-    }
-    true
-}
 
 // Whether distributor i has a sector.
 fn has_sector(n: usize, sectors: &[u64], i: usize) -> bool
@@ -75,7 +60,7 @@ pub(crate) fn sectors_allowed(n: usize, sectors: &[u64]) -> bool
     requires { ⌜ n ≤ mostDistributors ⌝ ∗ ⌜ length (now sectors) ≡ n * sectorCount ⌝ }
     ensures { λ r. ⌜ r ≡ sectorsAllowed n (now (sectors .entry)) ⌝ }
 {
-    factors_allowed(n, sectors) && all_have_sectors(n, sectors)
+    all_between(0, MOST_FACTOR, sectors) && all_have_sectors(n, sectors)
 }
 
 // The charge of a sector: the distributor's charge times the factor, in ten-thousandths.

@@ -5,9 +5,9 @@ use Rattle.numbers.specs.Bounded.{sumBelow, allBelow, anyBelow, firstBel
 use Rattle.numbers.specs.Checks.{verdictOf}
 use Rattle.numbers.specs.Rounding.{halfUp, halfAway, divideUp}
 use Rattle.numbers.specs.Signed.{isNegative, withinSize, signedSumBelow}
-use Rattle.numbers.specs.Units.{between, checkedPrice}
+use Rattle.numbers.specs.Units.{between, allBetween, checkedPrice}
 
 unfoldable pub numbersComputed : ℕ
 unfolding sumBelow allBelow anyBelow firstBelow listBelow filledBelow verdictOf halfUp halfAway divideUp isNegative
-    withinSize signedSumBelow between checkedPrice
+    withinSize signedSumBelow between allBetween checkedPrice
 numbersComputed = 0

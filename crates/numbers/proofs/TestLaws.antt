@@ -103,3 +103,24 @@ pub any-same : (k : ℕ) (s t : ℕ → Bool) → ((j : ℕ) → j < k → s j �
 unfolding anyBelow
 any-same zero s t h = refl
 any-same (suc k) s t h = ap₂ _||_ (any-same k s t (λ j p. h j (omega arith))) (h k (omega arith))
+
+-- a loop that looks for an index that passes a test and stops at the first: what holds where it comes to index k
+pub record Searched (bound : ℕ) (t : ℕ → Bool) (k : ℕ) : Type 0 where
+  pub most : k ≤ bound
+  pub none : anyBelow k t ≡ false
+
+pub searched-none : (bound : ℕ) (t : ℕ → Bool) → Searched bound t 0
+unfolding anyBelow
+searched-none bound t = record { most = omega arith; none = refl }
+
+module _ {bound : ℕ} {t : ℕ → Bool} {k : ℕ} (h : Searched bound t k) where
+  pub searched-more : k < bound → t k ≡ false → Searched bound t (k + 1)
+  searched-more p e = record { most = omega arith; none = any-more k t (h .none) e }
+
+  pub searched-found : k < bound → t k ≡ true → true ≡ anyBelow bound t
+  searched-found p e = sym (any-holds bound t k p e)
+
+  pub searched-all : bound ≤ k → false ≡ anyBelow bound t
+  searched-all p =
+      let e : k ≡ bound = omega arith in
+      sym (rw e at (h .none))

@@ -1,14 +1,18 @@
 -- What the test of a range says, and the number and values of a checked price. Assumes nothing.
-use mathlib.Core.Path.{_≡_, refl}
+use mathlib.Core.Path.{_≡_, refl, _∙_, ap}
 use mathlib.Core.Bool.{true}
-use mathlib.Core.List.{[], _∷_}
-use Prim.Native.Nat.{ℕ, _≤_}
+use mathlib.Core.List.{List, [], _∷_}
+use Prim.Native.Nat.{ℕ, _≤_, _<_}
+use native.Mathlib.Omega.{arith}
 use lib.Dec.{leb}
+use lib.ListN.{length, getD}
 use borrow.Author.Tests.{leb-true, le-leb}
-use Rattle.numbers.specs.Units.{leastPrice, mostPrice, between, checkedPrice, priceAnswered}
+use Rattle.numbers.specs.Units.{leastPrice, mostPrice, between, allBetween, checkedPrice, priceAnswered}
+use Rattle.numbers.specs.Bounded.{allBelow}
 use Rattle.numbers.specs.Checks.{acceptedWhere}
 use Rattle.numbers.specs.declared.units.CheckedPrice.the-variants.{Within, OutsideBounds}
 use Rattle.numbers.proofs.BoolLaws.{and-left, and-right}
+use Rattle.numbers.proofs.TestLaws.{all-at, all-same}
 use Rattle.numbers.proofs.CheckLaws.{picked}
 
 module _ (low high x : ℕ) where
@@ -23,6 +27,20 @@ module _ (low high x : ℕ) where
   pub between-yes : low ≤ x → x ≤ high → between low high x ≡ true
   unfolding between
   between-yes p q = rw (le-leb low x p, le-leb x high q)
+
+-- each word of a list
+pub all-between-at : (low high : ℕ) (words : List ℕ) → allBetween low high words ≡ true → (j : ℕ) → j < length words →
+    between low high (getD words j 0) ≡ true
+unfolding allBetween
+all-between-at low high words = all-at (length words) (λ j. between low high (getD words j 0))
+
+-- where the least is 0, only the greatest is asked for
+pub between-zero : (high : ℕ) (words : List ℕ) (size : ℕ) → length words ≡ size →
+    allBetween 0 high words ≡ allBelow size (λ j. leb (getD words j 0) high)
+unfolding allBetween between
+between-zero high words size e =
+    all-same (length words) _ _ (λ j p. rw (le-leb 0 (getD words j 0) (omega arith)))
+    ∙ ap (λ k. allBelow k (λ j. leb (getD words j 0) high)) e
 
 pub price-told : (word : ℕ) →
     priceAnswered (checkedPrice word) ≡ acceptedWhere (between leastPrice mostPrice word) (word ∷ []) 11

@@ -1,10 +1,12 @@
 -- The units of document 01: "Peso price, energy and money are kept apart as units", and the bounds that "belong to
 -- the peso price itself". Assumes nothing.
 use mathlib.Core.Bool.{Bool, cond, _&&_}
-use mathlib.Core.List.{[], _∷_}
+use mathlib.Core.List.{List, [], _∷_}
 use Prim.Native.Nat.{ℕ}
 use lib.Dec.{leb}
+use lib.ListN.{length, getD}
 use lib.IntN.{pos}
+use Rattle.numbers.specs.Bounded.{allBelow}
 use Rattle.numbers.specs.Refusal.{Answered, accepted, withoutValues}
 use Rattle.numbers.specs.declared.units.PesoPrice.{PesoPrice}
 use Rattle.numbers.specs.declared.units.Energy.{Energy}
@@ -38,11 +40,15 @@ mostPrice = 2000000
 unfoldable pub between : ℕ → ℕ → ℕ → Bool
 between low high x = leb low x && leb x high
 
+-- so for every word of a list
+unfoldable pub allBetween : ℕ → ℕ → List ℕ → Bool
+allBetween low high words = allBelow (length words) (λ j. between low high (getD words j 0))
+
 -- the price of a word, where it keeps the bounds
 unfoldable pub checkedPrice : ℕ → CheckedPrice
 checkedPrice word = cond (between leastPrice mostPrice word) (Within (record { 0 = word })) OutsideBounds
 
--- 01's number for each answer (0: accepted), and the values returned with it
+-- the number of each answer (0: accepted), and the values returned with it
 abbrev pub priceAnswered : CheckedPrice → Answered
 priceAnswered (Within p) = accepted (p .0 ∷ [])
 priceAnswered OutsideBounds = withoutValues 11

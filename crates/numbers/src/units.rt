@@ -3,7 +3,7 @@
 ghost use mathlib.Core.Path.{_≡_};
 ghost use mathlib.Core.List.{[], _∷_};
 ghost use Rattle.numbers.specs.Checks.{Promised, acceptedWhere};
-ghost use Rattle.numbers.specs.Units.{leastPrice, mostPrice, between, checkedPrice, priceAnswered};
+ghost use Rattle.numbers.specs.Units.{leastPrice, mostPrice, between, allBetween, checkedPrice, priceAnswered};
 
 // A peso price, in 0.001 $/kWh.
 pub struct PesoPrice(pub u64);
@@ -47,4 +47,18 @@ pub fn is_between(low: u64, high: u64, x: u64) -> bool
     ensures { λ r. ⌜ r ≡ between low high x ⌝ }
 {
     (low <= x) & (x <= high)
+}
+
+// Whether it is so for every word.
+pub fn all_between(low: u64, high: u64, words: &[u64]) -> bool
+    ensures { λ r. ⌜ r ≡ allBetween low high (now (words .entry)) ⌝ }
+{
+    let mut j: usize = 0;
+    while j < words.len() {
+        if !is_between(low, high, words[j]) {
+            return false;
+        }
+        j += 1;
+    }
+    true
 }

@@ -3,6 +3,7 @@ ghost use mathlib.Core.Path.{_≡_};
 ghost use Prim.Native.Nat.{_<_};
 ghost use lib.ListN.{length};
 ghost use Rattle.series.specs.Series.{seriesCount, wordCount, seriesRow, seriesTable, valuesInRange};
+use numbers::units::all_between;
 
 // The greatest month number.
 pub const LAST_MONTH: u64 = 1199;
@@ -48,12 +49,5 @@ pub fn values_in_range(words: &[u64]) -> bool
     requires { ⌜ length (now words) ≡ wordCount ⌝ }
     ensures { λ r. ⌜ r ≡ valuesInRange (now (words .entry)) ⌝ }
 {
-    let mut j: usize = 0;
-    while j < WORDS {
-        if words[j] > MOST_VALUE {
-            return false;
-        }
-        j += 1;
-    }
-    true
+    all_between(0, MOST_VALUE, words)
 }

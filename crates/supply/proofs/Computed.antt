@@ -7,17 +7,16 @@ use Rattle.supply.specs.Months.{lacksMonth, missingTerm, missingInLine, 
 use Rattle.supply.specs.Price.{ratioOf, indexedOf, purchaseOf, pesoOf, referenceOf, termMean, termRatio}
 use Rattle.supply.specs.Price.{weightedRatio, indexFactor, lineIndexed, indexedAllowed}
 use Rattle.supply.specs.Price.{priceInForce, moved, priceTaken, linePurchase, lineReference}
-use Rattle.supply.specs.Price.{referenceAnswer, priceAnswer, answerAt, beyondIn, anyMoved, priceChecks}
-use Rattle.supply.specs.Price.{firstBeyond, boundsCheck, referencePrice, referenceList, tableChecks}
+use Rattle.supply.specs.Price.{referenceAnswer, priceAnswer, answerAt, beyondIn, anyMoved, anyLineMoved}
+use Rattle.supply.specs.Price.{firstBeyond, boundsCheck, priceChecks, referencePrice, referenceList, tableChecks}
 use Rattle.supply.specs.Range.{headInRange, termInRange, termUnused, termAllowed, termsAllowed, weightTotal}
-use Rattle.supply.specs.Range.{weightsAllowed, lineInRange, linesInRange, numbersInRange, inForceInRange}
-use Rattle.supply.specs.Range.{inputInRange}
+use Rattle.supply.specs.Range.{weightsAllowed, lineInRange, linesInRange, numbersInRange, inputInRange}
 
 unfoldable pub supplyComputed : ℕ
 unfolding seriesComputed termFrom lineOf lacksMonth missingTerm missingInLine firstMissing monthCheck ratioOf
     indexedOf purchaseOf pesoOf referenceOf termMean termRatio weightedRatio indexFactor lineIndexed indexedAllowed
     priceInForce moved priceTaken linePurchase lineReference referenceAnswer priceAnswer answerAt
-    beyondIn firstBeyond boundsCheck anyMoved priceChecks
+    beyondIn firstBeyond boundsCheck anyMoved anyLineMoved priceChecks
     referencePrice referenceList tableChecks headInRange termInRange termUnused termAllowed termsAllowed weightTotal
-    weightsAllowed lineInRange linesInRange numbersInRange inForceInRange inputInRange
+    weightsAllowed lineInRange linesInRange numbersInRange inputInRange
 supplyComputed = 0

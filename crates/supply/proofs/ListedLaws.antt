@@ -21,8 +21,8 @@ use Rattle.supply.specs.Line.{mostLines, lineCount, lineOf, termOf}
 use Rattle.supply.specs.Months.{lacksMonth, firstMissing, monthCheck, missingAt}
 use Rattle.supply.specs.Listed.{listedMean, listedLacks}
 use Rattle.supply.specs.Price.{termMean, priceInForce, moved, answerAt, priceOr, referencePrice, referenceList}
-use Rattle.supply.specs.Price.{beyondAt, beyondIn, firstBeyond, boundsCheck, anyMoved, priceChecks}
-use Rattle.supply.specs.Price.{pricedReferences}
+use Rattle.supply.specs.Price.{beyondAt, beyondIn, firstBeyond, boundsCheck, anyMoved, anyLineMoved}
+use Rattle.supply.specs.Price.{priceChecks, pricedReferences}
 use Rattle.supply.specs.Required.{TermFacts, CheckedLines}
 use Rattle.supply.specs.declared.line.Term.{Term}
 use Rattle.supply.specs.declared.market.FixingNumbers.{FixingNumbers}
@@ -104,8 +104,9 @@ module _ (table : List (List ℕ)) (numbers : FixingNumbers) where
             (beyondIn (termMean table numbers) numbers lines inForce) (lineCount lines)
             (λ j p. ap (beyondAt j) (answer-listed j p))
 
-        moved-listed : anyMoved (listedMean means) lines inForce ≡ anyMoved (termMean table numbers) lines inForce
-        unfolding anyMoved
+        moved-listed : anyLineMoved (listedMean means) lines inForce ≡ anyLineMoved (termMean table numbers) lines
+            inForce
+        unfolding anyMoved anyLineMoved
         moved-listed =
             any-same (lineCount lines) _ _
             (λ j p. ap (moved (priceInForce inForce j))

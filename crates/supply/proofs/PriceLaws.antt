@@ -35,8 +35,8 @@ use Rattle.supply.specs.Price.{ratioOf, termRatio, weightedRatio, indexF
 use Rattle.supply.specs.Price.{priceInForce, moved, priceTaken}
 use Rattle.supply.specs.Price.{linePurchase, lineReference, indexedAllowed, referenceAnswer, priceAnswer}
 use Rattle.supply.specs.Price.{answerAt, beyondAt, beyondIn, firstBeyond, outOfBoundsAt, boundsCheck}
-use Rattle.supply.specs.Price.{anyMoved, priceChecks, priceOr, referencePrice}
-use Rattle.supply.specs.Listed.{indexedOrZero, indexedList, indexedReference, anyWordMoved}
+use Rattle.supply.specs.Price.{anyMoved, anyLineMoved, priceChecks, priceOr, referencePrice}
+use Rattle.supply.specs.Listed.{indexedOrZero, indexedList, indexedReference}
 use Rattle.supply.specs.Required.{TermFacts, InForceFacts}
 use Rattle.supply.specs.declared.line.Term.{Term}
 use Rattle.supply.specs.declared.line.Line.{Line}
@@ -213,8 +213,8 @@ module _ (mean : Term → ℕ) (numbers : FixingNumbers) (lines inForce : List �
 
   -- and the words tell whether any line moved
   pub words-moved : firstBeyond mean numbers lines inForce ≡ none → lineCount lines ≤ mostLines →
-      anyWordMoved inForce (indexedList mean lines) (lineCount lines) ≡ anyMoved mean lines inForce
-  unfolding anyWordMoved anyMoved
+      anyMoved inForce (lineCount lines) (λ j. getD (indexedList mean lines) j 0) ≡ anyLineMoved mean lines inForce
+  unfolding anyMoved anyLineMoved
   words-moved h few =
       any-same (lineCount lines) _ _
       (λ j p. ap (moved (priceInForce inForce j)) (indexed-at mean lines j p few ∙ word-indexed h j p))
@@ -226,12 +226,12 @@ module _ (mean : Term → ℕ) (numbers : FixingNumbers) (lines inForce : List �
   prices-beyond j h = rw h
 
   module _ (h : firstBeyond mean numbers lines inForce ≡ none) where
-    pub prices-unmoved : anyMoved mean lines inForce ≡ false →
+    pub prices-unmoved : anyLineMoved mean lines inForce ≡ false →
         verdictOf (priceChecks mean numbers lines inForce) ≡ Refused NoLineMoved
     unfolding priceChecks boundsCheck verdictOf
     prices-unmoved e = rw (h, e)
 
-    pub prices-passed : anyMoved mean lines inForce ≡ true → verdictOf (priceChecks mean numbers lines inForce) ≡ Passed
+    pub prices-passed : anyLineMoved mean lines inForce ≡ true → verdictOf (priceChecks mean numbers lines inForce) ≡ Passed
     unfolding priceChecks boundsCheck verdictOf
     prices-passed e = rw (h, e)
 
@@ -240,7 +240,7 @@ module _ (mean : Term → ℕ) (numbers : FixingNumbers) (lines inForce : List �
   unfolding priceChecks boundsCheck AllTold
   prices-told = (
     go (firstBeyond mean numbers lines inForce),
-    (check-told 14 (anyMoved mean lines inForce) NoLineMoved refl, tt),
+    (check-told 14 (anyLineMoved mean lines inForce) NoLineMoved refl, tt),
   )
     where
       go : (o : Option ℕ) → Told (record { number = 11; met = outOfBoundsAt o })

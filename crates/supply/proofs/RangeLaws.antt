@@ -9,14 +9,14 @@ use native.Mathlib.Decide.{decLt}
 use lib.Dec.{leb, ltb, eqb}
 use lib.ListN.{length, getD, List·getD-eq-default}
 use borrow.Author.Tests.{leb-true, ltb-true, eqb-true, lt-ltb}
-use Rattle.numbers.specs.Units.{between}
+use Rattle.numbers.specs.Units.{between, allBetween}
 use Rattle.numbers.proofs.BoolLaws.{and-left, and-right, and-three, and-five, and-six}
 use Rattle.numbers.proofs.TestLaws.{all-at}
-use Rattle.numbers.proofs.UnitLaws.{between-low, between-high}
+use Rattle.numbers.proofs.UnitLaws.{between-low, between-high, all-between-at}
 use Rattle.series.specs.Series.{seriesCount, mostValue, lastMonth, windowAllowed}
 use Rattle.supply.specs.Line.{mostLines, mostTerms, lineCount, lineOf, termOf}
 use Rattle.supply.specs.Range.{headInRange, termInRange, termUnused, termAllowed, termsAllowed, weightsAllowed}
-use Rattle.supply.specs.Range.{lineInRange, linesInRange, numbersInRange, inForceInRange, inputInRange}
+use Rattle.supply.specs.Range.{lineInRange, linesInRange, numbersInRange, inputInRange}
 use Rattle.supply.specs.Required.{TermFacts, LineFacts, NumbersFacts, CheckedLines, InForceFacts}
 use Rattle.supply.specs.declared.line.Term.{Term}
 use Rattle.supply.specs.declared.line.Line.{Line}
@@ -136,20 +136,19 @@ numbers-facts numbers h =
       start = leb-true _ _ (p .2);
     }
 
-in-force-facts : (inForce : List ℕ) → inForceInRange inForce ≡ true → InForceFacts inForce
-unfolding inForceInRange
+in-force-facts : (inForce : List ℕ) → allBetween 1 1000000 inForce ≡ true → InForceFacts inForce
 in-force-facts inForce h = record { most = λ j. go j (decLt j (length inForce)) }
   where
     go : (j : ℕ) → Dec (j < length inForce) → getD inForce j 0 ≤ 1000000
-    go j (yes p) = between-high 1 1000000 _ (all-at (length inForce) (λ i. between 1 1000000 (getD inForce i 0)) h j p)
+    go j (yes p) = between-high 1 1000000 _ (all-between-at 1 1000000 inForce h j p)
     go j (no p) = omega (arith, List·getD-eq-default inForce 0 {n = j} (omega arith))
 
 -- the parts of the test of the input
 module _ (n : ℕ) (numbers : FixingNumbers) (lines inForce : List ℕ) (h : inputInRange n numbers lines inForce ≡ true)
   where
-    input-parts : (numbersInRange numbers ≡ true) × (linesInRange n lines ≡ true) × (inForceInRange inForce ≡ true)
+    input-parts : (numbersInRange numbers ≡ true) × (linesInRange n lines ≡ true) × (allBetween 1 1000000 inForce ≡ true)
     unfolding inputInRange
-    input-parts = and-three (numbersInRange numbers) (linesInRange n lines) (inForceInRange inForce) h
+    input-parts = and-three (numbersInRange numbers) (linesInRange n lines) (allBetween 1 1000000 inForce) h
 
     pub input-numbers : NumbersFacts numbers
     input-numbers = numbers-facts numbers (input-parts .0)

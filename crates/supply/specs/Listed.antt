@@ -6,14 +6,12 @@ use mathlib.Core.List.{List}
 use mathlib.Core.Option.{Option}
 use Prim.Native.Nat.{ℕ}
 use lib.Dec.{eqb}
-use lib.ListN.{getD}
-use Rattle.numbers.specs.Bounded.{anyBelow, filledBelow}
+use Rattle.numbers.specs.Bounded.{filledBelow}
 use Rattle.numbers.specs.declared.units.CheckedPrice.{CheckedPrice}
 use Rattle.numbers.specs.declared.units.CheckedPrice.the-variants.{OutsideBounds}
 use Rattle.series.specs.Means.{meanAt}
 use Rattle.supply.specs.Line.{mostLines, lineCount, lineOf}
-use Rattle.supply.specs.Price.{lineIndexed, indexedAllowed, priceInForce, moved, priceTaken}
-use Rattle.supply.specs.Price.{referenceAnswer}
+use Rattle.supply.specs.Price.{lineIndexed, indexedAllowed, priceTaken, referenceAnswer}
 use Rattle.supply.specs.declared.line.Term.{Term}
 use Rattle.supply.specs.declared.line.Line.{Line}
 use Rattle.supply.specs.declared.market.FixingNumbers.{FixingNumbers}
@@ -36,7 +34,3 @@ indexedList mean lines = filledBelow mostLines 0 (lineCount lines) (λ j. indexe
 unfoldable pub indexedReference : FixingNumbers → Line → Option ℕ → ℕ → CheckedPrice
 indexedReference numbers line old indexed =
     cond (eqb indexed 0) OutsideBounds (referenceAnswer numbers line (priceTaken old indexed))
-
--- whether any of the first words moved
-unfoldable pub anyWordMoved : List ℕ → List ℕ → ℕ → Bool
-anyWordMoved inForce indexed count = anyBelow count (λ j. moved (priceInForce inForce j) (getD indexed j 0))

@@ -140,14 +140,17 @@ unfoldable pub boundsCheck : (Term → ℕ) → FixingNumbers → List ℕ → L
 boundsCheck mean numbers lines inForce =
     record { number = 11; met = outOfBoundsAt (firstBeyond mean numbers lines inForce) }
 
--- whether a line's new indexed price moved; "14 when no line moved by more than 10%, checked after 11"
-unfoldable pub anyMoved : (Term → ℕ) → List ℕ → List ℕ → Bool
-anyMoved mean lines inForce =
-    anyBelow (lineCount lines) (λ j. moved (priceInForce inForce j) (lineIndexed mean (lineOf lines j)))
+-- whether any of the first prices moved from the one in force
+unfoldable pub anyMoved : List ℕ → ℕ → (ℕ → ℕ) → Bool
+anyMoved inForce count indexed = anyBelow count (λ j. moved (priceInForce inForce j) (indexed j))
+
+-- whether a line's new indexed price did; "14 when no line moved by more than 10%, checked after 11"
+unfoldable pub anyLineMoved : (Term → ℕ) → List ℕ → List ℕ → Bool
+anyLineMoved mean lines inForce = anyMoved inForce (lineCount lines) (λ j. lineIndexed mean (lineOf lines j))
 
 unfoldable pub priceChecks : (Term → ℕ) → FixingNumbers → List ℕ → List ℕ → List Check
 priceChecks mean numbers lines inForce =
-    boundsCheck mean numbers lines inForce ∷ check 14 (anyMoved mean lines inForce) NoLineMoved ∷ []
+    boundsCheck mean numbers lines inForce ∷ check 14 (anyLineMoved mean lines inForce) NoLineMoved ∷ []
 
 -- the reference of a line that has one
 abbrev pub priceOr : CheckedPrice → PesoPrice

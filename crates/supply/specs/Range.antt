@@ -4,9 +4,8 @@ use mathlib.Core.Bool.{Bool, cond, _&&_, _||_}
 use mathlib.Core.List.{List}
 use Prim.Native.Nat.{ℕ}
 use lib.Dec.{leb, ltb, eqb}
-use lib.ListN.{length, getD}
 use Rattle.numbers.specs.Bounded.{sumBelow, allBelow}
-use Rattle.numbers.specs.Units.{between}
+use Rattle.numbers.specs.Units.{between, allBetween}
 use Rattle.series.specs.Series.{seriesCount, mostValue, lastMonth, windowAllowed}
 use Rattle.supply.specs.Line.{mostTerms, lineCount, lineOf, termOf}
 use Rattle.supply.specs.declared.line.Term.{Term}
@@ -69,11 +68,7 @@ numbersInRange numbers =
     && between 5000 20000 (numbers .«reference_factor»)
     && leb (numbers .«first_month») lastMonth
 
--- "the indexed price in force, 1 to 1,000,000"
-unfoldable pub inForceInRange : List ℕ → Bool
-inForceInRange inForce = allBelow (length inForce) (λ j. between 1 1000000 (getD inForce j 0))
-
--- cause 6 is met where this is false; "a price in force out of range is 6"
+-- cause 6 is met where this is false; "the indexed price in force, 1 to 1,000,000", "out of range is 6"
 unfoldable pub inputInRange : ℕ → FixingNumbers → List ℕ → List ℕ → Bool
 inputInRange n numbers lines inForce =
-    numbersInRange numbers && linesInRange n lines && inForceInRange inForce
+    numbersInRange numbers && linesInRange n lines && allBetween 1 1000000 inForce

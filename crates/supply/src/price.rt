@@ -3,14 +3,14 @@
 ghost use mathlib.Core.Path.{_≡_};
 ghost use mathlib.Core.Bool.{true};
 ghost use Prim.Native.Nat.{_≤_};
-ghost use lib.ListN.{replicate};
+ghost use lib.ListN.{replicate, getD};
 ghost use Rattle.numbers.specs.Units.{noPrice};
 ghost use Rattle.series.specs.Required.{ValuesWithin, TableInRange};
 ghost use Rattle.supply.specs.Line.{mostLines};
 ghost use Rattle.supply.specs.Price.{pesoOf, termRatio, weightedRatio, indexFactor};
-ghost use Rattle.supply.specs.Price.{priceInForce, absoluteDifference, moved, priceTaken, referenceAnswer};
+ghost use Rattle.supply.specs.Price.{priceInForce, absoluteDifference, moved, priceTaken, referenceAnswer, anyMoved};
 ghost use Rattle.supply.specs.Price.{refusedReferences, pricedReferences, ReferencesPromise};
-ghost use Rattle.supply.specs.Listed.{listedMean, indexedOrZero, indexedList, indexedReference, anyWordMoved};
+ghost use Rattle.supply.specs.Listed.{listedMean, indexedOrZero, indexedList, indexedReference};
 ghost use Rattle.supply.specs.Required.{TermFacts, LineFacts, CheckedLines, NumbersFacts, InForceFacts};
 ghost use Rattle.supply.specs.Required.{IndexedFacts};
 use crate::line::Line;
@@ -185,7 +185,7 @@ fn price_line(
 // Whether any of the first indexed prices moved.
 fn any_moved(in_force: &[u64], indexed: &[u64; MOST_LINES], count: usize) -> bool
     requires { ⌜ InForceFacts (now in_force) ⌝ ∗ ⌜ IndexedFacts (now indexed) count ⌝ }
-    ensures { λ r. ⌜ r ≡ anyWordMoved (now (in_force .entry)) (now (indexed .entry)) count ⌝ }
+    ensures { λ r. ⌜ r ≡ anyMoved (now (in_force .entry)) count (λ j. getD (now (indexed .entry)) j 0) ⌝ }
 {
     let mut j: usize = 0;
     while j < count {

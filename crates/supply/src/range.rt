@@ -3,13 +3,14 @@ ghost use mathlib.Core.Path.{_≡_};
 ghost use mathlib.Core.Bool.{true};
 ghost use Rattle.supply.specs.Range.{headInRange, termInRange, termUnused, termAllowed, termsAllowed};
 ghost use Rattle.supply.specs.Range.{weightTotal};
-ghost use Rattle.supply.specs.Range.{lineInRange, linesInRange, numbersInRange, inForceInRange, inputInRange};
+ghost use Rattle.supply.specs.Range.{lineInRange, linesInRange, numbersInRange, inputInRange};
 use crate::line::Line;
 use crate::line::MOST_TERMS;
 use crate::line::Term;
 use crate::line::line_at;
 use crate::line::line_count;
 use crate::market::FixingNumbers;
+use numbers::units::all_between;
 use numbers::units::is_between;
 use series::mean::window_allowed;
 use series::table::LAST_MONTH;
@@ -129,20 +130,6 @@ fn numbers_in_range(numbers: FixingNumbers) -> bool
         & (numbers.first_month <= LAST_MONTH)
 }
 
-// Every price in force.
-fn in_force_in_range(in_force: &[u64]) -> bool
-    ensures { λ r. ⌜ r ≡ inForceInRange (now (in_force .entry)) ⌝ }
-{
-    let mut j: usize = 0;
-    while j < in_force.len() {
-        if !is_between(1, 1000000, in_force[j]) {
-            return false;
-        }
-        j += 1;
-    }
-    true
-}
-
 // Whether the dollar, the reference factor, the first month, every word of every line and every price in force are in
 // their ranges.
 pub fn input_in_range(n: usize, numbers: FixingNumbers, lines: &[u64], in_force: &[u64]) -> bool
@@ -154,5 +141,5 @@ pub fn input_in_range(n: usize, numbers: FixingNumbers, lines: &[u64], in_force:
     if !lines_in_range(n, lines) {
         return false;
     }
-    in_force_in_range(in_force)
+    all_between(1, 1000000, in_force)
 }

@@ -1,46 +1,31 @@
 -- The invariant: no mean passed is 0.
-use mathlib.Core.Path.{_≡_, refl, sym}
-use mathlib.Core.Bool.{false}
-use Prim.Native.Nat.{_-_, _≤_}
+use Prim.Native.Nat.{_-_}
 use native.Mathlib.Omega.{arith}
 use lib.Dec.{eqb}
 use lib.ListN.{getD}
 use borrow.Author.Tests.{eq-eqb, ne-eqb}
 use Rattle.series.specs.Means.{meanCount}
-use Rattle.numbers.specs.Bounded.{anyBelow}
-use Rattle.numbers.proofs.TestLaws.{any-more, any-holds}
+use Rattle.numbers.proofs.TestLaws.{Searched, searched-none, searched-more, searched-found, searched-all}
 use Rattle.supply.proofs.months.any_missing.Statement.{statement}
 use Rattle.supply.proofs.months.any_missing.Tie as tie
 
 abbrev Inv-loop : tie.InvT-loop
-Inv-loop means k₀ k = (k ≤ meanCount) × (anyBelow k (λ i. eqb (getD means i 0) 0) ≡ false)
+Inv-loop means k₀ k = Searched meanCount (λ i. eqb (getD means i 0) 0) k
 
 abbrev μ-loop : tie.MeasureT-loop
 μ-loop means k₀ k = meanCount - k
 
 loop-holds : tie.Need-loop-holds Inv-loop μ-loop
-unfolding anyBelow
-loop-holds c = (omega arith, refl)
+loop-holds c = searched-none _ _
 
 returns : tie.Need-returns Inv-loop μ-loop
-returns c =
-    let l = c .before .before .before in
-    sym (any-holds meanCount (λ i. eqb (getD (l .before .args .means .now) i 0) 0) (l .loop .k) (omega arith)
-    (eq-eqb _ _ (c .if1 .taken)))
+returns c = searched-found (c .before .before .before .loop .inv) (omega arith) (eq-eqb _ _ (c .if1 .taken))
 
 loop-again : tie.Need-loop-again Inv-loop μ-loop
-loop-again c =
-    let l = c .before .before .before in (
-      omega arith,
-      any-more (l .loop .k) (λ i. eqb (getD (l .before .args .means .now) i 0) 0) (l .loop .inv .1)
-          (ne-eqb _ _ (c .if1 .left)),
-    )
+loop-again c = searched-more (c .before .before .before .loop .inv) (omega arith) (ne-eqb _ _ (c .if1 .left))
 
 returns-2 : tie.Need-returns-2 Inv-loop μ-loop
-returns-2 c =
-    let l = c .before in
-    let e : l .loop .k ≡ meanCount = omega arith in
-    sym (rw e at (l .loop .inv .1))
+returns-2 c = searched-all (c .before .loop .inv) (omega arith)
 
 pub any-missing-spec : {M : Type 1} → statement M
 any-missing-spec =

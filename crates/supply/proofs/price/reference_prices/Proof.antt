@@ -12,8 +12,9 @@ use Rattle.numbers.proofs.BoolLaws.{told-true, told-false}
 use Rattle.numbers.proofs.FirstLaws.{first-step, first-is}
 use Rattle.numbers.proofs.ListLaws.{filled-none, filled-more}
 use Rattle.supply.specs.Line.{mostLines, lineCount, lineOf}
-use Rattle.supply.specs.Listed.{listedMean, indexedOrZero, indexedReference, anyWordMoved}
+use Rattle.supply.specs.Listed.{listedMean, indexedOrZero, indexedReference}
 use Rattle.supply.specs.Price.{priceInForce, answerAt, beyondIn, firstBeyond, anyMoved}
+use Rattle.supply.specs.Price.{anyLineMoved}
 use Rattle.supply.specs.Price.{referencePrice, referenceList, pricedReferences}
 use Rattle.supply.specs.declared.line.Term.{Term}
 use Rattle.supply.proofs.PriceLaws.{indexed-most, indexed-reference, indexed-at}
@@ -164,13 +165,14 @@ any-moved-requires c κs =
 
 -- what the words tell
 told : (c : tie.After-any-moved Inv-loop μ-loop) →
-    c .any-moved .result ≡ anyMoved (mean (c .before .before)) (start (c .before .before) .args .lines .now)
+    c .any-moved .result ≡ anyLineMoved (mean (c .before .before)) (start (c .before .before) .args .lines .now)
     (start (c .before .before) .args .in-force .now)
 told c =
     let e = c .before .before in
     let a = start e .args in
     c .any-moved .ensures
-    ∙ ap₂ (anyWordMoved (a .in-force .now)) (end e .before .before .indexed-prices .ensures) (counted e)
+    ∙ ap₂ (λ words count. anyMoved (a .in-force .now) count (λ j. getD words j 0))
+    (end e .before .before .indexed-prices .ensures) (counted e)
     ∙ words-moved (mean e) (a .numbers) (a .lines .now) (a .in-force .now) (none-beyond e)
     (start e .pre .1 .1 .0 .few)
 

@@ -25,7 +25,7 @@ returns-3 c =
       told-true (e .before .before .before .numbers-in-range .ensures) (e .before .before .if1 .left),
       told-true (e .before .lines-in-range .ensures) (e .if2 .left),
     )
-    (c .in-force-in-range .ensures)
+    (c .all-between .ensures)
 
 pub input-in-range-spec : {M : Type 1} → statement M
 input-in-range-spec =

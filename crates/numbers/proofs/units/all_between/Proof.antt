@@ -1,26 +1,25 @@
--- The invariant: each price passed is in range.
+-- The invariant: each word passed is in range.
 use Prim.Native.Nat.{_-_}
 use native.Mathlib.Omega.{arith}
 use lib.ListN.{length, getD}
 use borrow.Author.Needs.{needs}
-use Rattle.numbers.specs.Units.{between}
+use Rattle.numbers.specs.Units.{between, allBetween}
 use Rattle.numbers.proofs.BoolLaws.{told-true, told-false}
 use Rattle.numbers.proofs.TestLaws.{Tested, tested-none, tested-more, tested-fails, tested-all}
-use Rattle.supply.specs.Range.{inForceInRange}
-use Rattle.supply.proofs.range.in_force_in_range.Statement.{statement}
-use Rattle.supply.proofs.range.in_force_in_range.Tie as tie
+use Rattle.numbers.proofs.units.all_between.Statement.{statement}
+use Rattle.numbers.proofs.units.all_between.Tie as tie
 
 abbrev Inv-loop : tie.InvT-loop
-Inv-loop inForce j₀ j = Tested (length inForce) (λ i. between 1 1000000 (getD inForce i 0)) j
+Inv-loop low high words j₀ j = Tested (length words) (λ i. between low high (getD words i 0)) j
 
 abbrev μ-loop : tie.MeasureT-loop
-μ-loop inForce j₀ j = length inForce - j
+μ-loop low high words j₀ j = length words - j
 
 loop-holds : tie.Need-loop-holds Inv-loop μ-loop
 loop-holds c = tested-none _ _
 
 returns : tie.Need-returns Inv-loop μ-loop
-unfolding inForceInRange
+unfolding allBetween
 returns c =
     tested-fails (c .before .before .before .before .loop .inv) (omega arith)
     (told-false (c .before .is-between .ensures) (c .if1 .taken))
@@ -31,11 +30,11 @@ loop-again c =
     (told-true (c .before .is-between .ensures) (c .if1 .left))
 
 returns-2 : tie.Need-returns-2 Inv-loop μ-loop
-unfolding inForceInRange
+unfolding allBetween
 returns-2 c = tested-all (c .before .loop .inv) (omega arith)
 
-pub in-force-in-range-spec : {M : Type 1} → statement M
-in-force-in-range-spec =
+pub all-between-spec : {M : Type 1} → statement M
+all-between-spec =
     tie.close
     (tie.spec
     Inv-loop
