@@ -7,7 +7,7 @@ ghost use lib.IntN.{pos, natAbs};
 ghost use Rattle.numbers.specs.Bounded.{allBelow};
 ghost use Rattle.numbers.specs.Sizes.{mostDistributors, sectorCount};
 ghost use Rattle.numbers.specs.Units.{mostPrice};
-ghost use Rattle.fixing.specs.Sector.{hasSector, sectorsAllowed};
+ghost use Rattle.fixing.specs.Sector.{mostFactor, hasSector, sectorsAllowed};
 ghost use Rattle.fixing.specs.Sector.{sectorCharge, sectorCharges, noCharges};
 ghost use Rattle.fixing.specs.Required.{ChargedSectors};
 use numbers::rounding::half_away;

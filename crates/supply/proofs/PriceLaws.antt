@@ -231,7 +231,8 @@ module _ (mean : Term → ℕ) (numbers : FixingNumbers) (lines inForce : List �
     unfolding priceChecks boundsCheck verdictOf
     prices-unmoved e = rw (h, e)
 
-    pub prices-passed : anyLineMoved mean lines inForce ≡ true → verdictOf (priceChecks mean numbers lines inForce) ≡ Passed
+    pub prices-passed : anyLineMoved mean lines inForce ≡ true →
+        verdictOf (priceChecks mean numbers lines inForce) ≡ Passed
     unfolding priceChecks boundsCheck verdictOf
     prices-passed e = rw (h, e)
 

@@ -146,7 +146,9 @@ in-force-facts inForce h = record { most = λ j. go j (decLt j (length inForce))
 -- the parts of the test of the input
 module _ (n : ℕ) (numbers : FixingNumbers) (lines inForce : List ℕ) (h : inputInRange n numbers lines inForce ≡ true)
   where
-    input-parts : (numbersInRange numbers ≡ true) × (linesInRange n lines ≡ true) × (allBetween 1 1000000 inForce ≡ true)
+    input-parts : (numbersInRange numbers ≡ true)
+        × (linesInRange n lines ≡ true)
+        × (allBetween 1 1000000 inForce ≡ true)
     unfolding inputInRange
     input-parts = and-three (numbersInRange numbers) (linesInRange n lines) (allBetween 1 1000000 inForce) h
 

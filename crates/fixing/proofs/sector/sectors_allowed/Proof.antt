@@ -14,7 +14,8 @@ small : (c : tie.After-all-between) →
     c .all-between .result ≡ allBelow (c .before .before .args .n * sectorCount)
     (λ k. leb (factorAt (c .before .before .args .sectors .now) k) mostFactor)
 small c =
-    c .all-between .ensures ∙ between-zero mostFactor (c .before .before .args .sectors .now) _ (c .before .before .pre .1)
+    let s = c .before .before in
+    c .all-between .ensures ∙ between-zero mostFactor (s .args .sectors .now) _ (s .pre .1)
 
 returns : tie.Need-returns
 unfolding sectorsAllowed

@@ -14,8 +14,7 @@ use Rattle.numbers.proofs.ListLaws.{filled-none, filled-more}
 use Rattle.supply.specs.Line.{mostLines, lineCount, lineOf}
 use Rattle.supply.specs.Listed.{listedMean, indexedOrZero, indexedReference}
 use Rattle.supply.specs.Price.{priceInForce, answerAt, beyondIn, firstBeyond, anyMoved}
-use Rattle.supply.specs.Price.{anyLineMoved}
-use Rattle.supply.specs.Price.{referencePrice, referenceList, pricedReferences}
+use Rattle.supply.specs.Price.{anyLineMoved, referencePrice, referenceList, pricedReferences}
 use Rattle.supply.specs.declared.line.Term.{Term}
 use Rattle.supply.proofs.PriceLaws.{indexed-most, indexed-reference, indexed-at}
 use Rattle.supply.proofs.PriceLaws.{line-within, line-beyond, line-price, words-moved}
