@@ -23,8 +23,10 @@ const MAX_INDEX_FACTOR: u64 = 100_000_000;
 
 /// One, in ten-thousandths.
 const UNIT: u64 = 10_000;
-/// One, in the millionths of ratios and index factors.
+/// One, in the millionths of means, ratios and index factors.
 const MILLION: u64 = 1_000_000;
+/// Millionths in a ten-thousandth.
+const MILLIONTHS: u64 = MILLION / UNIT;
 
 const FACTOR_RANGE: RangeInclusive<u64> = 5_000..=20_000;
 const DOLLAR_RANGE: RangeInclusive<u64> = 1..=200_000;
@@ -157,7 +159,7 @@ struct SeriesTable<'a> {
 }
 
 impl SeriesTable<'_> {
-    /// The mean over the term's window, or `None` if one of its months is missing.
+    /// The mean over the term's window in millionths, or `None` if one of its months is missing.
     fn mean(&self, month: u64, term: &Term) -> Option<u64> {
         let end = (month + 1).checked_sub(term.lag)?;
         let start = end.checked_sub(term.window)?.checked_sub(self.first_month)?;
@@ -165,7 +167,7 @@ impl SeriesTable<'_> {
         if values.contains(&0) {
             return None;
         }
-        Some(half_up(values.iter().sum(), term.window))
+        Some(half_up(values.iter().sum::<u64>() * MILLIONTHS, term.window))
     }
 }
 
@@ -243,7 +245,7 @@ impl<'a> Line<'a> {
         let mut sum = 0;
         for (number, term) in self.terms().enumerate() {
             let mean = table.mean(month, &term).ok_or(number)?;
-            sum += term.weight * half_up(mean * MILLION, term.base_value);
+            sum += term.weight * half_up(mean * MILLION, term.base_value * MILLIONTHS);
         }
         Ok(half_up(sum, UNIT))
     }

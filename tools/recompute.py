@@ -114,8 +114,8 @@ def new_indexed(line, t, first, series):
         total = 0
         for k in range(count):
             row, weight, lag, window, value = line[6 + 5 * k:11 + 5 * k]
-            mean = half_up(sum(value_at(series, first, row, m) for m in months_of(t, lag, window)), window)
-            total += weight * half_up(mean * 1_000_000, value)
+            mean = half_up(sum(value_at(series, first, row, m) for m in months_of(t, lag, window)) * 100, window)
+            total += weight * half_up(mean * 1_000_000, value * 100)
         f = half_up(total, 10000)
     if f > 100_000_000:
         return None

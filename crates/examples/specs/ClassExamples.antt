@@ -1,5 +1,5 @@
--- The class examples of document 01, by its own numbers, each evaluated by the definitions that the contracts cite.
--- Assumes nothing.
+-- The class examples of document 01, by its own numbers, as document 02 restates them, each evaluated by the definitions
+-- that the contracts cite. Assumes nothing.
 use mathlib.Core.List.{List, [], _∷_, _++_}
 use mathlib.Core.Option.{Option, none, some}
 use Prim.Native.Nat.{ℕ, zero, suc}
@@ -80,7 +80,8 @@ oddPosition (suc (suc (suc k))) = negsuc 1
 
 unfoldable pub classExamples : List Example
 classExamples =
-    record { number = 1; computed = whole (meanOf 15 6 ∷ meanOf 13 6 ∷ []); printed = whole (3 ∷ 2 ∷ []) }
+    -- "Example 1 is restated, as 250 and 217 millionths" (W-202)
+    record { number = 1; computed = whole (meanOf 15 6 ∷ meanOf 13 6 ∷ []); printed = whole (250 ∷ 217 ∷ []) }
     ∷ record {
       number = 2;
       computed = listBelow 6 (λ k. monthValue (termMonth 100 3 k));

@@ -11,7 +11,7 @@ use lib.Dec.{eqb}
 use borrow.Author.Tests.{eqb-true, ne-eqb}
 use Rattle.numbers.specs.Bounded.{listBelow}
 use Rattle.numbers.proofs.ListLaws.{list-at, list-length}
-use Rattle.series.specs.Series.{mostValue, seriesCount, windowAllowed, windowMissing, windowMean}
+use Rattle.series.specs.Series.{mostValue, mostMean, seriesCount, windowAllowed, windowMissing, windowMean}
 use Rattle.series.specs.Means.{meanCount, windowOf, meanPlace, meanOrZero, meanWorked, meanList, meanAt}
 use Rattle.series.specs.Required.{ValuesWithin, TableInRange}
 use Rattle.series.proofs.SeriesLaws.{window-size, mean-least, mean-most}
@@ -48,24 +48,25 @@ window-of-size place = go (eqb place 0) (eqb place 1)
     go false true = omega arith
     go false false = omega arith
 
--- no mean is above the top value
-mean-within : (row : List ℕ) → ValuesWithin row → (first t lag window : ℕ) → 1 ≤ window →
-    meanOrZero row first t lag window ≤ mostValue
+-- no mean is above that of the top value
+mean-within : (row : List ℕ) → ValuesWithin mostValue row → (first t lag window : ℕ) → 1 ≤ window →
+    meanOrZero row first t lag window ≤ mostMean
 unfolding meanOrZero
 mean-within row ok first t lag window some = go (windowMissing row first t lag window)
   where
-    go : (b : Bool) → cond b 0 (windowMean row first t lag window) ≤ mostValue
+    go : (b : Bool) → cond b 0 (windowMean row first t lag window) ≤ mostMean
     go true = omega arith
     go false = mean-most row ok first t lag window some
 
-pub means-within : (table : List (List ℕ)) → TableInRange table → (first t : ℕ) → ValuesWithin (meanList table first t)
+pub means-within : (table : List (List ℕ)) → TableInRange table → (first t : ℕ) →
+    ValuesWithin mostMean (meanList table first t)
 unfolding meanList meanWorked
 means-within table ok first t = record { most = λ p. go p (decLt p meanCount) }
   where
     means : ℕ → ℕ
     means = meanWorked table first t
 
-    go : (p : ℕ) → Dec (p < meanCount) → getD (listBelow meanCount means) p 0 ≤ mostValue
+    go : (p : ℕ) → Dec (p < meanCount) → getD (listBelow meanCount means) p 0 ≤ mostMean
     go p (yes q) =
         rw (list-at means meanCount 0 p q)
         (mean-within (getD table (p / 36) []) (ok .row (p / 36)) first t (p / 3 % 12 + 1) (windowOf (p % 3))

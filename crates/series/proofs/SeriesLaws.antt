@@ -17,7 +17,7 @@ use Rattle.numbers.proofs.SumLaws.{sum-le, sum-ge}
 use Rattle.numbers.proofs.TestLaws.{all-at, any-none, any-holds}
 use Rattle.numbers.proofs.ListLaws.{list-at, list-length}
 use Rattle.numbers.proofs.RoundingLaws.{half-up-ge, half-up-le}
-use Rattle.series.specs.Series.{mostValue, monthCount, seriesCount, seriesRow, seriesTable, valuesInRange}
+use Rattle.series.specs.Series.{mostValue, mostMean, monthCount, seriesCount, seriesRow, seriesTable, valuesInRange}
 use Rattle.series.specs.Series.{windowAllowed, valueIn, termMonth, valueOf, termValue, windowMissing, meanOf}
 use Rattle.series.specs.Series.{windowMean}
 use Rattle.series.specs.Required.{ValuesWithin, TableInRange}
@@ -110,7 +110,7 @@ module _ (row : List ℕ) (first t lag window : ℕ) (some : 1 ≤ window) where
       windowMissing row first t lag window ≡ true
   window-past p q r = lacks 0 (omega arith) (value-past row first t lag 0 (omega arith) (omega arith) (omega arith))
 
-module _ (row : List ℕ) (ok : ValuesWithin row) (first t lag : ℕ) where
+module _ (row : List ℕ) (ok : ValuesWithin mostValue row) (first t lag : ℕ) where
   -- a value of a term, present or not
   pub value-most : (k : ℕ) → termValue row first t lag k ≤ mostValue
   unfolding termValue valueIn
@@ -123,9 +123,9 @@ module _ (row : List ℕ) (ok : ValuesWithin row) (first t lag : ℕ) where
   pub values-most : (k : ℕ) → sumBelow k (termValue row first t lag) ≤ k * mostValue
   values-most k = sum-le k mostValue (termValue row first t lag) (λ j p. value-most j)
 
-  pub mean-most : (window : ℕ) → 1 ≤ window → windowMean row first t lag window ≤ mostValue
+  pub mean-most : (window : ℕ) → 1 ≤ window → windowMean row first t lag window ≤ mostMean
   unfolding windowMean meanOf
-  mean-most window p = half-up-le _ window p mostValue (omega (arith, values-most window))
+  mean-most window p = half-up-le _ window p mostMean (omega (arith, values-most window))
 
 -- where no month is missing each value is at least 1, and so is the mean
 pub mean-least : (row : List ℕ) (first t lag window : ℕ) → 1 ≤ window → windowMissing row first t lag window ≡ false →

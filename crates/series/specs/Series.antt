@@ -24,6 +24,10 @@ wordCount = 240
 abbrev pub mostValue : ℕ
 mostValue = 99999999
 
+-- the mean of a window whose values are all the top value
+abbrev pub mostMean : ℕ
+mostMean = mostValue * 100
+
 -- "Months are numbered 0 to 1,199"
 abbrev pub lastMonth : ℕ
 lastMonth = 1199
@@ -65,9 +69,10 @@ termValue row first t lag k = valueOf row first (termMonth t lag k)
 unfoldable pub windowMissing : List ℕ → ℕ → ℕ → ℕ → ℕ → Bool
 windowMissing row first t lag window = anyBelow window (λ k. eqb (termValue row first t lag k) 0)
 
--- "Its mean is sum/W half up"
+-- "A window's mean becomes sum × 100 / window, half up, in millionths" (W-202 of document 02): the unit is millionths,
+-- that of a value ten-thousandths. It stands in place of 01's "Its mean is sum/W half up".
 unfoldable pub meanOf : ℕ → ℕ → ℕ
-meanOf sum window = halfUp sum window
+meanOf sum window = halfUp (sum * 100) window
 
 unfoldable pub windowMean : List ℕ → ℕ → ℕ → ℕ → ℕ → ℕ
 windowMean row first t lag window = meanOf (sumBelow window (termValue row first t lag)) window

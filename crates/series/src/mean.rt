@@ -2,7 +2,7 @@
 // them, so that each is worked once, however many terms take it.
 ghost use mathlib.Core.Path.{_≡_};
 ghost use Prim.Native.Nat.{_<_, _≤_};
-ghost use Rattle.series.specs.Series.{seriesCount, lastMonth, windowAllowed};
+ghost use Rattle.series.specs.Series.{seriesCount, mostValue, lastMonth, windowAllowed};
 ghost use Rattle.series.specs.Means.{meanPlace, meanOrZero, meanList};
 ghost use Rattle.series.specs.Required.{ValuesWithin, TableInRange, WindowInRange};
 use crate::table::MONTHS;
@@ -33,10 +33,10 @@ pub fn mean_place(series: u64, lag: u64, window: u64) -> usize
     series as usize * SERIES_MEANS + (lag - 1) as usize * WINDOWS + (window / 4) as usize
 }
 
-// The mean of a window of a series' row, or 0 where a month of it is missing: the window lies whole in the table, and
-// no value of it is zero.
+// The mean of a window of a series' row, in millionths, or 0 where a month of it is missing: the window lies whole in
+// the table, and no value of it is zero.
 fn mean(row: &[u64; MONTHS], first: u64, month: u64, lag: u64, window: u64) -> u64
-    requires { ⌜ ValuesWithin (now row) ⌝ ∗ ⌜ WindowInRange first lag window ⌝ }
+    requires { ⌜ ValuesWithin mostValue (now row) ⌝ ∗ ⌜ WindowInRange first lag window ⌝ }
     ensures { λ r. ⌜ r ≡ meanOrZero (now (row .entry)) first month lag window ⌝ }
 {
     if month < first + lag + window - 1 {
@@ -56,7 +56,7 @@ fn mean(row: &[u64; MONTHS], first: u64, month: u64, lag: u64, window: u64) -> u
         sum += value;
         k += 1;
     }
-    half_up(sum, window)
+    half_up(sum * 100, window)
 }
 
 // The means of every series, lag and window, worked in a month, from the table and its first month. A turn works those

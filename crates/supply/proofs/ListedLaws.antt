@@ -12,7 +12,7 @@ use Rattle.numbers.specs.Units.{noPrice}
 use Rattle.numbers.proofs.TestLaws.{any-none, any-same}
 use Rattle.numbers.proofs.FirstLaws.{first-same}
 use Rattle.numbers.proofs.ListLaws.{filled-same}
-use Rattle.series.specs.Series.{mostValue}
+use Rattle.series.specs.Series.{mostMean}
 use Rattle.series.specs.Means.{meanCount, meanPlace, meanOrZero, meanList, meanAt}
 use Rattle.series.specs.Required.{ValuesWithin}
 use Rattle.series.proofs.SeriesLaws.{window-size}
@@ -29,8 +29,8 @@ use Rattle.supply.specs.declared.market.FixingNumbers.{FixingNumbers}
 use Rattle.supply.proofs.MonthLaws.{never-missing, none-missing, missing-same}
 use Rattle.supply.proofs.PriceLaws.{indexed-same, price-same}
 
--- a mean of the list is at most the top value
-pub listed-most : (means : List ℕ) → ValuesWithin means → (term : Term) → listedMean means term ≤ mostValue
+-- a mean of the list is at most that of the top value
+pub listed-most : (means : List ℕ) → ValuesWithin mostMean means → (term : Term) → listedMean means term ≤ mostMean
 unfolding listedMean meanAt
 listed-most means ok term = ok .most (meanPlace (term .series) (term .lag) (term .window))
 

@@ -28,8 +28,8 @@ use Rattle.numbers.specs.declared.refusal.Verdict.the-variants.{Passed, Refused
 use Rattle.numbers.specs.Checks.{verdictOf}
 use Rattle.numbers.proofs.UnitLaws.{between-low, between-high}
 use Rattle.numbers.proofs.SumLaws.{sum-same}
-use Rattle.numbers.proofs.RoundingLaws.{half-up-self}
-use Rattle.series.specs.Series.{mostValue}
+use Rattle.numbers.proofs.RoundingLaws.{half-up-le}
+use Rattle.series.specs.Series.{mostMean}
 use Rattle.supply.specs.Line.{mostLines, mostTerms, lineCount, lineOf, termOf}
 use Rattle.supply.specs.Price.{ratioOf, termRatio, weightedRatio, indexFactor, indexedOf, lineIndexed}
 use Rattle.supply.specs.Price.{priceInForce, moved, priceTaken}
@@ -42,11 +42,13 @@ use Rattle.supply.specs.declared.line.Term.{Term}
 use Rattle.supply.specs.declared.line.Line.{Line}
 use Rattle.supply.specs.declared.market.FixingNumbers.{FixingNumbers}
 
-module _ (mean : Term → ℕ) (term : Term) (small : mean term ≤ mostValue) where
-  -- a ratio: at most the mean in millionths, since the base value is at least 1
+module _ (mean : Term → ℕ) (term : Term) (small : mean term ≤ mostMean) where
+  -- a ratio: at most the top value in millionths, since the base value is at least 1
   pub ratio-most : TermFacts term → termRatio mean term ≤ 99999999000000
   unfolding termRatio ratioOf
-  ratio-most f = omega (arith, half-up-self (mean term * 1000000) (term .«base_value») (f .base))
+  ratio-most f =
+      half-up-le (mean term * 1000000) (term .«base_value» * 100) (omega (arith, f .base)) 99999999000000
+      (omega (arith, f .base))
 
   -- what a term adds, used or not
   pub weighted-most : (used : Bool) → (used ≡ true → TermFacts term) → weightedRatio mean term used ≤ 999999990000000000

@@ -27,9 +27,10 @@ use Rattle.supply.specs.declared.line.Line.{Line}
 use Rattle.supply.specs.declared.market.FixingNumbers.{FixingNumbers}
 use Rattle.supply.specs.declared.price.References.{References}
 
--- "ratio = mean * 1,000,000 / base value"
+-- "the ratio divides by the base value times 100" (W-202 of document 02), so that both are in millionths. It stands in
+-- place of 01's "ratio = mean * 1,000,000 / base value".
 unfoldable pub ratioOf : ℕ → ℕ → ℕ
-ratioOf mean baseValue = halfUp (mean * 1000000) baseValue
+ratioOf mean baseValue = halfUp (mean * 1000000) (baseValue * 100)
 
 -- "Indexed = base * factor / 1,000,000", in 0.001 US$/MWh
 unfoldable pub indexedOf : ℕ → ℕ → ℕ

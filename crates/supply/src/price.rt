@@ -5,6 +5,7 @@ ghost use mathlib.Core.Bool.{true};
 ghost use Prim.Native.Nat.{_≤_};
 ghost use lib.ListN.{replicate, getD};
 ghost use Rattle.numbers.specs.Units.{noPrice};
+ghost use Rattle.series.specs.Series.{mostMean};
 ghost use Rattle.series.specs.Required.{ValuesWithin, TableInRange};
 ghost use Rattle.supply.specs.Line.{mostLines};
 ghost use Rattle.supply.specs.Price.{pesoOf, termRatio, weightedRatio, indexFactor};
@@ -43,15 +44,15 @@ pub fn peso_price(purchase: u64, dollar: u64) -> PesoPrice
 
 // The ratio of a term.
 fn term_ratio(means: &[u64; MEANS], term: Term) -> u64
-    requires { ⌜ ValuesWithin (now means) ⌝ ∗ ⌜ TermFacts term ⌝ }
+    requires { ⌜ ValuesWithin mostMean (now means) ⌝ ∗ ⌜ TermFacts term ⌝ }
     ensures { λ r. ⌜ r ≡ termRatio (listedMean (now (means .entry))) term ⌝ }
 {
-    half_up(term_mean(means, term) * 1000000, term.base_value)
+    half_up(term_mean(means, term) * 1000000, term.base_value * 100)
 }
 
 // What a term adds to the index factor: its weight times its ratio, nothing where it is not used.
 fn weighted_ratio(means: &[u64; MEANS], term: Term, used: bool) -> u64
-    requires { ⌜ ValuesWithin (now means) ⌝ ∗ ⌜ (used ≡ true → TermFacts term) ⌝ }
+    requires { ⌜ ValuesWithin mostMean (now means) ⌝ ∗ ⌜ (used ≡ true → TermFacts term) ⌝ }
     ensures { λ r. ⌜ r ≡ weightedRatio (listedMean (now (means .entry))) term used ⌝ }
 {
     if used {
@@ -63,7 +64,7 @@ fn weighted_ratio(means: &[u64; MEANS], term: Term, used: bool) -> u64
 
 // The index factor of a line.
 fn index_factor(means: &[u64; MEANS], line: Line) -> u64
-    requires { ⌜ ValuesWithin (now means) ⌝ ∗ ⌜ LineFacts line ⌝ }
+    requires { ⌜ ValuesWithin mostMean (now means) ⌝ ∗ ⌜ LineFacts line ⌝ }
     ensures { λ r. ⌜ r ≡ indexFactor (listedMean (now (means .entry))) line ⌝ }
 {
     let count = line.term_count;
@@ -83,7 +84,7 @@ fn index_factor(means: &[u64; MEANS], line: Line) -> u64
 // The new indexed price of a line, in 0.001 US$/MWh, or 0 where the index factor or the price is out of bounds: a price
 // within them is at least 1. The factor is tested before it is multiplied.
 fn indexed_price(means: &[u64; MEANS], line: Line) -> u64
-    requires { ⌜ ValuesWithin (now means) ⌝ ∗ ⌜ LineFacts line ⌝ }
+    requires { ⌜ ValuesWithin mostMean (now means) ⌝ ∗ ⌜ LineFacts line ⌝ }
     ensures { λ r. ⌜ r ≡ indexedOrZero (listedMean (now (means .entry))) line ⌝ }
 {
     let factor = index_factor(means, line);
@@ -101,7 +102,7 @@ fn indexed_price(means: &[u64; MEANS], line: Line) -> u64
 // The new indexed prices of all lines. They have a pass of their own: the divisions of the later steps then need not
 // wait for those of the terms.
 fn indexed_prices(means: &[u64; MEANS], lines: &[u64]) -> [u64; MOST_LINES]
-    requires { ⌜ ValuesWithin (now means) ⌝ ∗ ⌜ CheckedLines (now lines) ⌝ }
+    requires { ⌜ ValuesWithin mostMean (now means) ⌝ ∗ ⌜ CheckedLines (now lines) ⌝ }
     ensures { λ r. ⌜ r ≡ indexedList (listedMean (now (means .entry))) (now (lines .entry)) ⌝ }
 {
     let count = line_count(lines);
@@ -228,7 +229,7 @@ fn reference_prices(
     lines: &[u64],
     in_force: &[u64],
 ) -> References
-    requires { ⌜ ValuesWithin (now means) ⌝ ∗ ⌜ NumbersFacts numbers ⌝ ∗ ⌜ CheckedLines (now lines) ⌝
+    requires { ⌜ ValuesWithin mostMean (now means) ⌝ ∗ ⌜ NumbersFacts numbers ⌝ ∗ ⌜ CheckedLines (now lines) ⌝
         ∗ ⌜ InForceFacts (now in_force) ⌝ }
     ensures { λ r. ⌜ r ≡ pricedReferences (listedMean (now (means .entry))) numbers (now (lines .entry))
         (now (in_force .entry)) ⌝ }

@@ -1,7 +1,7 @@
 -- The window lies in the row; the invariant: no month passed is missing, and the sum is that of the months passed.
 use mathlib.Core.Path.{_≡_, refl, sym, _∙_, ap}
 use mathlib.Core.Bool.{false}
-use Prim.Native.Nat.{ℕ, _≤_, _-_}
+use Prim.Native.Nat.{ℕ, _≤_, _-_, _*_}
 use native.Mathlib.Omega.{arith}
 use lib.Dec.{eqb}
 use lib.ListN.{getD}
@@ -99,6 +99,9 @@ loop-again c =
       rw sum-step (omega (arith, taken i)),
     )
 
+mul-half-up : tie.Need-mul-half-up Inv-loop μ-loop
+mul-half-up c = omega (arith, sum-most (c .before))
+
 half-up-requires : tie.Need-half-up-requires Inv-loop μ-loop
 half-up-requires c κs =
     let s = c .before .before .before .before in omega (arith, s .pre .1 .some, s .pre .1 .few, sum-most (c .before))
@@ -109,7 +112,7 @@ returns-4 c =
     let l = c .before .before in
     let s = l .before .before .before in
     let e : l .loop .k ≡ s .args .window = omega arith in
-    c .half-up .ensures ∙ ap (λ x. halfUp x (s .args .window)) (rw e at (l .loop .inv .2))
+    c .half-up .ensures ∙ ap (λ x. halfUp (x * 100) (s .args .window)) (rw e at (l .loop .inv .2))
     ∙ sym (mean-published (s .args .row .now) _ _ _ _ (rw e at (l .loop .inv .1)))
 
 pub mean-spec : {M : Type 1} → statement M
@@ -131,5 +134,6 @@ mean-spec =
     add-sum
     (λ c. omega (arith, c .before .before .before .before .before .before .pre .1 .few)) (λ c. omega arith)
     loop-again
+    mul-half-up
     half-up-requires
     returns-4)

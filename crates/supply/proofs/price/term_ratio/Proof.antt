@@ -1,4 +1,4 @@
--- The mean is at most the top value, the base value at least 1.
+-- The mean is at most that of the top value, the base value at least 1.
 use mathlib.Core.Path.{_∙_, ap}
 use Prim.Native.Nat.{_*_}
 use Rattle.numbers.specs.Rounding.{halfUp}
@@ -18,11 +18,14 @@ mul-half-up c =
           (s .args .term),
     )
 
+mul-half-up-2 : tie.Need-mul-half-up-2
+mul-half-up-2 c = omega (arith, c .before .before .pre .1 .baseMost)
+
 half-up-requires : tie.Need-half-up-requires
 half-up-requires c κs =
-    let s = c .before in omega (
+    let s = c .before .before in omega (
       arith,
-      c .term-mean .ensures,
+      c .before .term-mean .ensures,
       listed-most (s .args .means .now) (s .pre .0)
           (s .args .term),
       s .pre .1 .base,
@@ -32,8 +35,9 @@ half-up-requires c κs =
 returns : tie.Need-returns
 unfolding termRatio ratioOf
 returns c =
-    c .half-up .ensures ∙ ap (λ m. halfUp (m * 1000000) (c .before .before .args .term .«base_value»))
-    (c .before .term-mean .ensures)
+    let m = c .before .before in
+    c .half-up .ensures ∙ ap (λ mean. halfUp (mean * 1000000) (m .before .args .term .«base_value» * 100))
+    (m .term-mean .ensures)
 
 pub term-ratio-spec : {M : Type 1} → statement M
 term-ratio-spec =
@@ -41,5 +45,6 @@ term-ratio-spec =
     (tie.spec
     (λ c κs. search needs)
     mul-half-up
+    mul-half-up-2
     half-up-requires
     returns)
