@@ -1,5 +1,5 @@
--- The class examples of document 01, by its own numbers, as document 02 restates them, each evaluated by the definitions
--- that the contracts cite. Assumes nothing.
+-- The class examples of document 01, by its own numbers, as document 02 restates them, each evaluated by the
+-- definitions that the contracts cite. Assumes nothing.
 use mathlib.Core.List.{List, [], _∷_, _++_}
 use mathlib.Core.Option.{Option, none, some}
 use Prim.Native.Nat.{ℕ, zero, suc}

@@ -99,9 +99,6 @@ loop-again c =
       rw sum-step (omega (arith, taken i)),
     )
 
-mul-half-up : tie.Need-mul-half-up Inv-loop μ-loop
-mul-half-up c = omega (arith, sum-most (c .before))
-
 half-up-requires : tie.Need-half-up-requires Inv-loop μ-loop
 half-up-requires c κs =
     let s = c .before .before .before .before in omega (arith, s .pre .1 .some, s .pre .1 .few, sum-most (c .before))
@@ -134,6 +131,6 @@ mean-spec =
     add-sum
     (λ c. omega (arith, c .before .before .before .before .before .before .pre .1 .few)) (λ c. omega arith)
     loop-again
-    mul-half-up
+    (λ c. omega (arith, sum-most (c .before)))
     half-up-requires
     returns-4)

@@ -1,7 +1,8 @@
 -- The mean is at most that of the top value, the base value at least 1.
 use mathlib.Core.Path.{_∙_, ap}
-use Prim.Native.Nat.{_*_}
+use Prim.Native.Nat.{_*_, _≤_}
 use Rattle.numbers.specs.Rounding.{halfUp}
+use Rattle.series.specs.Series.{mostMean}
 use Rattle.supply.specs.Price.{termRatio, ratioOf}
 use Rattle.supply.proofs.ListedLaws.{listed-most}
 use native.Mathlib.Omega.{arith}
@@ -9,28 +10,19 @@ use borrow.Author.Needs.{needs}
 use Rattle.supply.proofs.price.term_ratio.Statement.{statement}
 use Rattle.supply.proofs.price.term_ratio.Tie as tie
 
+mean-most : (c : tie.After-term-mean) → c .term-mean .result ≤ mostMean
+mean-most c =
+    let s = c .before in rw (c .term-mean .ensures) (listed-most (s .args .means .now) (s .pre .0) (s .args .term))
+
 mul-half-up : tie.Need-mul-half-up
-mul-half-up c =
-    let s = c .before in omega (
-      arith,
-      c .term-mean .ensures,
-      listed-most (s .args .means .now) (s .pre .0)
-          (s .args .term),
-    )
+mul-half-up c = omega (arith, mean-most c)
 
 mul-half-up-2 : tie.Need-mul-half-up-2
 mul-half-up-2 c = omega (arith, c .before .before .pre .1 .baseMost)
 
 half-up-requires : tie.Need-half-up-requires
 half-up-requires c κs =
-    let s = c .before .before in omega (
-      arith,
-      c .before .term-mean .ensures,
-      listed-most (s .args .means .now) (s .pre .0)
-          (s .args .term),
-      s .pre .1 .base,
-      s .pre .1 .baseMost,
-    )
+    let s = c .before .before in omega (arith, mean-most (c .before), s .pre .1 .base, s .pre .1 .baseMost)
 
 returns : tie.Need-returns
 unfolding termRatio ratioOf
