@@ -1,4 +1,4 @@
--- Each place of the list of means holds 01's mean of one series, lag and window; it is 0 where a month is missing and
+-- Each place of the list of means holds the mean of one series, lag and window; it is 0 where a month is missing and
 -- nowhere else, since a mean of published values is at least 1. Assumes nothing.
 use mathlib.Core.Path.{_≡_, refl, _∙_, ap, ap₂}
 use mathlib.Core.Bool.{Bool, true, false, cond, _||_, false≢true}

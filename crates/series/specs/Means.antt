@@ -1,5 +1,5 @@
 -- The list of all means that the code keeps: of every series, lag and window, worked in one month. proofs/MeanLaws
--- shows that each is the mean of 01, and that it is 0 where a month is missing and nowhere else. Assumes nothing.
+-- shows that each is its window's mean, and that it is 0 where a month is missing and nowhere else. Assumes nothing.
 use mathlib.Core.Bool.{cond}
 use mathlib.Core.List.{List, []}
 use Prim.Native.Nat.{ℕ, _+_, _-_, _*_, _/_, _%_}

@@ -1,6 +1,6 @@
--- "Index months" of document 01: the table of series, the months that a term takes, a missing month, the mean.
--- Series: 0 diesel, 1 coal, 2 gas, 3 CPI, 4 Brent, in ten-thousandths; months count from January 2000, month 0.
--- Assumes nothing.
+-- "Index months" of document 01: the table of series, the months that a term takes, a missing month; and the mean, of
+-- W-202 of document 02. Series: 0 diesel, 1 coal, 2 gas, 3 CPI, 4 Brent, in ten-thousandths; months count from January
+-- 2000, month 0. Assumes nothing.
 use mathlib.Core.Bool.{Bool, cond, _&&_, _||_}
 use mathlib.Core.List.{List}
 use mathlib.Core.Option.{Option, none, some}
@@ -69,8 +69,8 @@ termValue row first t lag k = valueOf row first (termMonth t lag k)
 unfoldable pub windowMissing : List ℕ → ℕ → ℕ → ℕ → ℕ → Bool
 windowMissing row first t lag window = anyBelow window (λ k. eqb (termValue row first t lag k) 0)
 
--- "A window's mean becomes sum × 100 / window, half up, in millionths" (W-202 of document 02): the unit is millionths,
--- that of a value ten-thousandths. It stands in place of 01's "Its mean is sum/W half up".
+-- "A window's mean becomes sum × 100 / window, half up, in millionths" (W-202): the unit is millionths, that of a value
+-- ten-thousandths. It stands in place of 01's "Its mean is sum/W half up".
 unfoldable pub meanOf : ℕ → ℕ → ℕ
 meanOf sum window = halfUp (sum * 100) window
 

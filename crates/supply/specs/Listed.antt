@@ -1,6 +1,6 @@
 -- What the lists that the code keeps say: of all means, and of the lines' indexed prices. proofs/ListedLaws and
--- proofs/PriceLaws show that they are the means and prices of 01, and 0 where a month is missing, a factor or a price
--- out of bounds, and nowhere else. Assumes nothing.
+-- proofs/PriceLaws show that they are the terms' means and the lines' prices, and 0 where a month is missing, a factor
+-- or a price out of bounds, and nowhere else. Assumes nothing.
 use mathlib.Core.Bool.{Bool, cond}
 use mathlib.Core.List.{List}
 use mathlib.Core.Option.{Option}

@@ -1,6 +1,6 @@
--- "Steps for a line" of document 01, each half up, the bounds of cause 11, and which price a line takes in an interim
--- fixing (W-201 of document 02). The steps up to the indexed price take the mean of each term as given; all later ones
--- take the price that the line takes. Assumes nothing.
+-- "Steps for a line" of document 01, each half up, with the ratio of W-202 of document 02, the bounds of cause 11, and
+-- which price a line takes in an interim fixing (W-201). The steps up to the indexed price take the mean of each term
+-- as given; all later ones take the price that the line takes. Assumes nothing.
 use mathlib.Core.Path.{_≡_}
 use mathlib.Core.Bool.{Bool, true, cond, _&&_}
 use mathlib.Core.List.{List, [], _∷_}
@@ -27,8 +27,8 @@ use Rattle.supply.specs.declared.line.Line.{Line}
 use Rattle.supply.specs.declared.market.FixingNumbers.{FixingNumbers}
 use Rattle.supply.specs.declared.price.References.{References}
 
--- "the ratio divides by the base value times 100" (W-202 of document 02), so that both are in millionths. It stands in
--- place of 01's "ratio = mean * 1,000,000 / base value".
+-- "the ratio divides by the base value times 100" (W-202), so that both are in millionths. It stands in place of 01's
+-- "ratio = mean * 1,000,000 / base value".
 unfoldable pub ratioOf : ℕ → ℕ → ℕ
 ratioOf mean baseValue = halfUp (mean * 1000000) (baseValue * 100)
 
