@@ -1,5 +1,5 @@
-// The given journals of document 01's calls and with interim fixings, then a tie in each rounding, bounds met alone,
-// neighbouring causes met at once and words that are all different: the journal beside this program, replayed.
+// The given journal of W-202, then a tie in each rounding that can have one, bounds met alone, neighbouring causes met
+// at once and words that are all different: the journal beside this program, replayed.
 use commands::input::journal_buffer;
 use commands::run::replay;
 use libc::STDIN_FILENO;

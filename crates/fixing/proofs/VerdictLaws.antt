@@ -12,6 +12,7 @@ use Rattle.numbers.specs.Units.{noPrice, leastPrice, mostPrice}
 use Rattle.numbers.specs.declared.refusal.Refusal.{Refusal}
 use Rattle.numbers.specs.declared.refusal.Refusal.the-variants.{OutOfRange, ValueTooLarge, WrongSector, NoLine}
 use Rattle.numbers.specs.declared.refusal.Verdict.{Verdict}
+use Rattle.numbers.specs.Required.{ValuesWithin}
 use Rattle.numbers.specs.declared.refusal.Verdict.the-variants.{Passed, Refused}
 use Rattle.numbers.specs.declared.units.PesoPrice.{PesoPrice}
 use Rattle.numbers.proofs.ListLaws.{filled-at}
@@ -22,7 +23,7 @@ use Rattle.series.specs.Required.{TableInRange}
 use Rattle.series.proofs.SeriesLaws.{table-in-range}
 use Rattle.supply.specs.Line.{mostLines, lineCount}
 use Rattle.supply.specs.Price.{termMean, priceChecks, tableChecks, referencePrice, referenceList, ReferencesPromise}
-use Rattle.supply.specs.Required.{NumbersFacts, InForceFacts}
+use Rattle.supply.specs.Required.{NumbersFacts}
 use Rattle.supply.specs.declared.price.References.{References}
 use Rattle.supply.proofs.RangeLaws.{input-numbers, input-lines, input-in-force}
 use Rattle.supply.proofs.PriceLaws.{search-within, bounds-passed}
@@ -63,7 +64,7 @@ module _ (n : ℕ) (input : FixingInput) where
     pub checked-numbers : NumbersFacts (input .numbers)
     checked-numbers = input-numbers n (input .numbers) (input .lines) (input .inForce) (ok .ranges)
 
-    pub checked-in-force : InForceFacts (input .inForce)
+    pub checked-in-force : ValuesWithin 1000000 (input .inForce)
     checked-in-force = input-in-force n (input .numbers) (input .lines) (input .inForce) (ok .ranges)
 
     pub checked-table : (table : List (List ℕ)) → table ≡ indexTable input → TableInRange table

@@ -1,6 +1,6 @@
 -- Laws of the tests of all and of any index below a bound. Assumes nothing.
-use mathlib.Core.Path.{_≡_, refl, sym, ap₂}
-use mathlib.Core.Bool.{Bool, true, false, _&&_, _||_, and-false}
+use mathlib.Core.Path.{_≡_, refl, sym, _∙_, ap, ap₂}
+use mathlib.Core.Bool.{Bool, true, false, not, _&&_, _||_, and-false}
 use Prim.Native.Nat.{ℕ, zero, suc, _+_, _<_, _≤_}
 use native.Mathlib.Numerals.{add-one}
 use native.Mathlib.Omega.{arith}
@@ -104,23 +104,30 @@ unfolding anyBelow
 any-same zero s t h = refl
 any-same (suc k) s t h = ap₂ _||_ (any-same k s t (λ j p. h j (omega arith))) (h k (omega arith))
 
--- a loop that looks for an index that passes a test and stops at the first: what holds where it comes to index k
+-- an index passes, unless each fails
+any-unless : (k : ℕ) (t : ℕ → Bool) → anyBelow k t ≡ not (allBelow k (λ i. not (t i)))
+unfolding allBelow anyBelow
+any-unless zero t = refl
+any-unless (suc k) t = rw (any-unless k t) (either (allBelow k (λ i. not (t i))) (t k))
+  where
+    either : (a b : Bool) → (not a || b) ≡ not (a && not b)
+    either true true = refl
+    either true false = refl
+    either false b = refl
+
+-- a loop that looks for an index that passes and stops at the first tests that each before it fails
 pub record Searched (bound : ℕ) (t : ℕ → Bool) (k : ℕ) : Type 0 where
-  pub most : k ≤ bound
-  pub none : anyBelow k t ≡ false
+  pub failed : Tested bound (λ i. not (t i)) k
 
 pub searched-none : (bound : ℕ) (t : ℕ → Bool) → Searched bound t 0
-unfolding anyBelow
-searched-none bound t = record { most = omega arith; none = refl }
+searched-none bound t = record { failed = tested-none _ _ }
 
 module _ {bound : ℕ} {t : ℕ → Bool} {k : ℕ} (h : Searched bound t k) where
   pub searched-more : k < bound → t k ≡ false → Searched bound t (k + 1)
-  searched-more p e = record { most = omega arith; none = any-more k t (h .none) e }
+  searched-more p e = record { failed = tested-more (h .failed) p (ap not e) }
 
   pub searched-found : k < bound → t k ≡ true → true ≡ anyBelow bound t
-  searched-found p e = sym (any-holds bound t k p e)
+  searched-found p e = ap not (tested-fails (h .failed) p (ap not e)) ∙ sym (any-unless bound t)
 
   pub searched-all : bound ≤ k → false ≡ anyBelow bound t
-  searched-all p =
-      let e : k ≡ bound = omega arith in
-      sym (rw e at (h .none))
+  searched-all p = ap not (tested-all (h .failed) p) ∙ sym (any-unless bound t)

@@ -4,12 +4,14 @@ use mathlib.Core.Bool.{true}
 use mathlib.Core.List.{List, [], _∷_}
 use Prim.Native.Nat.{ℕ, _≤_, _<_}
 use native.Mathlib.Omega.{arith}
+use native.Mathlib.Decide.{decLt}
 use lib.Dec.{leb}
-use lib.ListN.{length, getD}
+use lib.ListN.{length, getD, List·getD-eq-default}
 use borrow.Author.Tests.{leb-true, le-leb}
 use Rattle.numbers.specs.Units.{leastPrice, mostPrice, between, allBetween, checkedPrice, priceAnswered}
 use Rattle.numbers.specs.Bounded.{allBelow}
 use Rattle.numbers.specs.Checks.{acceptedWhere}
+use Rattle.numbers.specs.Required.{ValuesWithin}
 use Rattle.numbers.specs.declared.units.CheckedPrice.the-variants.{Within, OutsideBounds}
 use Rattle.numbers.proofs.BoolLaws.{and-left, and-right}
 use Rattle.numbers.proofs.TestLaws.{all-at, all-same}
@@ -28,11 +30,14 @@ module _ (low high x : ℕ) where
   unfolding between
   between-yes p q = rw (le-leb low x p, le-leb x high q)
 
--- each word of a list
-pub all-between-at : (low high : ℕ) (words : List ℕ) → allBetween low high words ≡ true → (j : ℕ) → j < length words →
-    between low high (getD words j 0) ≡ true
+-- each word of a list, and none past its end
+pub values-within : (low high : ℕ) (words : List ℕ) → allBetween low high words ≡ true → ValuesWithin high words
 unfolding allBetween
-all-between-at low high words = all-at (length words) (λ j. between low high (getD words j 0))
+values-within low high words h = record { most = λ j. go j (decLt j (length words)) }
+  where
+    go : (j : ℕ) → Dec (j < length words) → getD words j 0 ≤ high
+    go j (yes p) = between-high low high _ (all-at (length words) (λ i. between low high (getD words i 0)) h j p)
+    go j (no p) = omega (arith, List·getD-eq-default words 0 {n = j} (omega arith))
 
 -- where the least is 0, only the greatest is asked for
 pub between-zero : (high : ℕ) (words : List ℕ) (size : ℕ) → length words ≡ size →

@@ -1,5 +1,6 @@
 pub mod Bounded
 pub mod Refusal
+pub mod Required
 pub mod Checks
 pub mod Rounding
 pub mod Signed

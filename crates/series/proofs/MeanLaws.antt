@@ -10,10 +10,11 @@ use lib.ListN.{getD, List·getD-eq-default}
 use lib.Dec.{eqb}
 use borrow.Author.Tests.{eqb-true, ne-eqb}
 use Rattle.numbers.specs.Bounded.{listBelow}
+use Rattle.numbers.specs.Required.{ValuesWithin}
 use Rattle.numbers.proofs.ListLaws.{list-at, list-length}
-use Rattle.series.specs.Series.{mostValue, mostMean, seriesCount, windowAllowed, windowMissing, windowMean}
+use Rattle.series.specs.Series.{mostValue, seriesCount, windowAllowed, windowMissing, windowMean}
 use Rattle.series.specs.Means.{meanCount, windowOf, meanPlace, meanOrZero, meanWorked, meanList, meanAt}
-use Rattle.series.specs.Required.{ValuesWithin, TableInRange}
+use Rattle.series.specs.Required.{mostMean, TableInRange}
 use Rattle.series.proofs.SeriesLaws.{window-size, mean-least, mean-most}
 
 module _ (row : List ℕ) (first t lag window : ℕ) where

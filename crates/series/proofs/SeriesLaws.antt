@@ -12,14 +12,15 @@ use lib.ListN.{getD, List·getD-eq-default}
 use lib.Dec.{leb, ltb, eqb}
 use borrow.Author.Tests.{leb-true, eqb-true, eqb-false, eq-eqb, le-leb, lt-leb, lt-ltb, le-ltb}
 use Rattle.numbers.specs.Bounded.{sumBelow}
+use Rattle.numbers.specs.Required.{ValuesWithin}
 use Rattle.numbers.proofs.SumLaws.{sum-le, sum-ge}
 use Rattle.numbers.proofs.TestLaws.{all-at, any-none, any-holds}
 use Rattle.numbers.proofs.ListLaws.{list-at, list-length}
 use Rattle.numbers.proofs.RoundingLaws.{half-up-ge, half-up-le}
-use Rattle.series.specs.Series.{mostValue, mostMean, wordCount, monthCount, seriesCount, seriesRow, seriesTable}
+use Rattle.series.specs.Series.{mostValue, wordCount, monthCount, seriesCount, seriesRow, seriesTable}
 use Rattle.series.specs.Series.{windowAllowed, valuesInRange, valueIn, termMonth, valueOf, termValue}
 use Rattle.series.specs.Series.{windowMissing, meanOf, windowMean}
-use Rattle.series.specs.Required.{ValuesWithin, TableInRange}
+use Rattle.series.specs.Required.{mostMean, TableInRange}
 
 -- a window of 1, 6 or 9 months has 1 to 9
 pub window-size : (w : ℕ) → windowAllowed w ≡ true → (1 ≤ w) × (w ≤ 9)

@@ -1,12 +1,13 @@
 -- What the functions of this crate require of a table, as plain facts. Assumes nothing.
 use mathlib.Core.List.{List, []}
-use Prim.Native.Nat.{ℕ, _≤_}
+use Prim.Native.Nat.{ℕ, _*_, _≤_}
 use lib.ListN.{getD}
+use Rattle.numbers.specs.Required.{ValuesWithin}
 use Rattle.series.specs.Series.{mostValue, lastMonth}
 
--- no value of a list is above a bound
-pub record ValuesWithin (bound : ℕ) (values : List ℕ) : Type 0 where
-  pub most : (k : ℕ) → getD values k 0 ≤ bound
+-- what a mean is at most: that of a window whose values are all the top value
+abbrev pub mostMean : ℕ
+mostMean = mostValue * 100
 
 pub record TableInRange (table : List (List ℕ)) : Type 0 where
   pub row : (s : ℕ) → ValuesWithin mostValue (getD table s [])

@@ -24,10 +24,6 @@ wordCount = 240
 abbrev pub mostValue : ℕ
 mostValue = 99999999
 
--- the mean of a window whose values are all the top value
-abbrev pub mostMean : ℕ
-mostMean = mostValue * 100
-
 -- "Months are numbered 0 to 1,199"
 abbrev pub lastMonth : ℕ
 lastMonth = 1199

@@ -2,9 +2,10 @@
 // them, so that each is worked once, however many terms take it.
 ghost use mathlib.Core.Path.{_≡_};
 ghost use Prim.Native.Nat.{_<_, _≤_};
+ghost use Rattle.numbers.specs.Required.{ValuesWithin};
 ghost use Rattle.series.specs.Series.{seriesCount, mostValue, lastMonth, windowAllowed};
 ghost use Rattle.series.specs.Means.{meanPlace, meanOrZero, meanList};
-ghost use Rattle.series.specs.Required.{ValuesWithin, TableInRange, WindowInRange};
+ghost use Rattle.series.specs.Required.{TableInRange, WindowInRange};
 use crate::table::MONTHS;
 use crate::table::SERIES;
 use numbers::rounding::half_up;

@@ -8,13 +8,13 @@ use Prim.Native.Nat.{ℕ, _≤_, _<_}
 use lib.Dec.{eqb}
 use lib.ListN.{getD}
 use Rattle.numbers.specs.Bounded.{anyBelow}
+use Rattle.numbers.specs.Required.{ValuesWithin}
 use Rattle.numbers.specs.Units.{noPrice}
 use Rattle.numbers.proofs.TestLaws.{any-none, any-same}
 use Rattle.numbers.proofs.FirstLaws.{first-same}
 use Rattle.numbers.proofs.ListLaws.{filled-same}
-use Rattle.series.specs.Series.{mostMean}
 use Rattle.series.specs.Means.{meanCount, meanPlace, meanOrZero, meanList, meanAt}
-use Rattle.series.specs.Required.{ValuesWithin}
+use Rattle.series.specs.Required.{mostMean}
 use Rattle.series.proofs.SeriesLaws.{window-size}
 use Rattle.series.proofs.MeanLaws.{mean-published, zero-missing, place-below, mean-listed}
 use Rattle.supply.specs.Line.{mostLines, lineCount, lineOf, termOf}

@@ -13,6 +13,7 @@ use native.Mathlib.Decide.{decLt}
 use lib.Dec.{leb, ltb, eqb}
 use lib.ListN.{length, getD}
 use borrow.Author.Tests.{ltb-true, lt-ltb, le-ltb, ne-eqb}
+use Rattle.numbers.specs.Required.{ValuesWithin}
 use Rattle.numbers.specs.Rounding.{halfUp}
 use Rattle.numbers.specs.Units.{between, leastPrice, mostPrice, checkedPrice}
 use Rattle.numbers.specs.declared.units.PesoPrice.{PesoPrice}
@@ -29,7 +30,7 @@ use Rattle.numbers.specs.Checks.{verdictOf}
 use Rattle.numbers.proofs.UnitLaws.{between-low, between-high}
 use Rattle.numbers.proofs.SumLaws.{sum-same}
 use Rattle.numbers.proofs.RoundingLaws.{half-up-le}
-use Rattle.series.specs.Series.{mostMean}
+use Rattle.series.specs.Required.{mostMean}
 use Rattle.supply.specs.Line.{mostLines, mostTerms, lineCount, lineOf, termOf}
 use Rattle.supply.specs.Price.{ratioOf, termRatio, weightedRatio, indexFactor, indexedOf, lineIndexed}
 use Rattle.supply.specs.Price.{priceInForce, moved, priceTaken}
@@ -37,7 +38,7 @@ use Rattle.supply.specs.Price.{linePurchase, lineReference, indexedAllow
 use Rattle.supply.specs.Price.{answerAt, beyondAt, beyondIn, firstBeyond, outOfBoundsAt, boundsCheck}
 use Rattle.supply.specs.Price.{anyMoved, anyLineMoved, priceChecks, priceOr, referencePrice}
 use Rattle.supply.specs.Listed.{indexedOrZero, indexedList, indexedReference}
-use Rattle.supply.specs.Required.{TermFacts, InForceFacts}
+use Rattle.supply.specs.Required.{TermFacts}
 use Rattle.supply.specs.declared.line.Term.{Term}
 use Rattle.supply.specs.declared.line.Line.{Line}
 use Rattle.supply.specs.declared.market.FixingNumbers.{FixingNumbers}
@@ -133,7 +134,7 @@ taken-old inForce j indexed h = go (decLt j (length inForce))
     go (no p) = absurd (true≢false (rw (none-in-force inForce j (omega arith)) at h))
 
 -- the price taken keeps the bounds of an indexed price
-pub taken-most : (inForce : List ℕ) → InForceFacts inForce → (j indexed : ℕ) → indexed ≤ 1000000 →
+pub taken-most : (inForce : List ℕ) → ValuesWithin 1000000 inForce → (j indexed : ℕ) → indexed ≤ 1000000 →
     priceTaken (priceInForce inForce j) indexed ≤ 1000000
 taken-most inForce facts j indexed h = go (moved (priceInForce inForce j) indexed) refl
   where

@@ -5,19 +5,18 @@ use mathlib.Core.Bool.{Bool, true, false, cond, _&&_}
 use mathlib.Core.List.{List}
 use Prim.Native.Nat.{ℕ, _≤_, _<_}
 use native.Mathlib.Omega.{arith}
-use native.Mathlib.Decide.{decLt}
 use lib.Dec.{leb, ltb, eqb}
-use lib.ListN.{length, getD, List·getD-eq-default}
 use borrow.Author.Tests.{leb-true, ltb-true, eqb-true, lt-ltb}
+use Rattle.numbers.specs.Required.{ValuesWithin}
 use Rattle.numbers.specs.Units.{between, allBetween}
 use Rattle.numbers.proofs.BoolLaws.{and-left, and-right, and-three, and-five, and-six}
 use Rattle.numbers.proofs.TestLaws.{all-at}
-use Rattle.numbers.proofs.UnitLaws.{between-low, between-high, all-between-at}
+use Rattle.numbers.proofs.UnitLaws.{between-low, between-high, values-within}
 use Rattle.series.specs.Series.{seriesCount, mostValue, lastMonth, windowAllowed}
 use Rattle.supply.specs.Line.{mostLines, mostTerms, lineCount, lineOf, termOf}
 use Rattle.supply.specs.Range.{headInRange, termInRange, termUnused, termAllowed, termsAllowed, weightsAllowed}
 use Rattle.supply.specs.Range.{lineInRange, linesInRange, numbersInRange, inputInRange}
-use Rattle.supply.specs.Required.{TermFacts, LineFacts, NumbersFacts, CheckedLines, InForceFacts}
+use Rattle.supply.specs.Required.{TermFacts, LineFacts, NumbersFacts, CheckedLines}
 use Rattle.supply.specs.declared.line.Term.{Term}
 use Rattle.supply.specs.declared.line.Line.{Line}
 use Rattle.supply.specs.declared.market.FixingNumbers.{FixingNumbers}
@@ -136,13 +135,6 @@ numbers-facts numbers h =
       start = leb-true _ _ (p .2);
     }
 
-in-force-facts : (inForce : List ℕ) → allBetween 1 1000000 inForce ≡ true → InForceFacts inForce
-in-force-facts inForce h = record { most = λ j. go j (decLt j (length inForce)) }
-  where
-    go : (j : ℕ) → Dec (j < length inForce) → getD inForce j 0 ≤ 1000000
-    go j (yes p) = between-high 1 1000000 _ (all-between-at 1 1000000 inForce h j p)
-    go j (no p) = omega (arith, List·getD-eq-default inForce 0 {n = j} (omega arith))
-
 -- the parts of the test of the input
 module _ (n : ℕ) (numbers : FixingNumbers) (lines inForce : List ℕ) (h : inputInRange n numbers lines inForce ≡ true)
   where
@@ -158,5 +150,5 @@ module _ (n : ℕ) (numbers : FixingNumbers) (lines inForce : List ℕ) (h : inp
     pub input-lines : linesInRange n lines ≡ true
     input-lines = input-parts .1
 
-    pub input-in-force : InForceFacts inForce
-    input-in-force = in-force-facts inForce (input-parts .2)
+    pub input-in-force : ValuesWithin 1000000 inForce
+    input-in-force = values-within 1 1000000 inForce (input-parts .2)

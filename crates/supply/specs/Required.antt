@@ -1,5 +1,5 @@
 -- What the functions past cause 6 require: its ranges as plain facts, of terms, lines, the numbers beside them and the
--- prices in force. Assumes nothing.
+-- indexed prices. Assumes nothing.
 use mathlib.Core.Bool.{true}
 use mathlib.Core.List.{List}
 use mathlib.Core.Path.{_≡_}
@@ -40,10 +40,6 @@ pub record NumbersFacts (numbers : FixingNumbers) : Type 0 where
   pub dollarMost : numbers .dollar ≤ 200000
   pub factorMost : numbers .«reference_factor» ≤ 20000
   pub start : numbers .«first_month» ≤ lastMonth
-
--- of the prices in force, at every place
-pub record InForceFacts (inForce : List ℕ) : Type 0 where
-  pub most : (j : ℕ) → getD inForce j 0 ≤ 1000000
 
 -- of the first words of indexed prices
 pub record IndexedFacts (indexed : List ℕ) (count : ℕ) : Type 0 where

@@ -5,14 +5,14 @@ ghost use mathlib.Core.Bool.{true};
 ghost use Prim.Native.Nat.{_≤_};
 ghost use lib.ListN.{replicate, getD};
 ghost use Rattle.numbers.specs.Units.{noPrice};
-ghost use Rattle.series.specs.Series.{mostMean};
-ghost use Rattle.series.specs.Required.{ValuesWithin, TableInRange};
+ghost use Rattle.numbers.specs.Required.{ValuesWithin};
+ghost use Rattle.series.specs.Required.{mostMean, TableInRange};
 ghost use Rattle.supply.specs.Line.{mostLines};
 ghost use Rattle.supply.specs.Price.{pesoOf, termRatio, weightedRatio, indexFactor};
 ghost use Rattle.supply.specs.Price.{priceInForce, absoluteDifference, moved, priceTaken, referenceAnswer};
 ghost use Rattle.supply.specs.Price.{anyMoved, refusedReferences, pricedReferences, ReferencesPromise};
 ghost use Rattle.supply.specs.Listed.{listedMean, indexedOrZero, indexedList, indexedReference};
-ghost use Rattle.supply.specs.Required.{TermFacts, LineFacts, CheckedLines, NumbersFacts, InForceFacts};
+ghost use Rattle.supply.specs.Required.{TermFacts, LineFacts, CheckedLines, NumbersFacts};
 ghost use Rattle.supply.specs.Required.{IndexedFacts};
 use crate::line::Line;
 use crate::line::MOST_LINES;
@@ -127,7 +127,7 @@ fn absolute_difference(one: u64, other: u64) -> u64
 
 // Whether a line's indexed price moved by more than 10% from the one in force. With none in force, it did.
 fn has_moved(in_force: &[u64], j: usize, indexed: u64) -> bool
-    requires { ⌜ InForceFacts (now in_force) ⌝ ∗ ⌜ indexed ≤ 1000000 ⌝ }
+    requires { ⌜ ValuesWithin 1000000 (now in_force) ⌝ ∗ ⌜ indexed ≤ 1000000 ⌝ }
     ensures { λ r. ⌜ r ≡ moved (priceInForce (now (in_force .entry)) j) indexed ⌝ }
 {
     if j >= in_force.len() {
@@ -139,7 +139,7 @@ fn has_moved(in_force: &[u64], j: usize, indexed: u64) -> bool
 
 // The price that a line takes: its new indexed price where it moved, else the one in force.
 fn price_taken(in_force: &[u64], j: usize, indexed: u64) -> u64
-    requires { ⌜ InForceFacts (now in_force) ⌝ ∗ ⌜ indexed ≤ 1000000 ⌝ }
+    requires { ⌜ ValuesWithin 1000000 (now in_force) ⌝ ∗ ⌜ indexed ≤ 1000000 ⌝ }
     ensures { λ r. ⌜ r ≡ priceTaken (priceInForce (now (in_force .entry)) j) indexed ⌝ }
 {
     if has_moved(in_force, j, indexed) {
@@ -172,7 +172,7 @@ fn price_line(
     j: usize,
     indexed: u64,
 ) -> CheckedPrice
-    requires { ⌜ NumbersFacts numbers ⌝ ∗ ⌜ LineFacts line ⌝ ∗ ⌜ InForceFacts (now in_force) ⌝
+    requires { ⌜ NumbersFacts numbers ⌝ ∗ ⌜ LineFacts line ⌝ ∗ ⌜ ValuesWithin 1000000 (now in_force) ⌝
         ∗ ⌜ indexed ≤ 1000000 ⌝ }
     ensures { λ r. ⌜ r ≡ indexedReference numbers line (priceInForce (now (in_force .entry)) j) indexed ⌝ }
 {
@@ -185,7 +185,7 @@ fn price_line(
 
 // Whether any of the first indexed prices moved.
 fn any_moved(in_force: &[u64], indexed: &[u64; MOST_LINES], count: usize) -> bool
-    requires { ⌜ InForceFacts (now in_force) ⌝ ∗ ⌜ IndexedFacts (now indexed) count ⌝ }
+    requires { ⌜ ValuesWithin 1000000 (now in_force) ⌝ ∗ ⌜ IndexedFacts (now indexed) count ⌝ }
     ensures { λ r. ⌜ r ≡ anyMoved (now (in_force .entry)) count (λ j. getD (now (indexed .entry)) j 0) ⌝ }
 {
     let mut j: usize = 0;
@@ -230,7 +230,7 @@ fn reference_prices(
     in_force: &[u64],
 ) -> References
     requires { ⌜ ValuesWithin mostMean (now means) ⌝ ∗ ⌜ NumbersFacts numbers ⌝ ∗ ⌜ CheckedLines (now lines) ⌝
-        ∗ ⌜ InForceFacts (now in_force) ⌝ }
+        ∗ ⌜ ValuesWithin 1000000 (now in_force) ⌝ }
     ensures { λ r. ⌜ r ≡ pricedReferences (listedMean (now (means .entry))) numbers (now (lines .entry))
         (now (in_force .entry)) ⌝ }
 {
@@ -267,7 +267,7 @@ pub fn price_lines(
     in_force: &[u64],
 ) -> References
     requires { ⌜ TableInRange table ⌝ ∗ ⌜ NumbersFacts numbers ⌝ ∗ ⌜ CheckedLines (now lines) ⌝
-        ∗ ⌜ InForceFacts (now in_force) ⌝ }
+        ∗ ⌜ ValuesWithin 1000000 (now in_force) ⌝ }
     ensures { λ r. ⌜ ReferencesPromise table numbers (now (lines .entry)) (now (in_force .entry)) r ⌝ }
 {
     let means = means(table, numbers.first_month, numbers.month);

@@ -15,9 +15,6 @@ Inv-loop low high words j₀ j = Tested (length words) (λ i. between low high (
 abbrev μ-loop : tie.MeasureT-loop
 μ-loop low high words j₀ j = length words - j
 
-loop-holds : tie.Need-loop-holds Inv-loop μ-loop
-loop-holds c = tested-none _ _
-
 returns : tie.Need-returns Inv-loop μ-loop
 unfolding allBetween
 returns c =
@@ -39,7 +36,7 @@ all-between-spec =
     (tie.spec
     Inv-loop
     μ-loop
-    loop-holds
+    (λ c. tested-none _ _)
     (λ c. omega arith) (λ c. omega arith) (λ c κs. search needs)
     returns
     (λ c. omega arith) (λ c. omega arith)

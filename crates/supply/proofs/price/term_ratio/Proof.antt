@@ -2,7 +2,7 @@
 use mathlib.Core.Path.{_∙_, ap}
 use Prim.Native.Nat.{_*_, _≤_}
 use Rattle.numbers.specs.Rounding.{halfUp}
-use Rattle.series.specs.Series.{mostMean}
+use Rattle.series.specs.Required.{mostMean}
 use Rattle.supply.specs.Price.{termRatio, ratioOf}
 use Rattle.supply.proofs.ListedLaws.{listed-most}
 use native.Mathlib.Omega.{arith}
