@@ -1,12 +1,12 @@
--- The open call of settlement: its checks in their order, its answer, the ledger handed back and the transfers written.
--- Assumes nothing.
+-- The open call of settlement: its checks in their order, its answer, the ledger handed back and the transfers written;
+-- and the side that clears (W-203 of document 02). Assumes nothing.
 use mathlib.Core.Path.{_≡_}
 use mathlib.Core.Bool.{Bool, cond, _&&_}
 use mathlib.Core.List.{List, [], _∷_}
 use Prim.Native.Nat.{ℕ, _*_}
 use lib.Dec.{eqb}
-use lib.ListN.{length}
-use lib.IntN.{ℤ}
+use lib.ListN.{length, getD}
+use lib.IntN.{ℤ, pos, negℤ}
 use Rattle.numbers.specs.Bounded.{listBelow}
 use Rattle.numbers.specs.Refusal.{isPassed}
 use Rattle.numbers.specs.Checks.{Check, check, verdictOf, Judged}
@@ -86,3 +86,10 @@ pub record SettlementPromise (ledger : Ledger) (call : SettlementCall) (verdict 
   pub judged : Judged verdict (settlementChecks ledger call)
   pub booked : next ≡ settlementLedger ledger call
   pub listed : list ≡ settlementList ledger call
+
+-- distributor i of an accepted settlement "pays or receives in full": its balance is zero in the ledger handed back,
+-- and its transfer is its position with the sign turned
+pub record SettledInFull (ledger : Ledger) (call : SettlementCall) (next : Ledger) (list : List ℤ) (i : ℕ) :
+    Type 0 where
+  pub cleared : moneyAt (next .balances) i ≡ pos 0
+  pub turned : getD list i (pos 0) ≡ negℤ (moneyAt (positionsOf ledger call) i)

@@ -1,15 +1,21 @@
 // The open call of settlement: no requires. Causes 2, 3, 4, 5, 12 and 13 in their order; the transfers are written only
 // when all of them are passed.
+ghost use mathlib.Core.Bool.{true};
+ghost use mathlib.Core.List.{List};
 ghost use mathlib.Core.Path.{_≡_};
-ghost use Prim.Native.Nat.{_≤_, _<_, _^_};
+ghost use Prim.Native.Nat.{ℕ, _≤_, _<_, _^_};
+ghost use lib.IntN.{ℤ};
 ghost use lib.ListN.{length};
 ghost use Rattle.numbers.specs.Bounded.{listBelow};
-ghost use Rattle.numbers.specs.declared.refusal.Verdict.the-variants.{Refused};
+ghost use Rattle.numbers.specs.declared.refusal.Verdict.the-variants.{Passed, Refused};
 ghost use Rattle.numbers.specs.Sizes.{mostDistributors};
 ghost use Rattle.settlement.specs.Month.{moneyAt};
+ghost use Rattle.settlement.specs.Settlement.{onSmallerSide};
 ghost use Rattle.ledger.specs.Ledger.{settledLedger};
 ghost use Rattle.ledger.specs.Turn.{settlementTurn};
-ghost use Rattle.ledger.specs.Settle.{settlementCallOf, settlementLengths, SettlementPromise};
+ghost use Rattle.ledger.specs.Settle.{SettlementCall, settlementCallOf, settlementLengths, positionsOf};
+ghost use Rattle.ledger.specs.Settle.{SettlementPromise, SettledInFull};
+ghost use Rattle.ledger.specs.declared.ledger.Ledger.{Ledger};
 ghost use Rattle.ledger.specs.Required.{Due};
 use crate::ledger::Ledger;
 use crate::sound::is_sound;
@@ -151,3 +157,12 @@ pub fn settle(
     }
     settle_month(ledger, month, readings, losses, transfers)
 }
+
+// "In every settlement the side with the smaller total, both if equal, pays or receives in full" (document 02), of
+// whatever `settle` hands back where it accepts. The function does nothing; its ensures is the statement.
+pub fn smaller_side_clears()
+    ensures { λ r. ⌜ ((ledger next : Ledger) (call : SettlementCall) (list : List ℤ) →
+        SettlementPromise ledger call Passed next list → (i : ℕ) → i < ledger .n →
+        onSmallerSide (ledger .n) (moneyAt (positionsOf ledger call)) i ≡ true →
+        SettledInFull ledger call next list i) ⌝ }
+{}

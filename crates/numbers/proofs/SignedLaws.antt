@@ -64,6 +64,10 @@ pub parts : (z : ℤ) → z ≡ subℕ (positivePart z) (negativePart z)
 parts (pos n) = sym (pos-sub-zero n)
 parts (negsuc n) = ap negsuc (omega arith) ∙ sym (sub-lt 0 (suc n) (omega arith))
 
+pub parts-turned : (z : ℤ) → subℕ (negativePart z) (positivePart z) ≡ negℤ z
+parts-turned (pos n) = neg-sub n
+parts-turned (negsuc n) = pos-sub-zero (suc n)
+
 -- a sum of differences is the difference of the sums
 pub sub-add : (a b c d : ℕ) → subℕ a b +ℤ subℕ c d ≡ subℕ (a + c) (b + d)
 sub-add a b c d =
@@ -222,6 +226,11 @@ part-size true (pos n) h = absurd (false≢true h)
 part-size false (pos n) h = refl
 part-size true (negsuc n) h = refl
 part-size false (negsuc n) h = absurd (false≢true h)
+
+pub own-part : (z : ℤ) → cond (isNegative z) (negativePart z) (positivePart z) ≡ natAbs z
+unfolding isNegative
+own-part (pos n) = refl
+own-part (negsuc n) = refl
 
 pub part-most : (negative : Bool) (z : ℤ) → cond negative (negativePart z) (positivePart z) ≤ natAbs z
 part-most true z = omega (arith, size-parts z)

@@ -1,13 +1,13 @@
 -- A month's lists: bounds of running totals, shares, positions that pass their test and the balances that a settlement
 -- leaves, and how a loop writes them. Assumes nothing.
-use mathlib.Core.Path.{_≡_, _∙_, ap, ap₂}
+use mathlib.Core.Path.{_≡_, sym, _∙_, ap, ap₂}
 use mathlib.Core.Bool.{Bool, true, false}
 use mathlib.Core.List.{List}
 use Prim.Native.Nat.{ℕ, _+_, _≤_, _<_}
 use native.Mathlib.Omega.{arith}
 use lib.IntN.{ℤ, subℕ, natAbs, _+ℤ_}
 use lib.ListN.{getD, set, replicate}
-use borrow.Author.Tests.{leb-true, eq-eqb}
+use borrow.Author.Tests.{leb-true}
 use Rattle.numbers.specs.Bounded.{sumBelow}
 use Rattle.numbers.specs.Signed.{withinSize}
 use Rattle.numbers.specs.Units.{noMoney}
@@ -15,10 +15,10 @@ use Rattle.numbers.specs.Sizes.{mostDistributors}
 use Rattle.numbers.specs.declared.units.Pesos.{Pesos}
 use Rattle.numbers.proofs.SumLaws.{sum-same, sum-le}
 use Rattle.numbers.proofs.TestLaws.{all-at}
-use Rattle.numbers.proofs.ListLaws.{filled-none, filled-at, filled-empty, filled-next, filled-same}
+use Rattle.numbers.proofs.ListLaws.{filled-none, filled-at, filled-next, filled-same}
 use Rattle.settlement.specs.Amount.{collectedAmount}
 use Rattle.settlement.specs.Required.{Billed}
-use Rattle.settlement.specs.Share.{sideTotal, sharedBefore, share}
+use Rattle.settlement.specs.Share.{sideTotal, share}
 use Rattle.settlement.specs.Settlement.{positionOf, mostPosition, positionsInRange, owing, owed, sideSize}
 use Rattle.settlement.specs.Settlement.{transferred, paid, received, transfer, newBalance}
 use Rattle.settlement.specs.Month.{moneyAt, moneyBelow, sizesBelow, shareList, movedMonth, settledMonth}
@@ -26,7 +26,7 @@ use Rattle.settlement.specs.Required.{MoneyWithin, Side}
 use Rattle.settlement.specs.declared.month.SettledMonth.{SettledMonth}
 use Rattle.numbers.proofs.SignedLaws.{part-most, size-add-le, size-sub-le}
 use Rattle.settlement.proofs.AmountLaws.{amount-size}
-use Rattle.settlement.proofs.ShareLaws.{share-same, share-most}
+use Rattle.settlement.proofs.ShareLaws.{share-same, share-most, share-whole}
 use Rattle.settlement.proofs.SettlementLaws.{balance-size}
 
 -- a side's running totals
@@ -35,31 +35,39 @@ module _ (n : ℕ) (sizes : List ℕ) (side : Side n sizes) where
   running-most k p =
       omega (arith, sum-le k mostPosition (λ i. getD sizes i 0) (λ i q. side .within i (omega arith)), side .few)
 
--- a side of total 0 has no shares
-pub shares-none : (n : ℕ) (sizes : List ℕ) (transferred : ℕ) → sideTotal n (λ i. getD sizes i 0) ≡ 0 →
-    replicate mostDistributors 0 ≡ shareList n sizes transferred
-unfolding shareList share sharedBefore
-shares-none n sizes transferred e =
-    filled-empty mostDistributors 0 n (share n (λ i. getD sizes i 0) transferred)
-    (λ j p. rw (eq-eqb (sideTotal n (λ i. getD sizes i 0)) 0 e))
+-- a side that is transferred whole has its sizes for shares
+pub shares-whole : (n : ℕ) (sizes : List ℕ) (transferred : ℕ) → Side n sizes →
+    transferred ≡ sideTotal n (λ i. getD sizes i 0) → sizes ≡ shareList n sizes transferred
+unfolding shareList sizesBelow
+shares-whole n sizes transferred side e =
+    side .past
+    ∙ filled-same mostDistributors 0 n (λ i. getD sizes i 0) (share n (λ i. getD sizes i 0) transferred)
+    (λ i p. sym (share-whole n (λ j. getD sizes j 0) transferred (omega arith) e i p))
+
+-- a list of sizes: each, and that within 10^15 they are a side
+module _ (n : ℕ) (few : n ≤ mostDistributors) (size : ℕ → ℕ) where
+  sizes-at : (i : ℕ) → i < n → getD (sizesBelow n size) i 0 ≡ size i
+  unfolding sizesBelow
+  sizes-at i p = filled-at mostDistributors 0 size n i p (omega arith)
+
+  sizes-side : ((i : ℕ) → i < n → size i ≤ mostPosition) → (sizes : List ℕ) → sizes ≡ sizesBelow n size → Side n sizes
+  unfolding sizesBelow
+  sizes-side h sizes e =
+      let at : (i : ℕ) → i < n → getD sizes i 0 ≡ size i = λ i p. ap (λ l. getD l i 0) e ∙ sizes-at i p in
+      record {
+        few = few;
+        within = λ i p. omega (arith, at i p, h i p);
+        past = e ∙ filled-same mostDistributors 0 n size (λ i. getD sizes i 0) (λ i p. sym (at i p));
+      }
 
 -- shares are a side themselves, since none is larger than its size
 pub shares-within : (n : ℕ) (sizes : List ℕ) (transferred : ℕ) → Side n sizes →
     transferred ≤ sideTotal n (λ i. getD sizes i 0) → (shares : List ℕ) → shares ≡ shareList n sizes transferred →
     Side n shares
-unfolding shareList
-shares-within n sizes transferred side h shares e =
-    record {
-      few = side .few;
-      within = λ i p.
-          omega (
-            arith,
-            ap (λ l. getD l i 0) e,
-            filled-at mostDistributors 0 (share n (λ j. getD sizes j 0) transferred) n i p (omega (arith, side .few)),
-            share-most n (λ j. getD sizes j 0) transferred h i p,
-            side .within i p,
-          );
-    }
+unfolding shareList sizesBelow
+shares-within n sizes transferred side h =
+    sizes-side n (side .few) (share n (λ i. getD sizes i 0) transferred)
+    (λ i p. omega (arith, share-most n (λ j. getD sizes j 0) transferred h i p, side .within i p))
 
 -- positions that pass the test of cause 13
 pub positions-within : (n : ℕ) (positions : List Pesos) → n ≤ mostDistributors →
@@ -128,24 +136,20 @@ balances-within n positions w =
           );
     }
 
--- a side's sizes read from their list: each, their total, their shares
+-- a side's sizes read from their list: their total, their shares
 module _ (n : ℕ) (few : n ≤ mostDistributors) (size : ℕ → ℕ) where
-  sizes-at : (i : ℕ) → i < n → getD (sizesBelow n size) i 0 ≡ size i
-  unfolding sizesBelow
-  sizes-at i p = filled-at mostDistributors 0 size n i p (omega arith)
-
   pub sizes-total : (sizes : List ℕ) (total : ℕ) → sizes ≡ sizesBelow n size →
       total ≡ sideTotal n (λ i. getD sizes i 0) → total ≡ sideTotal n size
   unfolding sideTotal
   sizes-total sizes total e h =
-      h ∙ ap (λ l. sumBelow n (λ i. getD l i 0)) e ∙ sum-same n (λ i. getD (sizesBelow n size) i 0) size sizes-at
+      h ∙ ap (λ l. sumBelow n (λ i. getD l i 0)) e ∙ sum-same n (λ i. getD (sizesBelow n size) i 0) size (sizes-at n few size)
 
   shares-at : (transferred i : ℕ) → i < n →
       getD (shareList n (sizesBelow n size) transferred) i 0 ≡ share n size transferred i
   unfolding shareList
   shares-at transferred i p =
       filled-at mostDistributors 0 (share n (λ j. getD (sizesBelow n size) j 0) transferred) n i p (omega arith)
-      ∙ share-same n (λ j. getD (sizesBelow n size) j 0) size transferred i sizes-at p
+      ∙ share-same n (λ j. getD (sizesBelow n size) j 0) size transferred i (sizes-at n few size) p
 
 -- the list of what each pays (false) or receives (true)
 abbrev sharesOf : ℕ → List Pesos → Bool → List ℕ
@@ -156,18 +160,9 @@ module _ (n : ℕ) (positions : List Pesos) (w : MoneyWithin n positions) where
   pub sizes-within : (negative : Bool) (sizes : List ℕ) → sizes ≡ sizesBelow n (sideSize negative (moneyAt positions)) →
       Side n sizes
   unfolding sideSize owing owed
-  sizes-within negative sizes e =
-      record {
-        few = w .few;
-        within = λ i p.
-            omega (
-              arith,
-              ap (λ l. getD l i 0) e,
-              sizes-at n (w .few) (sideSize negative (moneyAt positions)) i p,
-              part-most negative (moneyAt positions i),
-              w .within i p,
-            );
-      }
+  sizes-within negative =
+      sizes-side n (w .few) (sideSize negative (moneyAt positions))
+      (λ i p. omega (arith, part-most negative (moneyAt positions i), w .within i p))
 
   -- so the month moved by these two lists is the month settled
   transfer-is : (i : ℕ) → i < n →

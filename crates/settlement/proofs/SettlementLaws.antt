@@ -1,19 +1,21 @@
 -- What follows for a month from the three laws of the shares alone: no sign turns, transfers add up to zero, balances
--- add up to the positions, no balance is above zero beside one below, no size grows. Assumes nothing.
-use mathlib.Core.Path.{_≡_, _∙_, ap}
-use mathlib.Core.Bool.{true, and-false}
+-- add up to the positions, the side with the smaller total clears, no balance is above zero beside one below, no size
+-- grows. Assumes nothing.
+use mathlib.Core.Path.{_≡_, refl, _∙_, ap, ap₂}
+use mathlib.Core.Bool.{Bool, true, false, not, Bool·beq, and-false}
 use Prim.Native.Nat.{ℕ, _+_, _-_, _≤_, _<_}
 use native.Mathlib.Omega.{arith}
 use native.Mathlib.Decide.{decLe}
-use lib.IntN.{ℤ, pos, subℕ, natAbs, _+ℤ_, +ℤ-idr}
+use lib.IntN.{ℤ, pos, subℕ, natAbs, _+ℤ_, +ℤ-idr, +ℤ-invr}
 use lib.Signed.{ltZ}
+use borrow.Author.Tests.{leb-true}
 use Rattle.numbers.specs.Bounded.{sumBelow}
 use Rattle.numbers.specs.Signed.{signedSumBelow, positivePart, negativePart, isNegative}
 use Rattle.numbers.proofs.SignedLaws.{sub-eq, signed-sum-sub, add-sub, sub-parts, size-parts, not-above, not-below}
-use Rattle.numbers.proofs.SignedLaws.{signed-sum-add}
+use Rattle.numbers.proofs.SignedLaws.{signed-sum-add, part-none, own-part, parts-turned}
 use Rattle.settlement.specs.Share.{sideTotal}
 use Rattle.settlement.specs.Settlement.{positionOf, owing, owed, transferred, paid, received, transfer}
-use Rattle.settlement.specs.Settlement.{newBalance, oneSign}
+use Rattle.settlement.specs.Settlement.{sideSize, newBalance, onSmallerSide, sideShare, InFull, oneSign}
 use Rattle.settlement.proofs.ShareLaws.{shares-total, share-most, share-whole}
 use Rattle.numbers.proofs.TestLaws.{any-never}
 
@@ -88,20 +90,47 @@ module _ (n : ℕ) (position : ℕ → ℤ) where
       ∙ ap (λ (z : ℤ). signedSumBelow n position +ℤ z) transfers-zero
       ∙ +ℤ-idr (signedSumBelow n position)
 
-  -- afterwards never a balance above zero beside one below: the smaller side is transferred whole, and none is left on
-  -- it
+  -- the smaller side is transferred whole: its shares are its sizes
+  side-whole : (negative : Bool) →
+      sideTotal n (sideSize negative position) ≤ sideTotal n (sideSize (not negative) position) → (i : ℕ) → i < n →
+      sideShare negative n position i ≡ sideSize negative position i
+  unfolding sideShare sideSize paid received transferred
+  side-whole true h = share-whole n (owed position) (transferred n position) (enough .1) (omega arith)
+  side-whole false h = share-whole n (owing position) (transferred n position) (enough .0) (omega arith)
+
+  -- "in every settlement the side with the smaller total, both if equal, pays or receives in full"
+  pub smaller-side-clears : (i : ℕ) → i < n → onSmallerSide n position i ≡ true → InFull n position i
+  unfolding onSmallerSide sideShare sideSize newBalance transfer owing owed
+  smaller-side-clears i p h =
+      let whole = side-whole (isNegative (position i)) (leb-true _ _ h) i p in
+      let moved = go (isNegative (position i)) refl whole in
+      let turned = ap₂ subℕ (moved .0) (moved .1) ∙ parts-turned (position i) in
+      record {
+        whole = whole ∙ own-part (position i);
+        turned = turned;
+        cleared = ap (λ (z : ℤ). position i +ℤ z) turned ∙ +ℤ-invr (position i);
+      }
+    where
+      go : (negative : Bool) → isNegative (position i) ≡ negative →
+          sideShare negative n position i ≡ sideSize negative position i →
+          (received n position i ≡ negativePart (position i)) × (paid n position i ≡ positivePart (position i))
+      go true e w =
+          (w, omega (arith, paid-most i p, part-none false (position i) (ap (λ b. Bool·beq b false) e)))
+      go false e w =
+          (omega (arith, received-most i p, part-none true (position i) (ap (λ b. Bool·beq b true) e)), w)
+
+  -- afterwards never a balance above zero beside one below: none is left on the smaller side
   pub balances-sign : oneSign n (newBalance n position) ≡ true
-  unfolding oneSign paid received transferred
+  unfolding oneSign sideShare sideSize
   balances-sign = go (decLe (sideTotal n (owing position)) (sideTotal n (owed position)))
     where
       go : Dec (sideTotal n (owing position) ≤ sideTotal n (owed position)) → oneSign n (newBalance n position) ≡ true
       go (yes h) =
-          let whole = share-whole n (owing position) (transferred n position) (enough .0) (omega arith) in
           rw
           (any-never n (λ i. ltZ (pos 0) (newBalance n position i))
-          (λ i p. not-above (newBalance n position i) (omega (arith, parts-most i p, whole i p))))
+          (λ i p. not-above (newBalance n position i) (omega (arith, parts-most i p, side-whole false h i p))))
       go (no h) =
-          let whole = share-whole n (owed position) (transferred n position) (enough .1) (omega arith) in
+          let whole = side-whole true (omega arith) in
           rw (
             any-never n (λ i. isNegative (newBalance n position i))
                 (λ i p. not-below (newBalance n position i) (omega (arith, parts-most i p, whole i p))),

@@ -9,7 +9,7 @@ use Rattle.numbers.specs.Sizes.{mostDistributors, sectorCount}
 use Rattle.numbers.specs.declared.units.Pesos.{Pesos}
 use Rattle.settlement.specs.Amount.{mostReading, mostCharge, readingOf, chargeAt, highLossOf, lowLossOf}
 use Rattle.settlement.specs.Settlement.{mostPosition}
-use Rattle.settlement.specs.Month.{moneyAt}
+use Rattle.settlement.specs.Month.{moneyAt, sizesBelow}
 
 pub record BillingLists (n : ℕ) (readings losses : List ℕ) : Type 0 where
   pub few : n ≤ mostDistributors
@@ -34,7 +34,8 @@ pub record MoneyWithin (n : ℕ) (list : List Pesos) : Type 0 where
   pub few : n ≤ mostDistributors
   pub within : (i : ℕ) → i < n → natAbs (moneyAt list i) ≤ mostPosition
 
--- a side of n sizes within 10^15
+-- a side of n sizes within 10^15, those past n empty
 pub record Side (n : ℕ) (sizes : List ℕ) : Type 0 where
   pub few : n ≤ mostDistributors
   pub within : (i : ℕ) → i < n → getD sizes i 0 ≤ mostPosition
+  pub past : sizes ≡ sizesBelow n (λ i. getD sizes i 0)

@@ -1,8 +1,11 @@
--- One month's settlement ("The ledger" of document 01): positions, the two sides, transfers, new balances, in $.
+-- One month's settlement ("The ledger" of document 01): positions, the two sides, transfers, new balances, in $; and the
+-- side that clears (W-203 of document 02).
 -- Assumes nothing.
+use mathlib.Core.Path.{_≡_}
 use mathlib.Core.Bool.{Bool, cond, not, _&&_}
 use Prim.Native.Nat.{ℕ, _^_, min}
-use lib.IntN.{ℤ, pos, subℕ, _+ℤ_}
+use lib.Dec.{leb}
+use lib.IntN.{ℤ, pos, subℕ, natAbs, negℤ, _+ℤ_}
 use lib.Signed.{ltZ}
 use Rattle.numbers.specs.Bounded.{allBelow, anyBelow}
 use Rattle.numbers.specs.Signed.{positivePart, negativePart, withinSize, isNegative}
@@ -49,6 +52,23 @@ transfer n position i = subℕ (received n position i) (paid n position i)
 -- "The new balance moves towards zero by the share"
 unfoldable pub newBalance : ℕ → (ℕ → ℤ) → ℕ → ℤ
 newBalance n position i = position i +ℤ transfer n position i
+
+-- whether i is on "the side with the smaller total, both if equal"
+unfoldable pub onSmallerSide : ℕ → (ℕ → ℤ) → ℕ → Bool
+onSmallerSide n position i =
+    let negative = isNegative (position i) in
+    leb (sideTotal n (sideSize negative position)) (sideTotal n (sideSize (not negative) position))
+
+-- what i pays or receives, by the sign of its side
+unfoldable pub sideShare : Bool → ℕ → (ℕ → ℤ) → ℕ → ℕ
+sideShare negative n position i = cond negative (received n position i) (paid n position i)
+
+-- i "pays or receives in full": its share is its position's size, so that its new balance is zero, its transfer being
+-- its position with the sign turned
+pub record InFull (n : ℕ) (position : ℕ → ℤ) (i : ℕ) : Type 0 where
+  pub whole : sideShare (isNegative (position i)) n position i ≡ natAbs (position i)
+  pub turned : transfer n position i ≡ negℤ (position i)
+  pub cleared : newBalance n position i ≡ pos 0
 
 -- balances are "never of both signs": whether not both one above zero and one below is among n of them
 unfoldable pub oneSign : ℕ → (ℕ → ℤ) → Bool

@@ -113,7 +113,8 @@ fn moved(
     }
 }
 
-// The month settled from its positions: the smaller side's total is transferred.
+// The month settled from its positions: the smaller total is transferred, so that only the larger side is divided, and
+// neither where the totals are equal.
 pub fn settle_positions(n: usize, positions: [Pesos; MOST_DISTRIBUTORS]) -> SettledMonth
     requires { ⌜ MoneyWithin n positions ⌝ }
     ensures { λ r. ⌜ r ≡ settledMonth n positions ⌝ }
@@ -127,7 +128,7 @@ pub fn settle_positions(n: usize, positions: [Pesos; MOST_DISTRIBUTORS]) -> Sett
     } else {
         owed_total
     };
-    let paid = shares(n, &owing, transferred);
-    let received = shares(n, &owed, transferred);
+    let paid = shares(n, &owing, owing_total, transferred);
+    let received = shares(n, &owed, owed_total, transferred);
     moved(n, positions, &paid, &received)
 }

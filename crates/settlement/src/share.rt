@@ -22,21 +22,22 @@ pub(crate) fn side_total(n: usize, sizes: &[u64; MOST_DISTRIBUTORS]) -> u64
     total
 }
 
-// The shares of a side in the transferred total, in one pass: with each distributor's own size, less the same before
-// it.
+// The shares of a side in the transferred total. A side that is transferred whole has its sizes for shares, with no
+// division; any other is worked in one pass: with each distributor's own size, less the same before it.
 pub(crate) fn shares(
     n: usize,
     sizes: &[u64; MOST_DISTRIBUTORS],
+    total: u64,
     transferred: u64,
 ) -> [u64; MOST_DISTRIBUTORS]
-    requires { ⌜ Side n (now sizes) ⌝ ∗ ⌜ transferred ≤ sideTotal n (λ i. getD (now sizes) i 0) ⌝ }
+    requires { ⌜ Side n (now sizes) ⌝ ∗ ⌜ total ≡ sideTotal n (λ i. getD (now sizes) i 0) ⌝ ∗
+        ⌜ transferred ≤ total ⌝ }
     ensures { λ r. ⌜ r ≡ shareList n (now (sizes .entry)) transferred ⌝ }
 {
-    let total = side_total(n, sizes);
-    let mut shares = [0u64; MOST_DISTRIBUTORS];
-    if total == 0 {
-        return shares;
+    if transferred == total {
+        return *sizes;
     }
+    let mut shares = [0u64; MOST_DISTRIBUTORS];
     let mut running: u64 = 0;
     let mut before: u64 = 0;
     let mut i: usize = 0;

@@ -65,19 +65,15 @@ side-total-requires c κs = owingSide (c .before)
 side-total-requires-2 : tie.Need-side-total-requires-2
 side-total-requires-2 c κs = owedSide (c .before .before .before)
 
--- the shares' totals
-owingEnough : (c : tie.Joined1) →
-    c .if1 .transferred ≤ sideTotal (n c) (λ i. getD (d c .before .side-sizes .result) i 0)
-owingEnough c = omega (arith, t c .before .before .side-total .ensures, least c)
-
-owedEnough : (c : tie.Joined1) → c .if1 .transferred ≤ sideTotal (n c) (λ i. getD (d c .side-sizes2 .result) i 0)
-owedEnough c = omega (arith, t c .side-total2 .ensures, least c)
-
 shares-requires : tie.Need-shares-requires
-shares-requires c κs = (owingSide (d (c .before)), owingEnough (c .before))
+shares-requires c κs =
+    let j = c .before in
+    (owingSide (d j), (t j .before .before .side-total .ensures, least j .0))
 
 shares-requires-2 : tie.Need-shares-requires-2
-shares-requires-2 c κs = (owedSide (d (c .before .before .before)), owedEnough (c .before .before .before))
+shares-requires-2 c κs =
+    let j = c .before .before .before in
+    (owedSide (d j), (t j .side-total2 .ensures, least j .1))
 
 moved-requires : tie.Need-moved-requires
 moved-requires c κs =
@@ -86,8 +82,10 @@ moved-requires c κs =
     let j = p .before .before in (
       s (d j) .pre,
       (
-        shares-within (n j) _ _ (owingSide (d j)) (owingEnough j) _ (p .shares .ensures),
-        shares-within (n j) _ _ (owedSide (d j)) (owedEnough j) _ (r .shares2 .ensures),
+        shares-within (n j) _ _ (owingSide (d j)) (omega (arith, t j .before .before .side-total .ensures, least j)) _
+            (p .shares .ensures),
+        shares-within (n j) _ _ (owedSide (d j)) (omega (arith, t j .side-total2 .ensures, least j)) _
+            (r .shares2 .ensures),
       ),
     )
 
