@@ -142,7 +142,9 @@ module _ (n : ℕ) (few : n ≤ mostDistributors) (size : ℕ → ℕ) where
       total ≡ sideTotal n (λ i. getD sizes i 0) → total ≡ sideTotal n size
   unfolding sideTotal
   sizes-total sizes total e h =
-      h ∙ ap (λ l. sumBelow n (λ i. getD l i 0)) e ∙ sum-same n (λ i. getD (sizesBelow n size) i 0) size (sizes-at n few size)
+      h
+      ∙ ap (λ l. sumBelow n (λ i. getD l i 0)) e
+      ∙ sum-same n (λ i. getD (sizesBelow n size) i 0) size (sizes-at n few size)
 
   shares-at : (transferred i : ℕ) → i < n →
       getD (shareList n (sizesBelow n size) transferred) i 0 ≡ share n size transferred i

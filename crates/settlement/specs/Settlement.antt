@@ -1,6 +1,5 @@
--- One month's settlement ("The ledger" of document 01): positions, the two sides, transfers, new balances, in $; and the
--- side that clears (W-203 of document 02).
--- Assumes nothing.
+-- One month's settlement ("The ledger" of document 01): positions, the two sides, transfers, new balances, in $; and
+-- the side that clears (W-203 of document 02). Assumes nothing.
 use mathlib.Core.Path.{_≡_}
 use mathlib.Core.Bool.{Bool, cond, not, _&&_}
 use Prim.Native.Nat.{ℕ, _^_, min}
@@ -63,8 +62,8 @@ onSmallerSide n position i =
 unfoldable pub sideShare : Bool → ℕ → (ℕ → ℤ) → ℕ → ℕ
 sideShare negative n position i = cond negative (received n position i) (paid n position i)
 
--- i "pays or receives in full": its share is its position's size, so that its new balance is zero, its transfer being
--- its position with the sign turned
+-- i "pays or receives in full. Its shares are then the positions' sizes": its transfer is its position with the sign
+-- turned, and its new balance zero
 pub record InFull (n : ℕ) (position : ℕ → ℤ) (i : ℕ) : Type 0 where
   pub whole : sideShare (isNegative (position i)) n position i ≡ natAbs (position i)
   pub turned : transfer n position i ≡ negℤ (position i)

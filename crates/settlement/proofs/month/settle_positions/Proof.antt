@@ -5,7 +5,6 @@ use mathlib.Core.Logic.{⊎-elim}
 use Prim.Native.Nat.{ℕ, _≤_}
 use native.Mathlib.Omega.{arith}
 use lib.IntN.{ℤ}
-use lib.ListN.{getD}
 use Rattle.settlement.specs.Share.{sideTotal}
 use Rattle.settlement.specs.Settlement.{owing, owed, sideSize, transferred}
 use Rattle.settlement.specs.Month.{moneyAt, shareList, movedMonth}
