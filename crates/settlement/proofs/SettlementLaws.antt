@@ -8,7 +8,7 @@ use native.Mathlib.Omega.{arith}
 use native.Mathlib.Decide.{decLe}
 use lib.IntN.{ℤ, pos, subℕ, natAbs, _+ℤ_, +ℤ-idr, +ℤ-invr}
 use lib.Signed.{ltZ}
-use borrow.Author.Tests.{leb-true}
+use borrow.Author.Tests.{leb-true, le-leb}
 use Rattle.numbers.specs.Bounded.{sumBelow}
 use Rattle.numbers.specs.Signed.{signedSumBelow, positivePart, negativePart, isNegative}
 use Rattle.numbers.proofs.SignedLaws.{sub-eq, signed-sum-sub, add-sub, sub-parts, size-parts, not-above, not-below}
@@ -119,21 +119,38 @@ module _ (n : ℕ) (position : ℕ → ℤ) where
       go false e w =
           (omega (arith, received-most i p, part-none true (position i) (ap (λ b. Bool·beq b true) e)), w)
 
-  -- afterwards never a balance above zero beside one below: none is left on the smaller side
+  -- so nothing is left on that side: who was on it has cleared, and no one else changed sign
+  none-left : (negative : Bool) →
+      sideTotal n (sideSize negative position) ≤ sideTotal n (sideSize (not negative) position) → (i : ℕ) → i < n →
+      sideSize negative (newBalance n position) i ≡ 0
+  unfolding onSmallerSide sideSize owing owed
+  none-left negative h i p = go negative (isNegative (position i)) refl h
+    where
+      go : (side own : Bool) → isNegative (position i) ≡ own →
+          sideTotal n (sideSize side position) ≤ sideTotal n (sideSize (not side) position) →
+          sideSize side (newBalance n position) i ≡ 0
+      go true true e k = ap negativePart (smaller-side-clears i p (rw e (le-leb _ _ k)) .cleared)
+      go false false e k = ap positivePart (smaller-side-clears i p (rw e (le-leb _ _ k)) .cleared)
+      go true false e k =
+          omega (arith, balance-below i p, part-none true (position i) (ap (λ b. Bool·beq b true) e))
+      go false true e k =
+          omega (arith, balance-above i p, part-none false (position i) (ap (λ b. Bool·beq b false) e))
+
+  -- afterwards never a balance above zero beside one below
   pub balances-sign : oneSign n (newBalance n position) ≡ true
-  unfolding oneSign sideShare sideSize
+  unfolding oneSign sideSize owing owed
   balances-sign = go (decLe (sideTotal n (owing position)) (sideTotal n (owed position)))
     where
       go : Dec (sideTotal n (owing position) ≤ sideTotal n (owed position)) → oneSign n (newBalance n position) ≡ true
       go (yes h) =
           rw
           (any-never n (λ i. ltZ (pos 0) (newBalance n position i))
-          (λ i p. not-above (newBalance n position i) (omega (arith, parts-most i p, side-whole false h i p))))
+          (λ i p. not-above (newBalance n position i) (none-left false h i p)))
       go (no h) =
-          let whole = side-whole true (omega arith) in
+          let left = none-left true (omega arith) in
           rw (
             any-never n (λ i. isNegative (newBalance n position i))
-                (λ i p. not-below (newBalance n position i) (omega (arith, parts-most i p, whole i p))),
+                (λ i p. not-below (newBalance n position i) (left i p)),
             and-false,
           )
 
