@@ -40,14 +40,14 @@ emptyForm = replicate partCount nothing
 abbrev pub openForm : List Part
 openForm = part "N           " number ∷ replicate 11 nothing
 
--- "fix MONTH DOLLAR FACTOR FIRST series K .. lines K .. sectors K .. prices K"; "interim MONTH DOLLAR FACTOR FIRST
--- series K .. lines K .. sectors K .. inforce K .. prices K"
+-- "fix MONTH DOLLAR FACTOR FIRST series K .. lines K .. sectors K .. prices K power K"; "interim MONTH DOLLAR FACTOR
+-- FIRST series K .. lines K .. sectors K .. inforce K .. prices K power K"
 abbrev pub fixingForm : Bool → List Part
 fixingForm isInterim =
     part "MONTH       " number ∷ part "DOLLAR      " number ∷ part "FACTOR      " number ∷ part "FIRST       " number
     ∷ part "series      " list ∷ part "lines       " list ∷ part "sectors     " list
     ∷ cond isInterim (part "inforce     " list) nothing ∷ part "prices      " (Length longestList)
-    ∷ replicate 3 nothing
+    ∷ part "power       " (Length longestList) ∷ replicate 2 nothing
 
 -- "settle MONTH readings K .. losses K .. transfers K"
 abbrev pub settleForm : List Part

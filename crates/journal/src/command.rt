@@ -61,7 +61,7 @@ fn open_form() -> [Part; PARTS]
     form
 }
 
-// A fixing's form: an interim one has the prices in force before the lent list.
+// A fixing's form: an interim one has the prices in force before the lent lists.
 fn fixing_form(is_interim: bool) -> [Part; PARTS]
     ensures { λ r. ⌜ r ≡ fixingForm «is_interim» ⌝ }
 {
@@ -74,6 +74,7 @@ fn fixing_form(is_interim: bool) -> [Part; PARTS]
     form[5] = Part(*b"lines       ", Kind::List(LONGEST_LIST, MOST_WORD));
     form[6] = Part(*b"sectors     ", Kind::List(LONGEST_LIST, MOST_WORD));
     form[8] = Part(*b"prices      ", Kind::Length(LONGEST_LIST));
+    form[9] = Part(*b"power       ", Kind::Length(LONGEST_LIST));
     if is_interim {
         form[7] = Part(*b"inforce     ", Kind::List(LONGEST_LIST, MOST_WORD));
         return form;

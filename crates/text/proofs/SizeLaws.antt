@@ -103,25 +103,25 @@ signed-words-size list =
     texts-size (length list) 22 (λ k. wordBy true (wordOf (getD list k (pos 0))))
     (λ k p. word-by-size true (wordOf (getD list k (pos 0))))
 
-column-size : (column : List ℤ) (i : ℕ) → length (columnText column i) ≤ 22
+column-size : (signed : Bool) (column : List ℕ) (i : ℕ) → length (columnText signed column i) ≤ 22
 unfolding columnText
-column-size column i =
-    choice-size (ltb i (length column)) (wordBy true (wordOf (getD column i (pos 0)))) [] 22
-    (word-by-size true (wordOf (getD column i (pos 0)))) (omega arith)
+column-size signed column i =
+    choice-size (ltb i (length column)) (wordBy signed (getD column i 0)) [] 22
+    (word-by-size signed (getD column i 0)) (omega arith)
 
-row-size : (i width : ℕ) (words column : List ℤ) → length words ≤ width →
-    length (rowText i words column) ≤ 43 + width * 22
+row-size : (i width : ℕ) (words : List ℤ) (signed : Bool) (column : List ℕ) → length words ≤ width →
+    length (rowText i words signed column) ≤ 43 + width * 22
 unfolding rowText
-row-size i width words column p =
-    simp length-append (omega (arith, decimal-size i, signed-words-size words, column-size column i))
+row-size i width words signed column p =
+    simp length-append (omega (arith, decimal-size i, signed-words-size words, column-size signed column i))
 
-pub rows-size : (list : List ℤ) (width : ℕ) (column : List ℤ) →
-    length (rowsText list width column) ≤ mostDistributors * (43 + width * 22)
+pub rows-size : (list : List ℤ) (width : ℕ) (signed : Bool) (column : List ℕ) →
+    length (rowsText list width signed column) ≤ mostDistributors * (43 + width * 22)
 unfolding rowsText
-rows-size list width column =
+rows-size list width signed column =
     let rows = min (length list / width) mostDistributors in
     let few : rows ≤ mostDistributors = omega arith in
     le-trans
-    (texts-size rows (43 + width * 22) (λ i. rowText i (take width (drop (i * width) list)) column)
-    (λ i p. row-size i width (take width (drop (i * width) list)) column (rw length-take (omega arith))))
+    (texts-size rows (43 + width * 22) (λ i. rowText i (take width (drop (i * width) list)) signed column)
+    (λ i p. row-size i width (take width (drop (i * width) list)) signed column (rw length-take (omega arith))))
     (mul-le-mul-right (43 + width * 22) few)

@@ -23,25 +23,32 @@ fn write_signed_words(buffer: &mut [u8], count: usize, list: &[i64]) -> usize
     end
 }
 
-// Writes a column's word in a row.
-fn write_column(buffer: &mut [u8], count: usize, column: &[i64], i: usize) -> usize
-    ensures { λ r. ⌜ bufferOf (now (buffer .exit)) r ≡ written (columnText (now (column .entry)) i)
+// Writes a column's word in a row; `signed` says whether its words hold numbers of either sign.
+fn write_column(buffer: &mut [u8], count: usize, signed: bool, column: &[u64], i: usize) -> usize
+    ensures { λ r. ⌜ bufferOf (now (buffer .exit)) r ≡ written (columnText signed (now (column .entry)) i)
         (bufferOf (now (buffer .entry)) count) ⌝ }
 {
     if i < column.len() {
-        return write_word_by(buffer, count, true, word_of(column[i]));
+        return write_word_by(buffer, count, signed, column[i]);
     }
     count
 }
 
 // Writes a row.
-fn write_row(buffer: &mut [u8], count: usize, i: usize, words: &[i64], column: &[i64]) -> usize
-    ensures { λ r. ⌜ bufferOf (now (buffer .exit)) r ≡ written (rowText i (now (words .entry)) (now (column .entry)))
-        (bufferOf (now (buffer .entry)) count) ⌝ }
+fn write_row(
+    buffer: &mut [u8],
+    count: usize,
+    i: usize,
+    words: &[i64],
+    signed: bool,
+    column: &[u64],
+) -> usize
+    ensures { λ r. ⌜ bufferOf (now (buffer .exit)) r ≡ written
+        (rowText i (now (words .entry)) signed (now (column .entry))) (bufferOf (now (buffer .entry)) count) ⌝ }
 {
     let end = write_decimal(buffer, count, i as u64);
     let end = write_signed_words(buffer, end, words);
-    let end = write_column(buffer, end, column, i);
+    let end = write_column(buffer, end, signed, column, i);
     write_byte(buffer, end, b'\n')
 }
 
@@ -51,18 +58,19 @@ pub fn write_rows(
     count: usize,
     list: &[i64],
     width: usize,
-    column: &[i64],
+    signed: bool,
+    column: &[u64],
 ) -> usize
     requires { ⌜ 0 < width ⌝ }
     ensures { λ r. ⌜ bufferOf (now (buffer .exit)) r ≡ written
-        (rowsText (now (list .entry)) width (now (column .entry))) (bufferOf (now (buffer .entry)) count) ⌝ }
+        (rowsText (now (list .entry)) width signed (now (column .entry))) (bufferOf (now (buffer .entry)) count) ⌝ }
 {
     let rows = list.len() / width;
     let mut end = count;
     let mut i: usize = 0;
     while i < rows && i < MOST_DISTRIBUTORS {
         let from = i * width;
-        end = write_row(buffer, end, i, &list[from..from + width], column);
+        end = write_row(buffer, end, i, &list[from..from + width], signed, column);
         i += 1;
     }
     end

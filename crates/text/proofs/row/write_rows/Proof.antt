@@ -15,20 +15,20 @@ use Rattle.text.proofs.row.write_rows.Statement.{statement}
 use Rattle.text.proofs.row.write_rows.Tie as tie
 
 abbrev Inv-loop : tie.InvT-loop
-Inv-loop buffer₀ count list width column rows end₀ i₀ buffer end i =
+Inv-loop buffer₀ count list width signed column rows end₀ i₀ buffer end i =
     (i ≤ min (length list / width) mostDistributors) × (length buffer ≡ length buffer₀) ×
     (bufferOf buffer end
-    ≡ written (textBelow i (λ j. rowText j (take width (drop (j * width) list)) column)) (bufferOf buffer₀ count))
+    ≡ written (textBelow i (λ j. rowText j (take width (drop (j * width) list)) signed column)) (bufferOf buffer₀ count))
 
 abbrev μ-loop : tie.MeasureT-loop
-μ-loop buffer₀ count list width column rows end₀ i₀ buffer end i = mostDistributors - i
+μ-loop buffer₀ count list width signed column rows end₀ i₀ buffer end i = mostDistributors - i
 
 loop-holds : tie.Need-loop-holds Inv-loop μ-loop
 loop-holds c = (omega arith, refl, texts-none _ _)
 
 module _ (l : tie.At-loop Inv-loop μ-loop) where
   abbrev s : tie.Start Inv-loop μ-loop
-  s = l .before .before
+  s = l .before .before .before
 
   abbrev rows : ℕ
   rows = length (s .args .list .now) / s .args .width
