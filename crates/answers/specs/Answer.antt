@@ -1,6 +1,6 @@
 -- What the commands of a journal answer (docs/JOURNAL.md, "Output"): lines as values, and an answer's text.
 -- Assumes nothing.
-use mathlib.Core.Bool.{Bool, cond, _&&_}
+use mathlib.Core.Bool.{Bool, true, false, cond, _&&_}
 use mathlib.Core.List.{List, [], _∷_, _++_}
 use Prim.Native.Nat.{ℕ}
 use lib.Dec.{eqb}
@@ -9,6 +9,7 @@ use lib.IntN.{ℤ, pos, natAbs}
 use Rattle.numbers.specs.Bounded.{allBelow}
 use Rattle.numbers.specs.Refusal.{refusalAnswered}
 use Rattle.numbers.specs.Signed.{isNegative}
+use Rattle.numbers.specs.Units.{allBetween}
 use Rattle.numbers.specs.declared.refusal.Refusal.{Refusal}
 use Rattle.numbers.specs.declared.units.PesoPrice.{PesoPrice}
 use Rattle.numbers.specs.declared.units.UnsignedPesos.{UnsignedPesos}
@@ -74,11 +75,25 @@ isUnwritten word = isNegative word && eqb (natAbs word) 1
 unfoldable pub allUnwritten : List ℤ → Bool
 allUnwritten list = allBelow (length list) (λ k. isUnwritten (getD list k (pos 0)))
 
--- "if a word of it is no longer -1, `replay` prints the line `changed`"
-unfoldable pub changedText : List ℤ → List ℕ
-changedText list = cond (allUnwritten list) [] (lineText changedLine)
+-- "it is lent with every word 18446744073709551615"
+abbrev pub unwrittenWord : ℕ
+unwrittenWord = 18446744073709551615
+
+-- nothing where what was lent is as it was lent, and else the line `changed`
+unfoldable pub changedText : Bool → List ℕ
+changedText unwritten = cond unwritten [] (lineText changedLine)
 
 -- "One line for each command, and rows under an accepted one"
-unfoldable pub answerText : List Item → Bool → List ℤ → ℕ → List ℤ → List ℕ
-answerText line accepted list width column =
-    lineText line ++ cond accepted (rowsText list width column) (changedText list)
+unfoldable pub answerText : List Item → Bool → List ℕ → Bool → List ℕ
+answerText line accepted rows unwritten = lineText line ++ cond accepted rows (changedText unwritten)
+
+-- "I TRANSFER BALANCE"; "if a word of it is no longer -1, `replay` prints the line `changed`"
+unfoldable pub settledText : List Item → Bool → List ℤ → List ℕ → List ℕ
+settledText line accepted transfers balances =
+    answerText line accepted (rowsText transfers 1 true balances) (allUnwritten transfers)
+
+-- "I AVERAGE FINAL CHARGE POWER"; "`changed` is printed once where either list changed in a refused call"
+unfoldable pub fixedText : List Item → Bool → List ℤ → List ℕ → List ℕ
+fixedText line accepted prices power =
+    answerText line accepted (rowsText prices 3 false power)
+    (allUnwritten prices && allBetween unwrittenWord unwrittenWord power)
