@@ -18,7 +18,8 @@ abbrev Inv-loop : tie.InvT-loop
 Inv-loop buffer₀ count list width signed column rows end₀ i₀ buffer end i =
     (i ≤ min (length list / width) mostDistributors) × (length buffer ≡ length buffer₀) ×
     (bufferOf buffer end
-    ≡ written (textBelow i (λ j. rowText j (take width (drop (j * width) list)) signed column)) (bufferOf buffer₀ count))
+    ≡ written (textBelow i (λ j. rowText j (take width (drop (j * width) list)) signed column))
+    (bufferOf buffer₀ count))
 
 abbrev μ-loop : tie.MeasureT-loop
 μ-loop buffer₀ count list width signed column rows end₀ i₀ buffer end i = mostDistributors - i
