@@ -23,10 +23,20 @@ pub or-right : (a b : Bool) → (a || b) ≡ false → b ≡ false
 or-right true b h = absurd (true≢false h)
 or-right false b h = h
 
--- a conjunction from its parts, and a disjunction as an implication
+-- a conjunction from its parts
 pub and-both : (a b : Bool) → a ≡ true → b ≡ true → (a && b) ≡ true
 and-both a b p q = rw (p, q)
 
+-- a conjunction by its second part where the first holds
+pub and-where : (a b c : Bool) → (a ≡ true → b ≡ c) → (a && b) ≡ (a && c)
+and-where true b c h = h refl
+and-where false b c h = refl
+
+pub and-none : (a b : Bool) → (a ≡ true → b ≡ false) → (a && b) ≡ false
+and-none true b h = h refl
+and-none false b h = refl
+
+-- a disjunction as an implication
 pub or-else : (a b : Bool) → (a || b) ≡ true → a ≡ false → b ≡ true
 or-else true b h e = absurd (true≢false e)
 or-else false b h e = h

@@ -1,5 +1,5 @@
 -- The units of document 01: "Peso price, energy and money are kept apart as units", and the bounds that "belong to
--- the peso price itself". Assumes nothing.
+-- the peso price itself"; and the power price, "thousandths of $/kW/month" (W-204 of document 02). Assumes nothing.
 use mathlib.Core.Bool.{Bool, cond, _&&_}
 use mathlib.Core.List.{List, [], _∷_}
 use Prim.Native.Nat.{ℕ}
@@ -9,15 +9,19 @@ use lib.IntN.{pos}
 use Rattle.numbers.specs.Bounded.{allBelow}
 use Rattle.numbers.specs.Refusal.{Answered, accepted, withoutValues}
 use Rattle.numbers.specs.declared.units.PesoPrice.{PesoPrice}
+use Rattle.numbers.specs.declared.units.PowerPrice.{PowerPrice}
 use Rattle.numbers.specs.declared.units.Energy.{Energy}
 use Rattle.numbers.specs.declared.units.Pesos.{Pesos}
 use Rattle.numbers.specs.declared.units.UnsignedPesos.{UnsignedPesos}
 use Rattle.numbers.specs.declared.units.CheckedPrice.{CheckedPrice}
 use Rattle.numbers.specs.declared.units.CheckedPrice.the-variants.{Within, OutsideBounds}
 
--- an empty place of a list of prices, and of energies
+-- an empty place of a list of prices, of power prices, and of energies
 abbrev pub noPrice : PesoPrice
 noPrice = record { 0 = 0 }
+
+abbrev pub noPower : PowerPrice
+noPower = record { 0 = 0 }
 
 abbrev pub noEnergy : Energy
 noEnergy = record { 0 = 0 }

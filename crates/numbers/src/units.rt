@@ -1,5 +1,5 @@
-// The units of document 01 as types of their own, so that a price, an energy and an amount of money cannot be
-// taken for one another: one peso-price unit times one MWh is $1.
+// The units of document 01, and the power price of W-204 of document 02, as types of their own, so that a price, an
+// energy and an amount of money cannot be taken for one another: one peso-price unit times one MWh is $1.
 ghost use mathlib.Core.Path.{_≡_};
 ghost use mathlib.Core.List.{[], _∷_};
 ghost use Rattle.numbers.specs.Checks.{Promised, acceptedWhere};
@@ -7,6 +7,9 @@ ghost use Rattle.numbers.specs.Units.{leastPrice, mostPrice, between, al
 
 // A peso price, in 0.001 $/kWh.
 pub struct PesoPrice(pub u64);
+
+// A power price, in 0.001 $/kW/month.
+pub struct PowerPrice(pub u64);
 
 // Projected energy, in MWh.
 pub struct Energy(pub u64);

@@ -20,6 +20,10 @@ monthCount = 48
 abbrev pub wordCount : ℕ
 wordCount = 240
 
+-- "3 CPI"
+abbrev pub cpiSeries : ℕ
+cpiSeries = 3
+
 -- "the top value is 99,999,999"
 abbrev pub mostValue : ℕ
 mostValue = 99999999

@@ -12,6 +12,9 @@ pub const SERIES: usize = 5;
 
 pub const MONTHS: usize = 48;
 
+// The series of the power term.
+pub const CPI: u64 = 3;
+
 pub const WORDS: usize = SERIES * MONTHS;
 
 pub const MOST_VALUE: u64 = 99999999;

@@ -2,5 +2,5 @@ pub mod RangeLaws
 pub mod MonthLaws
 pub mod PriceLaws
 pub mod ListedLaws
-pub mod ReferenceLaws
+pub mod LinePriceLaws
 pub mod Computed

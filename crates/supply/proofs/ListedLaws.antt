@@ -1,6 +1,6 @@
 -- The list of all means says of a term what the table says: its mean, and by a 0 that a month is missing. So a search
 -- and prices worked from the list are those of the table. Assumes nothing.
-use mathlib.Core.Path.{_≡_, _∙_, ap}
+use mathlib.Core.Path.{_≡_, _∙_, ap, ap₂}
 use mathlib.Core.Bool.{false}
 use mathlib.Core.List.{List, []}
 use mathlib.Core.Option.{none}
@@ -9,7 +9,8 @@ use lib.Dec.{eqb}
 use lib.ListN.{getD}
 use Rattle.numbers.specs.Bounded.{anyBelow}
 use Rattle.numbers.specs.Required.{ValuesWithin}
-use Rattle.numbers.specs.Units.{noPrice}
+use Rattle.numbers.specs.Units.{noPrice, noPower}
+use Rattle.numbers.specs.declared.units.PowerPrice.{PowerPrice}
 use Rattle.numbers.proofs.TestLaws.{any-none, any-same}
 use Rattle.numbers.proofs.FirstLaws.{first-same}
 use Rattle.numbers.proofs.ListLaws.{filled-same}
@@ -17,17 +18,18 @@ use Rattle.series.specs.Means.{meanCount, meanPlace, meanOrZero, meanList, mean
 use Rattle.series.specs.Required.{mostMean}
 use Rattle.series.proofs.SeriesLaws.{window-size}
 use Rattle.series.proofs.MeanLaws.{mean-published, zero-missing, place-below, mean-listed}
-use Rattle.supply.specs.Line.{mostLines, lineCount, lineOf, termOf}
+use Rattle.supply.specs.Line.{mostLines, termPlaces, lineCount, lineOf, termOf, termUsed}
 use Rattle.supply.specs.Months.{lacksMonth, firstMissing, monthCheck, missingAt}
 use Rattle.supply.specs.Listed.{listedMean, listedLacks}
 use Rattle.supply.specs.Price.{termMean, priceInForce, moved, answerAt, priceOr, referencePrice, referenceList}
 use Rattle.supply.specs.Price.{beyondAt, beyondIn, firstBeyond, boundsCheck, anyMoved, anyLineMoved}
-use Rattle.supply.specs.Price.{priceChecks, pricedReferences}
+use Rattle.supply.specs.Price.{powerPesoOf, powerAllowed, linePower, powerPrice, powerList, priceChecks}
+use Rattle.supply.specs.Price.{boundedPrices}
 use Rattle.supply.specs.Required.{TermFacts, CheckedLines}
 use Rattle.supply.specs.declared.line.Term.{Term}
 use Rattle.supply.specs.declared.market.FixingNumbers.{FixingNumbers}
-use Rattle.supply.proofs.MonthLaws.{never-missing, none-missing, missing-same}
-use Rattle.supply.proofs.PriceLaws.{indexed-same, price-same}
+use Rattle.supply.proofs.MonthLaws.{EveryTerm, never-missing, none-missing, missing-same}
+use Rattle.supply.proofs.PriceLaws.{indexed-same, price-same, power-same, allowed-same}
 
 -- a mean of the list is at most that of the top value
 pub listed-most : (means : List ℕ) → ValuesWithin mostMean means → (term : Term) → listedMean means term ≤ mostMean
@@ -41,8 +43,8 @@ pub none-listed : (means lines : List ℕ) → CheckedLines lines →
 unfolding listedLacks listedMean meanAt
 none-listed means lines checked h =
     never-missing (listedLacks means) lines
-    (λ j p k q.
-    let f = checked .facts j p .term k q in
+    (λ j p k q used.
+    let f = checked .facts j p .term k used in
     any-none meanCount (λ i. eqb (getD means i 0) 0) h (meanPlace _ _ _)
     (place-below _ _ _ (f .series) (f .lag) (f .lagMost) (f .window)))
 
@@ -73,7 +75,7 @@ module _ (table : List (List ℕ)) (numbers : FixingNumbers) where
     months-listed : firstMissing (listedLacks means) lines ≡ firstMissing (lacksMonth table numbers) lines
     months-listed =
         missing-same (listedLacks means) (lacksMonth table numbers) lines
-        (λ j p k q. listed-lacks (termOf (lineOf lines j) k) (checked .facts j p .term k q))
+        (λ j p k q used. listed-lacks (termOf (lineOf lines j) k) (checked .facts j p .term k used))
 
     pub check-listed : monthCheck (listedLacks means) lines ≡ monthCheck (lacksMonth table numbers) lines
     unfolding monthCheck
@@ -81,11 +83,18 @@ module _ (table : List (List ℕ)) (numbers : FixingNumbers) where
 
     -- where no month is missing
     module _ (present : firstMissing (lacksMonth table numbers) lines ≡ none) where
-      term-same : (j : ℕ) → j < lineCount lines → (k : ℕ) → k < lineOf lines j .«term_count» →
-          listedMean means (termOf (lineOf lines j) k) ≡ termMean table numbers (termOf (lineOf lines j) k)
-      term-same j p k q =
-          listed-mean (termOf (lineOf lines j) k) (checked .facts j p .term k q)
-          (none-missing (lacksMonth table numbers) lines present j p k q)
+      term-same : EveryTerm lines (λ term. listedMean means term ≡ termMean table numbers term)
+      term-same j p k q used =
+          listed-mean (termOf (lineOf lines j) k) (checked .facts j p .term k used)
+          (none-missing (lacksMonth table numbers) lines present j p k q used)
+
+      power-listed : powerList (listedMean means) numbers lines ≡ powerList (termMean table numbers) numbers lines
+      unfolding powerList powerPrice linePower
+      power-listed =
+          filled-same mostLines noPower (lineCount lines) (powerPrice (listedMean means) numbers lines)
+          (powerPrice (termMean table numbers) numbers lines)
+          (λ j p. ap {B = PowerPrice} (λ x. record { 0 = powerPesoOf x (numbers .dollar) })
+          (power-same (listedMean means) (termMean table numbers) (lineOf lines j) (term-same j p)))
 
       module _ (inForce : List ℕ) where
         answer-listed : (j : ℕ) → j < lineCount lines →
@@ -102,7 +111,8 @@ module _ (table : List (List ℕ)) (numbers : FixingNumbers) where
         beyond-listed =
             first-same (beyondIn (listedMean means) numbers lines inForce)
             (beyondIn (termMean table numbers) numbers lines inForce) (lineCount lines)
-            (λ j p. ap (beyondAt j) (answer-listed j p))
+            (λ j p. ap₂ (beyondAt j) (answer-listed j p)
+            (allowed-same (listedMean means) (termMean table numbers) (lineOf lines j) (term-same j p)))
 
         moved-listed : anyLineMoved (listedMean means) lines inForce ≡ anyLineMoved (termMean table numbers) lines
             inForce
@@ -112,15 +122,15 @@ module _ (table : List (List ℕ)) (numbers : FixingNumbers) where
             (λ j p. ap (moved (priceInForce inForce j))
             (indexed-same (listedMean means) (termMean table numbers) (lineOf lines j) (term-same j p)))
 
-        prices-listed : referenceList (listedMean means) numbers lines inForce ≡ referenceList
+        references-listed : referenceList (listedMean means) numbers lines inForce ≡ referenceList
             (termMean table numbers) numbers lines inForce
         unfolding referenceList referencePrice
-        prices-listed =
+        references-listed =
             filled-same mostLines noPrice (lineCount lines) (referencePrice (listedMean means) numbers lines inForce)
             (referencePrice (termMean table numbers) numbers lines inForce)
             (λ j p. ap priceOr (answer-listed j p))
 
-        pub references-listed : pricedReferences (listedMean means) numbers lines inForce ≡ pricedReferences
+        pub prices-listed : boundedPrices (listedMean means) numbers lines inForce ≡ boundedPrices
             (termMean table numbers) numbers lines inForce
-        unfolding pricedReferences priceChecks boundsCheck
-        references-listed = rw (beyond-listed, moved-listed, prices-listed)
+        unfolding boundedPrices priceChecks boundsCheck
+        prices-listed = rw (beyond-listed, moved-listed, references-listed, power-listed)

@@ -1,6 +1,6 @@
 -- What a line that passes the test of its ranges has: each word within its bounds, as plain facts. Callers cite these
 -- and not the test. Assumes nothing.
-use mathlib.Core.Path.{_≡_}
+use mathlib.Core.Path.{_≡_, refl}
 use mathlib.Core.Bool.{Bool, true, false, cond, _&&_}
 use mathlib.Core.List.{List}
 use Prim.Native.Nat.{ℕ, _≤_, _<_}
@@ -9,13 +9,14 @@ use lib.Dec.{leb, ltb, eqb}
 use borrow.Author.Tests.{leb-true, ltb-true, eqb-true, lt-ltb}
 use Rattle.numbers.specs.Required.{ValuesWithin}
 use Rattle.numbers.specs.Units.{between, allBetween}
-use Rattle.numbers.proofs.BoolLaws.{and-left, and-right, and-three, and-five, and-six}
+use Rattle.numbers.proofs.BoolLaws.{and-left, and-right, and-three, and-five, and-six, or-else}
 use Rattle.numbers.proofs.TestLaws.{all-at}
 use Rattle.numbers.proofs.UnitLaws.{between-low, between-high, values-within}
 use Rattle.series.specs.Series.{seriesCount, mostValue, lastMonth, windowAllowed}
-use Rattle.supply.specs.Line.{mostLines, mostTerms, lineCount, lineOf, termOf}
+use Rattle.supply.specs.Line.{mostLines, mostTerms, wholeWeight, mostPowerPrice, powerTerm, lineCount, lineOf}
+use Rattle.supply.specs.Line.{termOf, termUsed}
 use Rattle.supply.specs.Range.{headInRange, termInRange, termUnused, termAllowed, termsAllowed, weightsAllowed}
-use Rattle.supply.specs.Range.{lineInRange, linesInRange, numbersInRange, inputInRange}
+use Rattle.supply.specs.Range.{powerInRange, lineInRange, linesInRange, numbersInRange, inputInRange}
 use Rattle.supply.specs.Required.{TermFacts, LineFacts, NumbersFacts, CheckedLines}
 use Rattle.supply.specs.declared.line.Term.{Term}
 use Rattle.supply.specs.declared.line.Line.{Line}
@@ -25,11 +26,11 @@ term-facts : (term : Term) → termInRange term ≡ true → TermFacts term
 unfolding termInRange
 term-facts term h =
     let p =
-    and-five (ltb (term .series) seriesCount) (between 1 10000 (term .weight)) (between 1 12 (term .lag))
+    and-five (ltb (term .series) seriesCount) (between 1 wholeWeight (term .weight)) (between 1 12 (term .lag))
     (windowAllowed (term .window)) (between 1 mostValue (term .«base_value»)) h in
     record {
       series = ltb-true _ _ (p .0);
-      weight = between-high 1 10000 _ (p .1);
+      weight = between-high 1 wholeWeight _ (p .1);
       lag = between-low 1 12 _ (p .2);
       lagMost = between-high 1 12 _ (p .2);
       window = p .3;
@@ -81,12 +82,44 @@ head-facts n line h =
     (between 5000 20000 (line .«purchase_factor»)) (between 1 10000000 (line .energy))
     (leb (line .«term_count») mostTerms) h
 
+-- the parts of a line's test: the words before the terms, those of power, the terms
+module _ (n : ℕ) (line : Line) (h : lineInRange n line ≡ true) where
+  line-head : headInRange n line ≡ true
+  unfolding lineInRange
+  line-head =
+      and-left (headInRange n line) (powerInRange line)
+      (and-left (headInRange n line && powerInRange line) (termsAllowed line && weightsAllowed line) h)
+
+  line-power : (between 1 mostPowerPrice (line .«power_base_price») ≡ true) × (termInRange (termOf line powerTerm) ≡ true)
+  unfolding lineInRange powerInRange
+  line-power =
+      let p =
+      and-right (headInRange n line) (powerInRange line)
+      (and-left (headInRange n line && powerInRange line) (termsAllowed line && weightsAllowed line) h) in (
+        and-left (between 1 mostPowerPrice (line .«power_base_price»)) (termInRange (termOf line powerTerm)) p,
+        and-right (between 1 mostPowerPrice (line .«power_base_price»)) (termInRange (termOf line powerTerm)) p,
+      )
+
+  line-terms : termsAllowed line ≡ true
+  unfolding lineInRange
+  line-terms =
+      and-left (termsAllowed line) (weightsAllowed line)
+      (and-right (headInRange n line && powerInRange line) (termsAllowed line && weightsAllowed line) h)
+
+  -- every term that the line uses
+  used-facts : line .«term_count» ≤ mostTerms → (k : ℕ) → termUsed line k ≡ true → TermFacts (termOf line k)
+  unfolding termUsed
+  used-facts few k used = go (ltb k (line .«term_count»)) refl
+    where
+      go : (b : Bool) → ltb k (line .«term_count») ≡ b → TermFacts (termOf line k)
+      go true e = let p = ltb-true _ _ e in allowed-term line line-terms k (omega arith) p
+      go false e =
+          let same : k ≡ powerTerm = eqb-true _ _ (or-else (ltb k (line .«term_count»)) (eqb k powerTerm) used e) in
+          rw same (term-facts (termOf line powerTerm) (line-power .1))
+
 line-facts : (n : ℕ) (line : Line) → lineInRange n line ≡ true → LineFacts line
-unfolding lineInRange
 line-facts n line h =
-    let head = and-left (headInRange n line) (termsAllowed line && weightsAllowed line) h in
-    let rest = and-right (headInRange n line) (termsAllowed line && weightsAllowed line) h in
-    let p = head-facts n line head in
+    let p = head-facts n line (line-head n line h) in
     let few : line .«term_count» ≤ mostTerms = leb-true _ _ (p .5) in
     record {
       base = between-low 1 1000000 _ (p .1);
@@ -98,7 +131,8 @@ line-facts n line h =
       energy = between-low 1 10000000 _ (p .4);
       energyMost = between-high 1 10000000 _ (p .4);
       terms = few;
-      term = λ k q. allowed-term line (and-left (termsAllowed line) (weightsAllowed line) rest) k (omega arith) q;
+      power = between-high 1 mostPowerPrice _ (line-power n line h .0);
+      term = used-facts n line h few;
     }
 
 pub checked-lines : (n : ℕ) (lines : List ℕ) → lineCount lines ≤ mostLines → linesInRange n lines ≡ true →
@@ -114,14 +148,11 @@ checked-lines n lines few h =
 -- every line's distributor is one of the n
 pub lines-distributor : (n : ℕ) (lines : List ℕ) → linesInRange n lines ≡ true → (j : ℕ) → j < lineCount lines →
     lineOf lines j .distributor < n
-unfolding linesInRange lineInRange
+unfolding linesInRange
 lines-distributor n lines h j p =
     let line = lineOf lines j in
     ltb-true _ _
-    (head-facts n line
-    (and-left (headInRange n line) (termsAllowed line && weightsAllowed line)
-    (all-at (lineCount lines) (λ i. lineInRange n (lineOf lines i)) h j p))
-    .0)
+    (head-facts n line (line-head n line (all-at (lineCount lines) (λ i. lineInRange n (lineOf lines i)) h j p)) .0)
 
 numbers-facts : (numbers : FixingNumbers) → numbersInRange numbers ≡ true → NumbersFacts numbers
 unfolding numbersInRange

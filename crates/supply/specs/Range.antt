@@ -1,5 +1,6 @@
 -- The ranges of "Supply lines" of document 01, as the test that cause 6 makes of D, F, the first month and every word
--- of every line, and of the prices in force (W-201 of document 02). Assumes nothing.
+-- of every line, its power words among them (W-204 of document 02), and of the prices in force (W-201). Assumes
+-- nothing.
 use mathlib.Core.Bool.{Bool, cond, _&&_, _||_}
 use mathlib.Core.List.{List}
 use Prim.Native.Nat.{ℕ}
@@ -7,7 +8,8 @@ use lib.Dec.{leb, ltb, eqb}
 use Rattle.numbers.specs.Bounded.{sumBelow, allBelow}
 use Rattle.numbers.specs.Units.{between, allBetween}
 use Rattle.series.specs.Series.{seriesCount, mostValue, lastMonth, windowAllowed}
-use Rattle.supply.specs.Line.{mostTerms, lineCount, lineOf, termOf}
+use Rattle.supply.specs.Line.{mostTerms, wholeWeight, mostPowerPrice, powerTerm, lineCount, lineOf}
+use Rattle.supply.specs.Line.{termOf}
 use Rattle.supply.specs.declared.line.Term.{Term}
 use Rattle.supply.specs.declared.line.Line.{Line}
 use Rattle.supply.specs.declared.market.FixingNumbers.{FixingNumbers}
@@ -27,7 +29,7 @@ headInRange n line =
 unfoldable pub termInRange : Term → Bool
 termInRange term =
     ltb (term .series) seriesCount
-    && between 1 10000 (term .weight)
+    && between 1 wholeWeight (term .weight)
     && between 1 12 (term .lag)
     && windowAllowed (term .window)
     && between 1 mostValue (term .«base_value»)
@@ -53,10 +55,14 @@ unfoldable pub weightTotal : Line → ℕ
 weightTotal line = sumBelow mostTerms (λ k. termOf line k .weight)
 
 unfoldable pub weightsAllowed : Line → Bool
-weightsAllowed line = eqb (line .«term_count») 0 || eqb (weightTotal line) 10000
+weightsAllowed line = eqb (line .«term_count») 0 || eqb (weightTotal line) wholeWeight
+
+-- "a power base price, 1 to 100,000,000 .., and one CPI term (lag, window, base value) under a term's ranges and rules"
+unfoldable pub powerInRange : Line → Bool
+powerInRange line = between 1 mostPowerPrice (line .«power_base_price») && termInRange (termOf line powerTerm)
 
 unfoldable pub lineInRange : ℕ → Line → Bool
-lineInRange n line = headInRange n line && (termsAllowed line && weightsAllowed line)
+lineInRange n line = (headInRange n line && powerInRange line) && (termsAllowed line && weightsAllowed line)
 
 unfoldable pub linesInRange : ℕ → List ℕ → Bool
 linesInRange n lines = allBelow (lineCount lines) (λ j. lineInRange n (lineOf lines j))

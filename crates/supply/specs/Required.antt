@@ -1,19 +1,20 @@
 -- What the functions past cause 6 require: its ranges as plain facts, of terms, lines, the numbers beside them and the
--- indexed prices. Assumes nothing.
+-- words of prices. Assumes nothing.
 use mathlib.Core.Bool.{true}
 use mathlib.Core.List.{List}
 use mathlib.Core.Path.{_≡_}
 use Prim.Native.Nat.{ℕ, _≤_, _<_}
 use lib.ListN.{getD}
 use Rattle.series.specs.Series.{seriesCount, mostValue, lastMonth, windowAllowed}
-use Rattle.supply.specs.Line.{mostLines, mostTerms, lineCount, lineOf, termOf}
+use Rattle.supply.specs.Line.{mostLines, mostTerms, wholeWeight, mostPowerPrice, lineCount, lineOf, termOf}
+use Rattle.supply.specs.Line.{termUsed}
 use Rattle.supply.specs.declared.line.Term.{Term}
 use Rattle.supply.specs.declared.line.Line.{Line}
 use Rattle.supply.specs.declared.market.FixingNumbers.{FixingNumbers}
 
 pub record TermFacts (term : Term) : Type 0 where
   pub series : term .series < seriesCount
-  pub weight : term .weight ≤ 10000
+  pub weight : term .weight ≤ wholeWeight
   pub lag : 1 ≤ term .lag
   pub lagMost : term .lag ≤ 12
   pub window : windowAllowed (term .window) ≡ true
@@ -30,7 +31,8 @@ pub record LineFacts (line : Line) : Type 0 where
   pub energy : 1 ≤ line .energy
   pub energyMost : line .energy ≤ 10000000
   pub terms : line .«term_count» ≤ mostTerms
-  pub term : (k : ℕ) → k < line .«term_count» → TermFacts (termOf line k)
+  pub power : line .«power_base_price» ≤ mostPowerPrice
+  pub term : (k : ℕ) → termUsed line k ≡ true → TermFacts (termOf line k)
 
 pub record CheckedLines (lines : List ℕ) : Type 0 where
   pub few : lineCount lines ≤ mostLines
@@ -41,7 +43,7 @@ pub record NumbersFacts (numbers : FixingNumbers) : Type 0 where
   pub factorMost : numbers .«reference_factor» ≤ 20000
   pub start : numbers .«first_month» ≤ lastMonth
 
--- of the first words of indexed prices
-pub record IndexedFacts (indexed : List ℕ) (count : ℕ) : Type 0 where
+-- the first words of a list of prices
+pub record WordsWithin (bound : ℕ) (words : List ℕ) (count : ℕ) : Type 0 where
   pub few : count ≤ mostLines
-  pub most : (j : ℕ) → j < count → getD indexed j 0 ≤ 1000000
+  pub most : (j : ℕ) → j < count → getD words j 0 ≤ bound

@@ -1,19 +1,33 @@
-// A supply line and its terms by value. The lent words are read here and nowhere else: 26 words a line, six of its own,
-// then five for each of four terms.
+// A supply line and its terms by value. The lent words are read here and nowhere else: 30 words a line, six of its own,
+// five for each of four terms, then the power base price and the three of the power term.
 ghost use mathlib.Core.Path.{_≡_};
 ghost use Prim.Native.Nat.{_<_, _+_, _≤_};
 ghost use lib.ListN.{length};
-ghost use Rattle.supply.specs.Line.{lineCount, lineOf, termFrom, termWords};
-
-pub const LINE_WORDS: usize = 26;
+ghost use Rattle.supply.specs.Line.{lineCount, lineOf, termFrom, powerTermFrom, termWords};
+use series::table::CPI;
 
 pub const MOST_LINES: usize = 256;
 
 pub const MOST_TERMS: usize = 4;
 
-const TERM_WORDS: usize = 5;
+// The power term stands after a line's own, whatever their count.
+pub const POWER_TERM: usize = MOST_TERMS;
+
+pub(crate) const TERM_PLACES: usize = POWER_TERM + 1;
 
 const TERMS_START: usize = 6;
+
+const TERM_WORDS: usize = 5;
+
+const POWER_START: usize = TERMS_START + MOST_TERMS * TERM_WORDS;
+
+pub const LINE_WORDS: usize = POWER_START + 4;
+
+// The whole of a line's weights, in ten-thousandths.
+pub(crate) const WHOLE_WEIGHT: u64 = 10000;
+
+// The greatest power price in US$, of every step.
+pub(crate) const MOST_POWER_PRICE: u64 = 100000000;
 
 pub struct Term {
     pub series: u64,
@@ -30,7 +44,9 @@ pub struct Line {
     pub purchase_factor: u64,
     pub energy: u64,
     pub term_count: u64,
-    pub terms: [Term; MOST_TERMS],
+    // In 0.001 US$/kW/month.
+    pub power_base_price: u64,
+    pub terms: [Term; TERM_PLACES],
 }
 
 // The term whose five words begin at a place.
@@ -44,6 +60,20 @@ fn term_from(words: &[u64], at: usize) -> Term
         lag: words[at + 2],
         window: words[at + 3],
         base_value: words[at + 4],
+    }
+}
+
+// The power term whose three words begin at a place: CPI alone.
+fn power_term_from(words: &[u64], at: usize) -> Term
+    requires { ⌜ at + 3 ≤ length (now words) ⌝ }
+    ensures { λ r. ⌜ r ≡ powerTermFrom (now (words .entry)) at ⌝ }
+{
+    Term {
+        series: CPI,
+        weight: WHOLE_WEIGHT,
+        lag: words[at],
+        window: words[at + 1],
+        base_value: words[at + 2],
     }
 }
 
@@ -61,6 +91,7 @@ pub fn line_at(lines: &[u64], j: usize) -> Line
 {
     let at = j * LINE_WORDS;
     let terms = at + TERMS_START;
+    let power = at + POWER_START;
     Line {
         distributor: lines[at],
         base_price: lines[at + 1],
@@ -68,11 +99,13 @@ pub fn line_at(lines: &[u64], j: usize) -> Line
         purchase_factor: lines[at + 3],
         energy: lines[at + 4],
         term_count: lines[at + 5],
+        power_base_price: lines[power],
         terms: [
             term_from(lines, terms),
             term_from(lines, terms + TERM_WORDS),
             term_from(lines, terms + 2 * TERM_WORDS),
             term_from(lines, terms + 3 * TERM_WORDS),
+            power_term_from(lines, power + 1),
         ],
     }
 }

@@ -1,15 +1,21 @@
 // The means that terms take from the list of all, and the search for a missing month (cause 10): line by line, in each
-// its terms, left at the first.
+// its terms and then its power term, left at the first.
 ghost use mathlib.Core.Path.{_≡_};
+ghost use mathlib.Core.Bool.{_&&_};
 ghost use mathlib.Core.List.{[], _∷_};
+ghost use Prim.Native.Nat.{_<_};
 ghost use lib.Dec.{eqb};
 ghost use lib.ListN.{getD};
 ghost use Rattle.numbers.specs.Bounded.{anyBelow};
 ghost use Rattle.numbers.specs.Checks.{verdictOf};
 ghost use Rattle.series.specs.Means.{meanCount};
+ghost use Rattle.supply.specs.Line.{termPlaces, termOf, termUsed};
 ghost use Rattle.supply.specs.Months.{monthCheck};
 ghost use Rattle.supply.specs.Listed.{listedMean, listedLacks};
-ghost use Rattle.supply.specs.Required.{TermFacts, CheckedLines};
+ghost use Rattle.supply.specs.Required.{TermFacts, LineFacts, CheckedLines};
+use crate::line::Line;
+use crate::line::POWER_TERM;
+use crate::line::TERM_PLACES;
 use crate::line::Term;
 use crate::line::line_at;
 use crate::line::line_count;
@@ -25,6 +31,19 @@ pub(crate) fn term_mean(means: &[u64; MEANS], term: Term) -> u64
 {
     let place = mean_place(term.series, term.lag, term.window);
     means[place]
+}
+
+// Whether a month of term k is missing, where the line uses that term.
+fn lacks_month(means: &[u64; MEANS], line: Line, k: usize) -> bool
+    requires { ⌜ LineFacts line ⌝ ∗ ⌜ k < termPlaces ⌝ }
+    ensures { λ r. ⌜ r ≡ (termUsed line k && listedLacks (now (means .entry)) (termOf line k)) ⌝ }
+{
+    let used = ((k as u64) < line.term_count) | (k == POWER_TERM);
+    if !used {
+        return false;
+    }
+    let term = line.terms[k];
+    term_mean(means, term) == 0
 }
 
 // Whether a month is missing for any series, lag and window.
@@ -55,11 +74,9 @@ pub(crate) fn search_months(means: &[u64; MEANS], lines: &[u64]) -> Verdict
     let mut j: usize = 0;
     'lines: while j < count {
         let line = line_at(lines, j);
-        let terms = line.term_count as usize;
         let mut k: usize = 0;
-        while k < terms {
-            let term = line.terms[k];
-            if term_mean(means, term) == 0 {
+        while k < TERM_PLACES {
+            if lacks_month(means, line, k) {
                 found = Verdict::Refused(Refusal::MonthMissing { line: j, term: k });
                 break 'lines;
             }

@@ -1,22 +1,26 @@
-// The steps from a line's base price to its reference, the first line out of bounds (cause 11), and whether any line
-// moved (cause 14).
+// The steps from a line's base price to its reference and from its power base price to its power price, the first line
+// out of bounds (cause 11), and whether any line moved (cause 14).
 ghost use mathlib.Core.Path.{_≡_};
 ghost use mathlib.Core.Bool.{true};
 ghost use Prim.Native.Nat.{_≤_};
 ghost use lib.ListN.{replicate, getD};
-ghost use Rattle.numbers.specs.Units.{noPrice};
+ghost use Rattle.numbers.specs.Bounded.{filledBelow};
+ghost use Rattle.numbers.specs.Units.{noPrice, noPower};
 ghost use Rattle.numbers.specs.Required.{ValuesWithin};
 ghost use Rattle.series.specs.Required.{mostMean, TableInRange};
-ghost use Rattle.supply.specs.Line.{mostLines};
-ghost use Rattle.supply.specs.Price.{pesoOf, termRatio, weightedRatio, indexFactor};
+ghost use Rattle.supply.specs.Line.{mostLines, mostPowerPrice};
+ghost use Rattle.supply.specs.Price.{pesoOf, powerPesoOf, termRatio, weightedRatio, indexFactor, linePurchase};
 ghost use Rattle.supply.specs.Price.{priceInForce, absoluteDifference, moved, priceTaken, referenceAnswer};
-ghost use Rattle.supply.specs.Price.{anyMoved, refusedReferences, pricedReferences, ReferencesPromise};
-ghost use Rattle.supply.specs.Listed.{listedMean, indexedOrZero, indexedList, indexedReference};
+ghost use Rattle.supply.specs.Price.{anyMoved, refusedPrices, boundedPrices, LinePricesPromise};
+ghost use Rattle.supply.specs.Listed.{listedMean, withinOrZero, indexedWord, indexedOrZero, indexedReference};
+ghost use Rattle.supply.specs.Listed.{powerOrZero, priceWords};
 ghost use Rattle.supply.specs.Required.{TermFacts, LineFacts, CheckedLines, NumbersFacts};
-ghost use Rattle.supply.specs.Required.{IndexedFacts};
+ghost use Rattle.supply.specs.Required.{WordsWithin};
 use crate::line::Line;
 use crate::line::MOST_LINES;
+use crate::line::MOST_POWER_PRICE;
 use crate::line::MOST_TERMS;
+use crate::line::POWER_TERM;
 use crate::line::Term;
 use crate::line::line_at;
 use crate::line::line_count;
@@ -28,11 +32,15 @@ use numbers::refusal::Verdict;
 use numbers::rounding::half_up;
 use numbers::units::CheckedPrice;
 use numbers::units::PesoPrice;
+use numbers::units::PowerPrice;
 use numbers::units::is_between;
 use series::mean::MEANS;
 use series::mean::means;
 use series::table::MONTHS;
 use series::table::SERIES;
+
+// The greatest index factor, and the greatest ratio of power.
+const MOST_INDEX_FACTOR: u64 = 100000000;
 
 // The peso step: a purchase price in 0.001 US$/MWh at the dollar, in hundredths of $. It has no bounds of its own.
 pub fn peso_price(purchase: u64, dollar: u64) -> PesoPrice
@@ -81,38 +89,32 @@ fn index_factor(means: &[u64; MEANS], line: Line) -> u64
     half_up(sum, 10000)
 }
 
+// A price where it lies in 1 to `most`, else 0.
+fn within_or_zero(most: u64, price: u64) -> u64
+    ensures { λ r. ⌜ r ≡ withinOrZero most price ⌝ }
+{
+    if is_between(1, most, price) { price } else { 0 }
+}
+
+// A base price indexed by a factor, or 0 where the factor is too large or the price not in 1 to `most`. The factor is
+// tested before it is multiplied.
+fn indexed_word(most: u64, base: u64, factor: u64) -> u64
+    requires { ⌜ base ≤ mostPowerPrice ⌝ }
+    ensures { λ r. ⌜ r ≡ indexedWord most base factor ⌝ }
+{
+    if factor > MOST_INDEX_FACTOR {
+        return 0;
+    }
+    within_or_zero(most, half_up(base * factor, 1000000))
+}
+
 // The new indexed price of a line, in 0.001 US$/MWh, or 0 where the index factor or the price is out of bounds: a price
-// within them is at least 1. The factor is tested before it is multiplied.
+// within them is at least 1.
 fn indexed_price(means: &[u64; MEANS], line: Line) -> u64
     requires { ⌜ ValuesWithin mostMean (now means) ⌝ ∗ ⌜ LineFacts line ⌝ }
     ensures { λ r. ⌜ r ≡ indexedOrZero (listedMean (now (means .entry))) line ⌝ }
 {
-    let factor = index_factor(means, line);
-    if factor > 100000000 {
-        return 0;
-    }
-    let indexed = half_up(line.base_price * factor, 1000000);
-    if is_between(1, 1000000, indexed) {
-        indexed
-    } else {
-        0
-    }
-}
-
-// The new indexed prices of all lines. They have a pass of their own: the divisions of the later steps then need not
-// wait for those of the terms.
-fn indexed_prices(means: &[u64; MEANS], lines: &[u64]) -> [u64; MOST_LINES]
-    requires { ⌜ ValuesWithin mostMean (now means) ⌝ ∗ ⌜ CheckedLines (now lines) ⌝ }
-    ensures { λ r. ⌜ r ≡ indexedList (listedMean (now (means .entry))) (now (lines .entry)) ⌝ }
-{
-    let count = line_count(lines);
-    let mut indexed = [0u64; MOST_LINES];
-    let mut j: usize = 0;
-    while j < count {
-        indexed[j] = indexed_price(means, line_at(lines, j));
-        j += 1;
-    }
-    indexed
+    indexed_word(1000000, line.base_price, index_factor(means, line))
 }
 
 fn absolute_difference(one: u64, other: u64) -> u64
@@ -149,14 +151,25 @@ fn price_taken(in_force: &[u64], j: usize, indexed: u64) -> u64
     }
 }
 
+// The purchase price of a line from the price taken, or 0 where it does not lie in 1 to `most`.
+fn purchase_price(most: u64, line: Line, taken: u64) -> u64
+    requires { ⌜ LineFacts line ⌝ ∗ ⌜ taken ≤ mostPowerPrice ⌝ }
+    ensures { λ r. ⌜ r ≡ withinOrZero most (linePurchase line taken) ⌝ }
+{
+    within_or_zero(
+        most,
+        half_up(taken * line.purchase_factor, line.offer_factor),
+    )
+}
+
 // The reference of a line from the price taken: purchase, peso, reference. The bounds of a peso price are put to the
 // reference, not to the peso step.
 fn reference_price(numbers: FixingNumbers, line: Line, taken: u64) -> CheckedPrice
     requires { ⌜ NumbersFacts numbers ⌝ ∗ ⌜ LineFacts line ⌝ ∗ ⌜ taken ≤ 1000000 ⌝ }
     ensures { λ r. ⌜ r ≡ referenceAnswer numbers line taken ⌝ }
 {
-    let purchase = half_up(taken * line.purchase_factor, line.offer_factor);
-    if !is_between(1, 1000000, purchase) {
+    let purchase = purchase_price(1000000, line, taken);
+    if purchase == 0 {
         return CheckedPrice::OutsideBounds;
     }
     let peso = peso_price(purchase, numbers.dollar);
@@ -185,7 +198,7 @@ fn price_line(
 
 // Whether any of the first indexed prices moved.
 fn any_moved(in_force: &[u64], indexed: &[u64; MOST_LINES], count: usize) -> bool
-    requires { ⌜ ValuesWithin 1000000 (now in_force) ⌝ ∗ ⌜ IndexedFacts (now indexed) count ⌝ }
+    requires { ⌜ ValuesWithin 1000000 (now in_force) ⌝ ∗ ⌜ WordsWithin 1000000 (now indexed) count ⌝ }
     ensures { λ r. ⌜ r ≡ anyMoved (now (in_force .entry)) count (λ j. getD (now (indexed .entry)) j 0) ⌝ }
 {
     let mut j: usize = 0;
@@ -198,9 +211,69 @@ fn any_moved(in_force: &[u64], indexed: &[u64; MOST_LINES], count: usize) -> boo
     false
 }
 
-// The references of all lines, or why there are none.
-pub struct References {
-    pub prices: [PesoPrice; MOST_LINES],
+// The power purchase price of a line, in 0.001 US$/kW/month, or 0 where the ratio or a price is out of bounds: a price
+// within them is at least 1.
+fn power_purchase(means: &[u64; MEANS], line: Line) -> u64
+    requires { ⌜ ValuesWithin mostMean (now means) ⌝ ∗ ⌜ LineFacts line ⌝ }
+    ensures { λ r. ⌜ r ≡ powerOrZero (listedMean (now (means .entry))) line ⌝ }
+{
+    let term = line.terms[POWER_TERM];
+    let ratio = term_ratio(means, term);
+    let indexed = indexed_word(MOST_POWER_PRICE, line.power_base_price, ratio);
+    purchase_price(MOST_POWER_PRICE, line, indexed)
+}
+
+// The indexed prices and the power purchase prices of all lines.
+struct PriceWords {
+    indexed: [u64; MOST_LINES],
+    purchases: [u64; MOST_LINES],
+}
+
+// These prices have a pass of their own: the divisions of the later steps then need not wait for those of the terms.
+fn price_words(means: &[u64; MEANS], lines: &[u64]) -> PriceWords
+    requires { ⌜ ValuesWithin mostMean (now means) ⌝ ∗ ⌜ CheckedLines (now lines) ⌝ }
+    ensures { λ r. ⌜ r ≡ priceWords (listedMean (now (means .entry))) (now (lines .entry)) ⌝ }
+{
+    let count = line_count(lines);
+    let mut indexed = [0u64; MOST_LINES];
+    let mut purchases = [0u64; MOST_LINES];
+    let mut j: usize = 0;
+    while j < count {
+        let line = line_at(lines, j);
+        indexed[j] = indexed_price(means, line);
+        purchases[j] = power_purchase(means, line);
+        j += 1;
+    }
+    PriceWords { indexed, purchases }
+}
+
+// The places of the power prices, empty.
+fn no_power_prices() -> [PowerPrice; MOST_LINES]
+    ensures { λ r. ⌜ r ≡ replicate mostLines noPower ⌝ }
+{
+    let none = PowerPrice(0);
+    [none; MOST_LINES]
+}
+
+// The first power purchase prices at the dollar, in hundredths of $.
+fn power_prices(purchases: [u64; MOST_LINES], count: usize, dollar: u64) -> [PowerPrice; MOST_LINES]
+    requires { ⌜ WordsWithin mostPowerPrice purchases count ⌝ ∗ ⌜ dollar ≤ 200000 ⌝ }
+    ensures { λ r. ⌜ r ≡ filledBelow mostLines noPower count
+        (λ j. record { 0 = powerPesoOf (getD purchases j 0) dollar }) ⌝ }
+{
+    let mut power = no_power_prices();
+    let mut j: usize = 0;
+    while j < count {
+        power[j] = PowerPrice(half_up(purchases[j] * dollar, 100));
+        j += 1;
+    }
+    power
+}
+
+// The references and the power prices of all lines, or why there are none.
+pub struct LinePrices {
+    pub references: [PesoPrice; MOST_LINES],
+    pub power: [PowerPrice; MOST_LINES],
     pub verdict: Verdict,
 }
 
@@ -212,36 +285,42 @@ fn no_references() -> [PesoPrice; MOST_LINES]
     [none; MOST_LINES]
 }
 
-// A refusal, with no reference.
-fn refused(refusal: Refusal) -> References
-    ensures { λ r. ⌜ r ≡ refusedReferences refusal ⌝ }
+// A refusal, with no price.
+fn refused(refusal: Refusal) -> LinePrices
+    ensures { λ r. ⌜ r ≡ refusedPrices refusal ⌝ }
 {
-    References {
-        prices: no_references(),
+    LinePrices {
+        references: no_references(),
+        power: no_power_prices(),
         verdict: Verdict::Refused(refusal),
     }
 }
 
-// The references of all lines, or the first line that is out of bounds, or that no line moved.
-fn reference_prices(
+// The prices of all lines, or the first line that is out of bounds, in energy or in power, or that no line moved.
+fn bounded_prices(
     means: &[u64; MEANS],
     numbers: FixingNumbers,
     lines: &[u64],
     in_force: &[u64],
-) -> References
+) -> LinePrices
     requires { ⌜ ValuesWithin mostMean (now means) ⌝ ∗ ⌜ NumbersFacts numbers ⌝ ∗ ⌜ CheckedLines (now lines) ⌝
         ∗ ⌜ ValuesWithin 1000000 (now in_force) ⌝ }
-    ensures { λ r. ⌜ r ≡ pricedReferences (listedMean (now (means .entry))) numbers (now (lines .entry))
+    ensures { λ r. ⌜ r ≡ boundedPrices (listedMean (now (means .entry))) numbers (now (lines .entry))
         (now (in_force .entry)) ⌝ }
 {
     let count = line_count(lines);
-    let indexed = indexed_prices(means, lines);
-    let mut prices = no_references();
+    let words = price_words(means, lines);
+    let indexed = words.indexed;
+    let purchases = words.purchases;
+    let mut references = no_references();
     let mut j: usize = 0;
     while j < count {
+        if purchases[j] == 0 {
+            return refused(Refusal::OutOfBounds { line: j });
+        }
         match price_line(numbers, line_at(lines, j), in_force, j, indexed[j]) {
             CheckedPrice::Within(price) => {
-                prices[j] = price;
+                references[j] = price;
             }
             CheckedPrice::OutsideBounds => {
                 return refused(Refusal::OutOfBounds { line: j });
@@ -252,27 +331,28 @@ fn reference_prices(
     if !any_moved(in_force, &indexed, count) {
         return refused(Refusal::NoLineMoved);
     }
-    References {
-        prices,
+    LinePrices {
+        references,
+        power: power_prices(purchases, count, numbers.dollar),
         verdict: Verdict::Passed,
     }
 }
 
-// The references of all lines from the index table: the first missing month (cause 10), then the first line out of
-// bounds (cause 11), then whether any line moved (cause 14), then the prices.
+// The prices of all lines from the index table: the first missing month (cause 10), then the first line out of bounds
+// (cause 11), then whether any line moved (cause 14), then the prices.
 pub fn price_lines(
     table: [[u64; MONTHS]; SERIES],
     numbers: FixingNumbers,
     lines: &[u64],
     in_force: &[u64],
-) -> References
+) -> LinePrices
     requires { ⌜ TableInRange table ⌝ ∗ ⌜ NumbersFacts numbers ⌝ ∗ ⌜ CheckedLines (now lines) ⌝
         ∗ ⌜ ValuesWithin 1000000 (now in_force) ⌝ }
-    ensures { λ r. ⌜ ReferencesPromise table numbers (now (lines .entry)) (now (in_force .entry)) r ⌝ }
+    ensures { λ r. ⌜ LinePricesPromise table numbers (now (lines .entry)) (now (in_force .entry)) r ⌝ }
 {
     let means = means(table, numbers.first_month, numbers.month);
     match search_months(&means, lines) {
         Verdict::Refused(refusal) => refused(refusal),
-        Verdict::Passed => reference_prices(&means, numbers, lines, in_force),
+        Verdict::Passed => bounded_prices(&means, numbers, lines, in_force),
     }
 }

@@ -2,11 +2,14 @@
 ghost use mathlib.Core.Path.{_≡_};
 ghost use mathlib.Core.Bool.{true};
 ghost use Rattle.supply.specs.Range.{headInRange, termInRange, termUnused, termAllowed, termsAllowed};
-ghost use Rattle.supply.specs.Range.{weightTotal};
+ghost use Rattle.supply.specs.Range.{weightTotal, powerInRange};
 ghost use Rattle.supply.specs.Range.{lineInRange, linesInRange, numbersInRange, inputInRange};
 use crate::line::Line;
+use crate::line::MOST_POWER_PRICE;
 use crate::line::MOST_TERMS;
+use crate::line::POWER_TERM;
 use crate::line::Term;
+use crate::line::WHOLE_WEIGHT;
 use crate::line::line_at;
 use crate::line::line_count;
 use crate::market::FixingNumbers;
@@ -34,7 +37,7 @@ fn term_in_range(term: Term) -> bool
     ensures { λ r. ⌜ r ≡ termInRange term ⌝ }
 {
     (term.series < SERIES as u64)
-        & is_between(1, 10000, term.weight)
+        & is_between(1, WHOLE_WEIGHT, term.weight)
         & is_between(1, 12, term.lag)
         & window_allowed(term.window)
         & is_between(1, MOST_VALUE, term.base_value)
@@ -62,7 +65,15 @@ fn term_allowed(term: Term, used: bool) -> bool
     }
 }
 
-// All four terms.
+// The four words of power.
+fn power_in_range(line: Line) -> bool
+    ensures { λ r. ⌜ r ≡ powerInRange line ⌝ }
+{
+    let term = line.terms[POWER_TERM];
+    is_between(1, MOST_POWER_PRICE, line.power_base_price) & term_in_range(term)
+}
+
+// All four terms of a line's own.
 fn terms_allowed(line: Line) -> bool
     ensures { λ r. ⌜ r ≡ termsAllowed line ⌝ }
 {
@@ -97,13 +108,13 @@ fn weight_total(line: Line) -> u64
 fn line_in_range(n: usize, line: Line) -> bool
     ensures { λ r. ⌜ r ≡ lineInRange n line ⌝ }
 {
-    if !head_in_range(n, line) {
+    if !(head_in_range(n, line) & power_in_range(line)) {
         return false;
     }
     if !terms_allowed(line) {
         return false;
     }
-    line.term_count == 0 || weight_total(line) == 10000
+    line.term_count == 0 || weight_total(line) == WHOLE_WEIGHT
 }
 
 // Every word of every line.

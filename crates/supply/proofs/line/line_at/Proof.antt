@@ -1,4 +1,4 @@
--- The six words and the four terms are the definition's.
+-- The words and the terms are the definition's.
 use Rattle.supply.specs.Line.{lineOf}
 use borrow.Author.Needs.{needs}
 use Rattle.supply.proofs.line.line_at.Statement.{statement}
@@ -8,10 +8,11 @@ returns : tie.Need-returns
 unfolding lineOf
 returns c =
     rw (
-      c .before .before .before .term-from .ensures,
-      c .before .before .term-from2 .ensures,
-      c .before .term-from3 .ensures,
-      c .term-from4 .ensures,
+      c .before .before .before .before .term-from .ensures,
+      c .before .before .before .term-from2 .ensures,
+      c .before .before .term-from3 .ensures,
+      c .before .term-from4 .ensures,
+      c .power-term-from .ensures,
     )
 
 pub line-at-spec : {M : Type 1} → statement M
@@ -21,7 +22,8 @@ line-at-spec =
     (λ c. search needs) (λ c. search needs) (λ c. search needs) (λ c. search needs) (λ c. search needs)
     (λ c. search needs) (λ c. search needs) (λ c. search needs) (λ c. search needs) (λ c. search needs)
     (λ c. search needs) (λ c. search needs) (λ c. search needs) (λ c. search needs) (λ c. search needs)
-    (λ c. search needs) (λ c. search needs) (λ c. search needs) (λ c. search needs) (λ c κs. search needs)
-    (λ c. search needs) (λ c κs. search needs) (λ c. search needs) (λ c. search needs) (λ c κs. search needs)
-    (λ c. search needs) (λ c. search needs) (λ c κs. search needs)
+    (λ c. search needs) (λ c. search needs) (λ c. search needs) (λ c. search needs) (λ c. search needs)
+    (λ c. search needs) (λ c. search needs) (λ c κs. search needs) (λ c. search needs) (λ c κs. search needs)
+    (λ c. search needs) (λ c. search needs) (λ c κs. search needs) (λ c. search needs) (λ c. search needs)
+    (λ c κs. search needs) (λ c. search needs) (λ c κs. search needs)
     returns)

@@ -4,15 +4,13 @@ use mathlib.Core.Path.{_≡_, refl, sym, _∙_, ap}
 use mathlib.Core.Option.{none}
 use Prim.Native.Nat.{ℕ, _≤_, _<_, _-_}
 use native.Mathlib.Omega.{arith}
-use lib.Dec.{eqb}
-use borrow.Author.Tests.{eq-eqb, ne-eqb}
 use borrow.Author.Needs.{needs}
 use Rattle.numbers.specs.Bounded.{firstBelow}
 use Rattle.numbers.specs.Checks.{verdictOf}
 use Rattle.numbers.specs.declared.refusal.Verdict.the-variants.{Passed}
 use Rattle.numbers.proofs.BoolLaws.{told-false}
 use Rattle.numbers.proofs.FirstLaws.{first-step, first-is}
-use Rattle.supply.specs.Line.{lineCount, lineOf, termOf}
+use Rattle.supply.specs.Line.{termPlaces, lineCount, lineOf}
 use Rattle.supply.specs.Listed.{listedLacks}
 use Rattle.supply.specs.Months.{Place, missingTerm, missingInLine, firstMissing, monthCheck}
 use Rattle.supply.specs.Required.{LineFacts}
@@ -22,11 +20,11 @@ use Rattle.supply.proofs.months.search_months.Statement.{statement}
 use Rattle.supply.proofs.months.search_months.Tie as tie
 
 abbrev Inv-loop : tie.InvT-loop
-Inv-loop means lines found₀ count j line terms k₀ found k =
-    (k ≤ terms) × (found ≡ Passed) × (firstBelow k (missingTerm (listedLacks means) line j) ≡ none)
+Inv-loop means lines found₀ count j line k₀ found k =
+    (k ≤ termPlaces) × (found ≡ Passed) × (firstBelow k (missingTerm (listedLacks means) line j) ≡ none)
 
 abbrev μ-loop : tie.MeasureT-loop
-μ-loop means lines found₀ count j line terms k₀ found k = terms - k
+μ-loop means lines found₀ count j line k₀ found k = termPlaces - k
 
 abbrev Inv-lines : tie.InvT-lines
 Inv-lines means lines found₀ count j₀ found j =
@@ -49,16 +47,6 @@ module _ (c : tie.After-line-at Inv-loop μ-loop Inv-lines μ-lines) where
   facts : LineFacts (c .line-at .result)
   facts = rw (c .line-at .ensures) (s .pre .facts j below)
 
--- what the mean of a term says
-module _ (c : tie.After-term-mean Inv-loop μ-loop Inv-lines μ-lines) where
-  abbrev at : tie.After-line-at Inv-loop μ-loop Inv-lines μ-lines
-  at = c .before .before .before .before
-
-  lacks : eqb (c .term-mean .result) 0 ≡ listedLacks (s at .args .means .now)
-      (termOf (at .line-at .result) (c .before .before .before .loop .k))
-  unfolding listedLacks
-  lacks = ap (λ m. eqb m 0) (c .term-mean .ensures)
-
 returns : tie.Need-returns Inv-loop μ-loop Inv-lines μ-lines
 unfolding verdictOf monthCheck
 returns c =
@@ -77,19 +65,19 @@ loop-holds : tie.Need-loop-holds Inv-loop μ-loop Inv-lines μ-lines
 unfolding firstBelow
 loop-holds c = (omega arith, c .before .before .lines .inv .1, refl)
 
-term-mean-requires : tie.Need-term-mean-requires Inv-loop μ-loop Inv-lines μ-lines
-term-mean-requires c κs = facts (c .before .before .before) .term (c .before .before .loop .k) (omega arith)
+lacks-month-requires : tie.Need-lacks-month-requires Inv-loop μ-loop Inv-lines μ-lines
+lacks-month-requires c κs = (facts (c .before .before), omega arith)
 
 loop-again : tie.Need-loop-again Inv-loop μ-loop Inv-lines μ-lines
 loop-again c =
-    let l = c .before .before .before .before in
+    let l = c .before .before .before in
     let a = l .before in (
       omega arith,
       l .loop .inv .1,
       first-step (missingTerm (listedLacks (s a .args .means .now)) (a .line-at .result) (j a)) (l .loop .k)
           (l .loop .inv .2)
           ∙ term-published (listedLacks (s a .args .means .now)) (a .line-at .result) (j a) (l .loop .k)
-          (sym (lacks (c .before)) ∙ ne-eqb _ _ (c .if2 .left)),
+          (sym (c .before .lacks-month .ensures) ∙ c .if2 .left),
     )
 
 lines-again : tie.Need-lines-again Inv-loop μ-loop Inv-lines μ-lines
@@ -99,7 +87,7 @@ lines-again c =
     let a = l .before in
     let o = a .before .before in
     let t = listedLacks (s a .args .means .now) in
-    let e : l .loop .k ≡ a .line-at .result .«term_count» = omega arith in (
+    let e : l .loop .k ≡ termPlaces = omega arith in (
       omega arith,
       l .loop .inv .1,
       first-step (λ i. missingInLine t (lineOf (s a .args .lines .now) i) i) (j a) (o .lines .inv .2)
@@ -118,7 +106,7 @@ returns-2 c =
 returns-3 : tie.Need-returns-3 Inv-loop μ-loop Inv-lines μ-lines
 unfolding verdictOf monthCheck firstMissing missingInLine
 returns-3 c =
-    let l = c .before .before .before .before in
+    let l = c .before .before .before in
     let a = l .before in
     let o = a .before .before in
     let t = listedLacks (s a .args .means .now) in
@@ -127,9 +115,10 @@ returns-3 c =
     (first-is (λ i. missingInLine t (lineOf (s a .args .lines .now) i) i) (j a) (lineCount (s a .args .lines .now))
     place (below a) (o .lines .inv .2)
     (ap (λ line. missingInLine t line (j a)) (sym (a .line-at .ensures))
-    ∙ first-is (missingTerm t (a .line-at .result) (j a)) (l .loop .k) (a .line-at .result .«term_count») place
+    ∙ first-is (missingTerm t (a .line-at .result) (j a)) (l .loop .k) termPlaces place
     (omega arith) (l .loop .inv .2)
-    (term-missing t (a .line-at .result) (j a) (l .loop .k) (sym (lacks (c .before)) ∙ eq-eqb _ _ (c .if2 .taken)))))
+    (term-missing t (a .line-at .result) (j a) (l .loop .k)
+    (sym (c .before .lacks-month .ensures) ∙ c .if2 .taken))))
 
 pub search-months-spec : {M : Type 1} → statement M
 search-months-spec =
@@ -145,8 +134,7 @@ search-months-spec =
     lines-holds
     line-at-requires
     loop-holds
-    (λ c. omega (arith, facts (c .before .before) .terms)) (λ c. omega (arith, facts (c .before .before) .terms))
-    term-mean-requires
+    lacks-month-requires
     (λ c. omega arith) (λ c. omega arith)
     loop-again
     (λ c. omega arith) (λ c. omega arith)

@@ -4,7 +4,7 @@ use mathlib.Core.Bool.{true}
 use Prim.Native.Nat.{ℕ, _*_, _-_, _≤_}
 use native.Mathlib.Omega.{arith}
 use lib.Dec.{ltb}
-use borrow.Author.Tests.{eq-eqb, ne-eqb, ltb-true}
+use borrow.Author.Tests.{eq-eqb, ne-eqb}
 use Rattle.numbers.specs.Bounded.{sumBelow}
 use Rattle.numbers.specs.Rounding.{halfUp}
 use Rattle.numbers.proofs.SumLaws.{Summed, summed-none, summed-more, summed-all, sum-le}
@@ -13,7 +13,7 @@ use Rattle.supply.specs.Listed.{listedMean}
 use Rattle.supply.specs.Price.{weightedRatio, indexFactor}
 use Rattle.supply.specs.Required.{TermFacts}
 use Rattle.supply.proofs.ListedLaws.{listed-most}
-use Rattle.supply.proofs.PriceLaws.{weighted-most}
+use Rattle.supply.proofs.PriceLaws.{weighted-most, own-used}
 use Rattle.supply.proofs.price.index_factor.Statement.{statement}
 use Rattle.supply.proofs.price.index_factor.Tie as tie
 
@@ -31,7 +31,7 @@ module _ (s : tie.Start Inv-loop μ-loop) where
       weightedRatio (listedMean (s .args .means .now)) (termOf (s .args .t2) i) (ltb i (s .args .t2 .«term_count»))
 
   term : (i : ℕ) → ltb i (s .args .t2 .«term_count») ≡ true → TermFacts (termOf (s .args .t2) i)
-  term i h = s .pre .1 .term i (ltb-true _ _ h)
+  term i h = s .pre .1 .term i (own-used (s .args .t2) i h)
 
   added-most : (i : ℕ) → added i ≤ 999999990000000000
   added-most i =

@@ -6,9 +6,9 @@ use Rattle.numbers.specs.Checks.{verdictOf}
 use Rattle.series.proofs.MeanLaws.{means-within}
 use Rattle.supply.specs.Listed.{listedMean, listedLacks}
 use Rattle.supply.specs.Months.{lacksMonth, monthCheck}
-use Rattle.supply.specs.Price.{pricedReferences}
-use Rattle.supply.proofs.ListedLaws.{check-listed, references-listed}
-use Rattle.supply.proofs.ReferenceLaws.{references-promised, months-refused, months-present, months-priced}
+use Rattle.supply.specs.Price.{boundedPrices}
+use Rattle.supply.proofs.ListedLaws.{check-listed, prices-listed}
+use Rattle.supply.proofs.LinePriceLaws.{prices-promised, months-refused, months-present, months-priced}
 use Rattle.supply.proofs.price.price_lines.Statement.{statement}
 use Rattle.supply.proofs.price.price_lines.Tie as tie
 
@@ -29,8 +29,8 @@ module _ (m : tie.After-search-months) where
 means-requires : tie.Need-means-requires
 means-requires c κs = let s = c .before .before in (s .pre .0, s .pre .1 .0 .start)
 
-reference-prices-requires : tie.Need-reference-prices-requires
-reference-prices-requires c κs =
+bounded-prices-requires : tie.Need-bounded-prices-requires
+bounded-prices-requires c κs =
     let m = c .before .before .before in (
       rw (m .before .before .means .ensures) (means-within (s m .args .table) (s m .pre .0) _ _),
       (s m .pre .1 .0, s m .pre .1 .1),
@@ -40,7 +40,7 @@ returns : tie.Need-returns
 returns c =
     let m = c .before .before .before .before in
     let a = s m .args in
-    references-promised (a .table) (a .numbers) (a .lines .now) (a .in-force .now) _
+    prices-promised (a .table) (a .numbers) (a .lines .now) (a .in-force .now) _
     (c .refused .ensures
     ∙ sym (months-refused (a .table) (a .numbers) (a .lines .now) (a .in-force .now) _
     (sym (searched m) ∙ c .before .before .refusal .given .1)))
@@ -50,11 +50,11 @@ returns-2 c =
     let m = c .before .before .before .before in
     let a = s m .args in
     let present = sym (searched m) ∙ c .before .before .enum-told .given .1 in
-    references-promised (a .table) (a .numbers) (a .lines .now) (a .in-force .now) _
-    (c .reference-prices .ensures
-    ∙ ap (λ means. pricedReferences (listedMean means) (a .numbers) (a .lines .now) (a .in-force .now))
+    prices-promised (a .table) (a .numbers) (a .lines .now) (a .in-force .now) _
+    (c .bounded-prices .ensures
+    ∙ ap (λ means. boundedPrices (listedMean means) (a .numbers) (a .lines .now) (a .in-force .now))
     (m .before .before .means .ensures)
-    ∙ references-listed (a .table) (a .numbers) (a .lines .now) (s m .pre .1 .1 .0)
+    ∙ prices-listed (a .table) (a .numbers) (a .lines .now) (s m .pre .1 .1 .0)
     (months-present (a .table) (a .numbers) (a .lines .now) (a .in-force .now) present) (a .in-force .now)
     ∙ sym (months-priced (a .table) (a .numbers) (a .lines .now) (a .in-force .now) present))
 
@@ -64,6 +64,6 @@ price-lines-spec =
     (tie.spec
     means-requires
     (λ c κs. search needs) (λ c. search needs) (λ c κs. search needs) (λ c. search needs)
-    reference-prices-requires
+    bounded-prices-requires
     returns
     returns-2)
