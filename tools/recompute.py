@@ -239,7 +239,8 @@ def fix(book, month, dollar, factor, first, series, lines, sectors, in_force, pr
         k = missing_term(line, month, first, series)
         if k is not None:
             return 10, (j, k), *keep
-    references, power_prices, moved = [], [], in_force is None
+    power_prices = []
+    references, moved = [], in_force is None
     for j, line in enumerate(rows):
         taken = new_indexed(line, month, first, series)
         if taken is None:
