@@ -10,10 +10,13 @@ const MAX_DISTRIBUTORS: usize = 40;
 const SECTORS: usize = 8;
 const MAX_PLACES: usize = SECTORS * MAX_DISTRIBUTORS;
 const MAX_LINES: usize = 256;
-const LINE_WORDS: usize = 26;
+const LINE_WORDS: usize = 30;
 const TERM_WORDS: usize = 5;
+const TERMS: usize = 4;
+const POWER_WORDS: usize = 4;
 const SERIES: usize = 5;
 const SERIES_MONTHS: usize = 48;
+const CPI: u64 = 3;
 
 const LAST_MONTH: u64 = 1_199;
 const MAX_SERIES_VALUE: u64 = 99_999_999;
@@ -31,6 +34,7 @@ const MILLIONTHS: u64 = MILLION / UNIT;
 const FACTOR_RANGE: RangeInclusive<u64> = 5_000..=20_000;
 const DOLLAR_RANGE: RangeInclusive<u64> = 1..=200_000;
 const CONTRACT_PRICE_RANGE: RangeInclusive<u64> = 1..=1_000_000;
+const POWER_PRICE_RANGE: RangeInclusive<u64> = 1..=100_000_000;
 const ENERGY_RANGE: RangeInclusive<u64> = 1..=10_000_000;
 const REFERENCE_RANGE: RangeInclusive<u64> = 1_000..=2_000_000;
 const LOSS_RANGE: RangeInclusive<u64> = 10_000..=20_000;
@@ -159,15 +163,16 @@ struct SeriesTable<'a> {
 }
 
 impl SeriesTable<'_> {
-    /// The mean over the term's window in millionths, or `None` if one of its months is missing.
-    fn mean(&self, month: u64, term: &Term) -> Option<u64> {
+    /// The ratio of the mean over the term's window to its base value, or `None` if one of its months is missing.
+    fn ratio(&self, month: u64, term: &Term) -> Option<u64> {
         let end = (month + 1).checked_sub(term.lag)?;
         let start = end.checked_sub(term.window)?.checked_sub(self.first_month)?;
         let values = self.rows[term.series as usize].get(start as usize..(start + term.window) as usize)?;
         if values.contains(&0) {
             return None;
         }
-        Some(half_up(values.iter().sum::<u64>() * MILLIONTHS, term.window))
+        let mean = half_up(values.iter().sum::<u64>() * MILLIONTHS, term.window);
+        Some(half_up(mean * MILLION, term.base_value * MILLIONTHS))
     }
 }
 
@@ -194,6 +199,12 @@ impl Term {
     }
 }
 
+/// What moves a line's prices, in millionths: the index factor of energy and the ratio of power.
+struct Factors {
+    energy: u64,
+    power: u64,
+}
+
 /// A supply line, read from its words.
 struct Line<'a> {
     distributor: u64,
@@ -203,13 +214,28 @@ struct Line<'a> {
     energy: u64,
     term_count: u64,
     term_words: &'a [[u64; TERM_WORDS]],
+    power_base_price: u64,
+    power_term: Term,
 }
 
 impl<'a> Line<'a> {
     fn new(words: &'a [u64; LINE_WORDS]) -> Line<'a> {
         let &[distributor, base_price, offer_factor, purchase_factor, energy, term_count, ref rest @ ..] = words;
-        let (term_words, _) = rest.as_chunks();
-        Line { distributor, base_price, offer_factor, purchase_factor, energy, term_count, term_words }
+        let (term_words, power_words) = rest.as_chunks();
+        let &[power_base_price, lag, window, base_value] = power_words else { unreachable!() };
+        // A line has one power term, so its weight is the whole.
+        let power_term = Term { series: CPI, weight: UNIT, lag, window, base_value };
+        Line {
+            distributor,
+            base_price,
+            offer_factor,
+            purchase_factor,
+            energy,
+            term_count,
+            term_words,
+            power_base_price,
+            power_term,
+        }
     }
 
     fn terms(&self) -> impl Iterator<Item = Term> + 'a {
@@ -223,6 +249,8 @@ impl<'a> Line<'a> {
             || !FACTOR_RANGE.contains(&self.purchase_factor)
             || !ENERGY_RANGE.contains(&self.energy)
             || self.term_count > self.term_words.len() as u64
+            || !POWER_PRICE_RANGE.contains(&self.power_base_price)
+            || !self.power_term.is_valid()
         {
             return false;
         }
@@ -237,35 +265,42 @@ impl<'a> Line<'a> {
         (self.term_count == 0 || weights == UNIT) && unused.iter().flatten().all(|&word| word == 0)
     }
 
-    /// The index factor in millionths, or the number of the first term with a missing month.
-    fn index_factor(&self, month: u64, table: &SeriesTable) -> Result<u64, usize> {
-        if self.term_count == 0 {
-            return Ok(MILLION);
-        }
+    /// The factors, or the number of the first term with a missing month; the power term comes last.
+    fn factors(&self, month: u64, table: &SeriesTable) -> Result<Factors, usize> {
         let mut sum = 0;
         for (number, term) in self.terms().enumerate() {
-            let mean = table.mean(month, &term).ok_or(number)?;
-            sum += term.weight * half_up(mean * MILLION, term.base_value * MILLIONTHS);
+            sum += term.weight * table.ratio(month, &term).ok_or(number)?;
         }
-        Ok(half_up(sum, UNIT))
+        let energy = if self.term_count == 0 { MILLION } else { half_up(sum, UNIT) };
+        let power = table.ratio(month, &self.power_term).ok_or(TERMS)?;
+        Ok(Factors { energy, power })
+    }
+
+    /// A base price moved by a factor, then by purchase over offer factor, or `None` if one of them is out of bounds.
+    fn purchase(&self, base_price: u64, factor: u64, range: &RangeInclusive<u64>) -> Option<u64> {
+        if factor > MAX_INDEX_FACTOR {
+            return None;
+        }
+        let indexed = half_up(base_price * factor, MILLION);
+        if !range.contains(&indexed) {
+            return None;
+        }
+        let purchase = half_up(indexed * self.purchase_factor, self.offer_factor);
+        range.contains(&purchase).then_some(purchase)
     }
 
     /// The reference price, or `None` if the index factor or a price is out of bounds.
     fn reference(&self, index_factor: u64, dollar: u64, reference_factor: u64) -> Option<u64> {
-        if index_factor > MAX_INDEX_FACTOR {
-            return None;
-        }
-        let indexed = half_up(self.base_price * index_factor, MILLION);
-        if !CONTRACT_PRICE_RANGE.contains(&indexed) {
-            return None;
-        }
-        let purchase = half_up(indexed * self.purchase_factor, self.offer_factor);
-        if !CONTRACT_PRICE_RANGE.contains(&purchase) {
-            return None;
-        }
+        let purchase = self.purchase(self.base_price, index_factor, &CONTRACT_PRICE_RANGE)?;
         let peso = half_up(purchase * dollar, 100_000);
         let reference = half_up(peso * reference_factor, self.purchase_factor);
         REFERENCE_RANGE.contains(&reference).then_some(reference)
+    }
+
+    /// The power price in thousandths of $/kW/month, or `None` if the ratio or a price is out of bounds.
+    fn power_price(&self, ratio: u64, dollar: u64) -> Option<u64> {
+        let purchase = self.purchase(self.power_base_price, ratio, &POWER_PRICE_RANGE)?;
+        Some(half_up(purchase * dollar, 100))
     }
 }
 
@@ -329,8 +364,9 @@ struct Fixing {
     ledger: Ledger,
 }
 
-/// Fixes the prices of a month; `prices` takes average, final and charge of each distributor.
-fn fix(ledger: &Ledger, input: &FixingInput, prices: &mut [i64]) -> Result<Fixing, Refusal> {
+/// Fixes the prices of a month; `prices` takes average, final and charge of each distributor, `power` its average power
+/// price.
+fn fix(ledger: &Ledger, input: &FixingInput, prices: &mut [i64], power: &mut [u64]) -> Result<Fixing, Refusal> {
     if !ledger.is_sound() {
         return Err(Refusal::UnsoundLedger);
     }
@@ -342,6 +378,7 @@ fn fix(ledger: &Ledger, input: &FixingInput, prices: &mut [i64]) -> Result<Fixin
         || input.series.len() != SERIES * SERIES_MONTHS
         || input.sector_factors.len() != SECTORS * n
         || prices.len() != 3 * n
+        || power.len() != n
     {
         return Err(Refusal::WrongLength);
     }
@@ -374,19 +411,22 @@ fn fix(ledger: &Ledger, input: &FixingInput, prices: &mut [i64]) -> Result<Fixin
 
     // A missing month in any line goes before a price out of bounds in any other.
     let table = SeriesTable { rows: input.series.as_chunks().0, first_month: input.first_month };
-    let mut index_factors = Vec::with_capacity(lines.len());
+    let mut factors = Vec::with_capacity(lines.len());
     for (number, line) in lines.iter().map(Line::new).enumerate() {
-        match line.index_factor(month, &table) {
-            Ok(factor) => index_factors.push(factor),
+        match line.factors(month, &table) {
+            Ok(both) => factors.push(both),
             Err(term) => return Err(Refusal::MonthMissing { line: number, term }),
         }
     }
     let mut amounts = [0; MAX_DISTRIBUTORS];
-    for (number, (line, &factor)) in lines.iter().map(Line::new).zip(&index_factors).enumerate() {
-        let reference = line
-            .reference(factor, input.dollar, input.reference_factor)
-            .ok_or(Refusal::OutOfBounds { line: number })?;
+    // Up to 5.12 * 10^20, past 64 bits.
+    let mut power_amounts = [0; MAX_DISTRIBUTORS];
+    for (number, (line, factors)) in lines.iter().map(Line::new).zip(&factors).enumerate() {
+        let out_of_bounds = Refusal::OutOfBounds { line: number };
+        let reference = line.reference(factors.energy, input.dollar, input.reference_factor).ok_or(out_of_bounds)?;
+        let power_price = line.power_price(factors.power, input.dollar).ok_or(out_of_bounds)?;
         amounts[line.distributor as usize] += reference * line.energy;
+        power_amounts[line.distributor as usize] += power_price as u128 * line.energy as u128;
     }
     let mut averages = [0; MAX_DISTRIBUTORS];
     for (average, (&amount, &energy)) in averages.iter_mut().zip(amounts.iter().zip(energies)) {
@@ -402,6 +442,8 @@ fn fix(ledger: &Ledger, input: &FixingInput, prices: &mut [i64]) -> Result<Fixin
         let final_price = finals[i] as i64;
         let charge = final_price - average;
         prices[3 * i..3 * i + 3].copy_from_slice(&[average, final_price, charge]);
+        let energy = energies[i] as u128;
+        power[i] = ((power_amounts[i] + energy / 2) / energy) as u64;
         for (sector, &factor) in sector_factors[i].iter().enumerate() {
             let place = SECTORS * i + sector;
             ledger.present[place] = factor != 0;
@@ -512,11 +554,12 @@ fn settle(ledger: &Ledger, input: &SettlementInput, transfers: &mut [i64]) -> Re
     Ok(ledger)
 }
 
-/// A line's words: the six at its head, then its terms; unused terms stay zero.
-fn line_words(head: [u64; 6], terms: &[[u64; TERM_WORDS]]) -> Vec<u64> {
+/// A line's words: the six at its head, then its terms, of which unused ones stay zero, then power.
+fn line_words(head: [u64; 6], terms: &[[u64; TERM_WORDS]], power: [u64; POWER_WORDS]) -> Vec<u64> {
     let mut words = head.to_vec();
     words.extend(terms.iter().flatten());
-    words.resize(LINE_WORDS, 0);
+    words.resize(LINE_WORDS - POWER_WORDS, 0);
+    words.extend(power);
     words
 }
 
@@ -524,7 +567,7 @@ fn line_words(head: [u64; 6], terms: &[[u64; TERM_WORDS]]) -> Vec<u64> {
 fn even_load() -> (FixingInput, SettlementInput) {
     let line = |j: u64| {
         let terms: Vec<_> = (0..4).map(|k| [k, 2_500, 1, 9, 10_000]).collect();
-        line_words([j % 40, 50_000 + 390 * j, 10_000, 10_000, 1_000 + j, 4], &terms)
+        line_words([j % 40, 50_000 + 390 * j, 10_000, 10_000, 1_000 + j, 4], &terms, [10_000, 1, 9, 10_000])
     };
     let fixing = FixingInput {
         month: 20,
@@ -543,10 +586,10 @@ fn even_load() -> (FixingInput, SettlementInput) {
 fn mixed_load() -> (FixingInput, SettlementInput) {
     let line = |j: u64| {
         let count = j % 5;
+        let window = |place: u64| [1, 6, 9][place as usize % 3];
         let term = |k: u64| {
             let weight = 10_000 / count + if k == 0 { 10_000 % count } else { 0 };
-            let window = [1, 6, 9][(j + k) as usize % 3];
-            [(j + k) % 5, weight, 1 + (5 * j + 3 * k) % 12, window, 9_000 + (37 * j + 101 * k) % 2_001]
+            [(j + k) % 5, weight, 1 + (5 * j + 3 * k) % 12, window(j + k), 9_000 + (37 * j + 101 * k) % 2_001]
         };
         let head = [
             7 * j % 40,
@@ -556,7 +599,8 @@ fn mixed_load() -> (FixingInput, SettlementInput) {
             1 + 7_919 * j % 500_000,
             count,
         ];
-        line_words(head, &(0..count).map(term).collect::<Vec<_>>())
+        let power = [5_000 + 811 * j % 20_001, 1 + j % 12, window(j), 9_500 + 37 * j % 1_001];
+        line_words(head, &(0..count).map(term).collect::<Vec<_>>(), power)
     };
     let series_value = |place: u64| {
         let (series, column) = (place / 48, place % 48);
@@ -604,15 +648,19 @@ fn main() {
 
     let opened = Ledger::open(MAX_DISTRIBUTORS).expect("40 distributors are allowed");
     let mut prices = vec![0; 3 * MAX_DISTRIBUTORS];
+    let mut power = vec![0; MAX_DISTRIBUTORS];
     let mut transfers = vec![0; MAX_DISTRIBUTORS];
-    let fixed = fix(&opened, &fixing_input, &mut prices).expect("the load is accepted").ledger;
+    let fixed = fix(&opened, &fixing_input, &mut prices, &mut power).expect("the load is accepted").ledger;
 
     let (mut fixings, mut settlements) = (0, 0);
     let mut last_fixing = None;
     let mut last_settlement = None;
     for _ in 0..count {
         if with_fixings {
-            let answer = fix(black_box(&opened), black_box(&fixing_input), black_box(&mut prices));
+            let (opened, input) = (black_box(&opened), black_box(&fixing_input));
+            let answer = fix(opened, input, black_box(&mut prices), black_box(&mut power));
+            // No power price is printed, and still each is to be worked.
+            black_box(&power);
             fixings += u64::from(answer.is_ok());
             last_fixing = Some(answer);
         }
@@ -652,7 +700,9 @@ mod tests {
     /// Document 01's `classroom`: three distributors, one line without terms each.
     fn classroom() -> (Ledger, FixingInput) {
         let lines = [(100_000, 10), (83_000, 10), (60_000, 11)];
-        let line = |(i, (price, energy)): (u64, &(u64, u64))| line_words([i, *price, 10_000, 10_000, *energy, 0], &[]);
+        let line = |(i, (price, energy)): (u64, &(u64, u64))| {
+            line_words([i, *price, 10_000, 10_000, *energy, 0], &[], [9_000 + i, 1, 9, 10_000])
+        };
         let input = FixingInput {
             month: 30,
             dollar: 100_000,
@@ -676,19 +726,20 @@ mod tests {
     fn refusal_of(change: impl Fn(&mut FixingInput)) -> Option<Refusal> {
         let (ledger, mut input) = classroom();
         change(&mut input);
-        let mut prices = vec![-7; 9];
-        let refusal = fix(&ledger, &input, &mut prices).err();
-        assert!(refusal.is_none() || prices == [-7; 9]);
+        let (mut prices, mut power) = (vec![-7; 9], vec![7; 3]);
+        let refusal = fix(&ledger, &input, &mut prices, &mut power).err();
+        assert!(refusal.is_none() || (prices == [-7; 9] && power == [7; 3]));
         refusal
     }
 
     #[test]
     fn classroom_and_two_months() {
         let (ledger, input) = classroom();
-        let mut prices = vec![0; 9];
-        let fixing = fix(&ledger, &input, &mut prices).ok().unwrap();
+        let (mut prices, mut power) = (vec![0; 9], vec![0; 3]);
+        let fixing = fix(&ledger, &input, &mut prices, &mut power).ok().unwrap();
         assert_eq!((fixing.limit, fixing.surcharge, fixing.rounds, fixing.residue), (84_338, 13_022, 2, 2));
         assert_eq!(prices, [100_000, 84_338, -15_662, 83_000, 84_338, 1_338, 60_000, 73_022, 13_022]);
+        assert_eq!(power, [9_000_000, 9_001_000, 9_002_000]);
         let mut transfers = vec![0; 3];
         let first = settle(&fixing.ledger, &month_of(30, [1_000; 3]), &mut transfers).unwrap();
         assert_eq!(first.balances[..3], [-1_302, 0, 0]);
@@ -697,35 +748,94 @@ mod tests {
         assert_eq!(second.balances[..3], [0, 1_217, 11_841]);
         let again = settle(&second, &month_of(31, [0; 3]), &mut transfers);
         assert_eq!(again, Err(Refusal::OutOfTurn));
-        assert_eq!(fix(&second, &input, &mut prices).err(), Some(Refusal::OutOfTurn));
+        assert_eq!(fix(&second, &input, &mut prices, &mut power).err(), Some(Refusal::OutOfTurn));
     }
 
     #[test]
     fn fixings_are_refused_by_the_first_cause() {
         assert_eq!(refusal_of(|_| ()), None);
-        assert_eq!(refusal_of(|input| input.lines.truncate(77)), Some(Refusal::WrongLength));
+        assert_eq!(refusal_of(|input| input.lines.truncate(89)), Some(Refusal::WrongLength));
         assert_eq!(refusal_of(|input| input.lines.clear()), Some(Refusal::WrongLength));
         assert_eq!(refusal_of(|input| input.month = 1_200), Some(Refusal::OutOfTurn));
         assert_eq!(refusal_of(|input| input.lines[25] = 1), Some(Refusal::BadInput));
         assert_eq!(refusal_of(|input| input.series[239] = 100_000_000), Some(Refusal::SeriesValue));
         assert_eq!(refusal_of(|input| input.sector_factors[8] = 0), Some(Refusal::Sector));
-        assert_eq!(refusal_of(|input| input.lines[26] = 0), Some(Refusal::DistributorWithoutLine));
-        assert_eq!(refusal_of(|input| input.lines[27] = 999), Some(Refusal::OutOfBounds { line: 1 }));
-        assert_eq!(refusal_of(|input| input.lines[27] = 1_000), None);
+        assert_eq!(refusal_of(|input| input.lines[30] = 0), Some(Refusal::DistributorWithoutLine));
+        assert_eq!(refusal_of(|input| input.lines[31] = 999), Some(Refusal::OutOfBounds { line: 1 }));
+        assert_eq!(refusal_of(|input| input.lines[31] = 1_000), None);
         let missing = |input: &mut FixingInput| {
             input.lines[1] = 999;
             let terms = [[0, 5_000, 1, 1, 10_000], [1, 5_000, 12, 9, 10_000]];
-            let line = line_words([2, 60_000, 10_000, 10_000, 11, 2], &terms);
-            input.lines[52..].copy_from_slice(&line);
+            let line = line_words([2, 60_000, 10_000, 10_000, 11, 2], &terms, [1, 1, 1, 1]);
+            input.lines[60..].copy_from_slice(&line);
             input.series[48 + 10] = 0;
         };
         assert_eq!(refusal_of(missing), Some(Refusal::MonthMissing { line: 2, term: 1 }));
     }
 
     #[test]
+    fn power_is_refused_by_the_first_cause() {
+        let set = |word: usize, value: u64| refusal_of(move |input| input.lines[word] = value);
+        for (word, least, most) in [(26, 1, 100_000_000), (27, 1, 12), (29, 1_000, 99_999_999)] {
+            assert_eq!(set(word, least), None);
+            assert_eq!(set(word, most), None);
+        }
+        for (word, value) in
+            [(26, 0), (26, 100_000_001), (27, 0), (27, 13), (28, 0), (28, 7), (29, 0), (29, 100_000_000)]
+        {
+            assert_eq!(set(word, value), Some(Refusal::BadInput));
+        }
+        let (ledger, input) = classroom();
+        for length in [2, 4] {
+            let refusal = fix(&ledger, &input, &mut [0; 9], &mut vec![0; length]).err();
+            assert_eq!(refusal, Some(Refusal::WrongLength));
+        }
+        let missing = |input: &mut FixingInput| {
+            input.lines[1] = 999;
+            input.lines[57..60].copy_from_slice(&[12, 9, 10_000]);
+            input.series[3 * 48 + 10] = 0;
+        };
+        assert_eq!(refusal_of(missing), Some(Refusal::MonthMissing { line: 1, term: 4 }));
+        // Ratio 100 and above, indexed 0 and 100,000,001, purchase 0 and 100,000,001.
+        let priced = |price: u64, ratio: u64, offer_factor: u64, purchase_factor: u64| {
+            let words = line_words([0, 1, offer_factor, purchase_factor, 1, 0], &[], [price, 1, 1, 1]);
+            Line::new(words.first_chunk().unwrap()).power_price(ratio, 100_000)
+        };
+        assert_eq!(priced(1, 100_000_000, 10_000, 10_000), Some(100_000));
+        assert_eq!(priced(1, 100_000_001, 10_000, 10_000), None);
+        assert_eq!(priced(1, 500_000, 10_000, 10_000), Some(1_000));
+        assert_eq!(priced(1, 499_999, 10_000, 10_000), None);
+        assert_eq!(priced(99_999_900, 1_000_001, 10_000, 5_000), Some(50_000_000_000));
+        assert_eq!(priced(99_999_901, 1_000_001, 10_000, 5_000), None);
+        assert_eq!(priced(1, MILLION, 10_000, 5_000), Some(1_000));
+        assert_eq!(priced(1, MILLION, 20_000, 9_999), None);
+        assert_eq!(priced(66_666_667, MILLION, 10_000, 15_000), None);
+        assert_eq!(refusal_of(|input| input.lines[56] = 100_000_000), None);
+        let first = Some(Refusal::OutOfBounds { line: 0 });
+        assert_eq!(refusal_of(|input| (input.lines[29], input.lines[31]) = (1, 999)), first);
+        assert_eq!(refusal_of(|input| (input.lines[1], input.lines[59]) = (999, 1)), first);
+        assert_eq!(refusal_of(|input| input.lines[59] = 1), Some(Refusal::OutOfBounds { line: 1 }));
+    }
+
+    #[test]
+    fn power_is_weighted_by_energy_and_rounded_once() {
+        let (ledger, mut input) = classroom();
+        let (mut prices, mut power) = (vec![0; 9], vec![0; 3]);
+        let widest = line_words([0, 100_000, 10_000, 10_000, 10_000_000, 0], &[], [100_000_000, 1, 9, 10_000]);
+        let uneven = [(1, 1_000, 3), (1, 2_000, 1), (2, 1, 1), (2, 1, 1), (2, 1, 1)];
+        input.lines = widest.repeat(20);
+        for (distributor, price, energy) in uneven {
+            let head = [distributor, 60_000, 10_000, 10_000, energy, 0];
+            input.lines.extend(line_words(head, &[], [price, 1, 9, 10_000]));
+        }
+        fix(&ledger, &input, &mut prices, &mut power).ok().unwrap();
+        assert_eq!(power, [100_000_000_000, 1_250_000, 1_000]);
+    }
+
+    #[test]
     fn settlements_are_refused_by_the_first_cause() {
         let (opened, input) = classroom();
-        let fixed = fix(&opened, &input, &mut [0; 9]).ok().unwrap().ledger;
+        let fixed = fix(&opened, &input, &mut [0; 9], &mut [0; 3]).ok().unwrap().ledger;
         let mut transfers = vec![-7; 3];
         let mut refusal = |ledger: &Ledger, input: &SettlementInput| settle(ledger, input, &mut transfers).err();
         assert_eq!(refusal(&opened, &month_of(30, [1; 3])), Some(Refusal::NoFixing));

@@ -70,8 +70,13 @@ def sound(b):
     return not (any(v > 0 for v in b.balance) and any(v < 0 for v in b.balance))
 
 
+def term_wrong(lag, window, value):
+    """Cause 6 of what a term and the power term have in common."""
+    return not 1 <= lag <= 12 or window not in (1, 6, 9) or not 1 <= value <= 99_999_999
+
+
 def line_wrong(line, n):
-    """Cause 6 of one line of 26 words."""
+    """Cause 6 of one line of 30 words."""
     d, base, offer, purchase, energy, count = line[:6]
     if not d < n or not 1 <= base <= 1_000_000:
         return True
@@ -86,12 +91,14 @@ def line_wrong(line, n):
             if (series, weight, lag, window, value) != (0, 0, 0, 0, 0):
                 return True
             continue
-        if series > 4 or not 1 <= weight <= 10000 or not 1 <= lag <= 12 or window not in (1, 6, 9):
-            return True
-        if not 1 <= value <= 99_999_999:
+        if series > 4 or not 1 <= weight <= 10000 or term_wrong(lag, window, value):
             return True
         total += weight
-    return count != 0 and total != 10000
+    if count != 0 and total != 10000:
+        return True
+    # W-204: "a power base price, 1 to 100,000,000 .., and one CPI term (lag, window, base value) under a term's ranges"
+    power_base, lag, window, value = line[26:]
+    return not 1 <= power_base <= 100_000_000 or term_wrong(lag, window, value)
 
 
 def months_of(t, lag, window):
@@ -106,6 +113,38 @@ def value_at(series, first, row, month):
     return v if v else None
 
 
+def missing_term(line, t, first, series):
+    """The first term with a missing month, or None; the power term is term 4, whatever the line's count."""
+    own = [(k, line[6 + 5 * k], line[8 + 5 * k], line[9 + 5 * k]) for k in range(line[5])]
+    for k, row, lag, window in own + [(4, 3, line[27], line[28])]:
+        if any(value_at(series, first, row, m) is None for m in months_of(t, lag, window)):
+            return k
+    return None
+
+
+def ratio_of(t, first, series, row, lag, window, value):
+    """W-202: the mean is "sum x 100 / window, half up, in millionths, and the ratio divides by the base value times 100"."""
+    mean = half_up(sum(value_at(series, first, row, m) for m in months_of(t, lag, window)) * 100, window)
+    return half_up(mean * 1_000_000, value * 100)
+
+
+def indexed_price(base, f, most):
+    """The base price moved by a factor, or None where the factor or the price is out of bounds."""
+    if f > 100_000_000:
+        return None
+    indexed = half_up(base * f, 1_000_000)
+    return indexed if 1 <= indexed <= most else None
+
+
+def purchase_price(line, indexed, most):
+    """The indexed price moved by purchase over offer factor, or None where either is out of bounds."""
+    if indexed is None:
+        return None
+    offer, purchase_factor = line[2:4]
+    purchase = half_up(indexed * purchase_factor, offer)
+    return purchase if 1 <= purchase <= most else None
+
+
 def new_indexed(line, t, first, series):
     """The new indexed price of a line, or None where the factor or the price is out of bounds."""
     base, count = line[1], line[5]
@@ -114,13 +153,9 @@ def new_indexed(line, t, first, series):
         total = 0
         for k in range(count):
             row, weight, lag, window, value = line[6 + 5 * k:11 + 5 * k]
-            mean = half_up(sum(value_at(series, first, row, m) for m in months_of(t, lag, window)) * 100, window)
-            total += weight * half_up(mean * 1_000_000, value * 100)
+            total += weight * ratio_of(t, first, series, row, lag, window, value)
         f = half_up(total, 10000)
-    if f > 100_000_000:
-        return None
-    indexed = half_up(base * f, 1_000_000)
-    return indexed if 1 <= indexed <= 1_000_000 else None
+    return indexed_price(base, f, 1_000_000)
 
 
 def has_moved(old, new):
@@ -130,13 +165,26 @@ def has_moved(old, new):
 
 def line_price(line, dollar, factor, taken):
     """The reference of a line from the price taken, or None where a price is out of bounds."""
-    offer, purchase_factor = line[2:4]
-    purchase = half_up(taken * purchase_factor, offer)
-    if not 1 <= purchase <= 1_000_000:
+    purchase = purchase_price(line, taken, 1_000_000)
+    if purchase is None:
         return None
     peso = half_up(purchase * dollar, 100_000)
-    reference = half_up(peso * factor, purchase_factor)
+    reference = half_up(peso * factor, line[3])
     return reference if 1000 <= reference <= 2_000_000 else None
+
+
+def power_price(line, t, first, series, dollar):
+    """W-204: "indexed by that ratio alone, moved by purchase over offer factor, and turned into thousandths of $/kW/month
+    by D / 100, half up at each step"; None where the ratio or a price is out of bounds."""
+    base, lag, window, value = line[26:]
+    indexed = indexed_price(base, ratio_of(t, first, series, 3, lag, window, value), 100_000_000)
+    purchase = purchase_price(line, indexed, 100_000_000)
+    return None if purchase is None else half_up(purchase * dollar, 100)
+
+
+def averages(prices, rows, e):
+    """Each distributor's average, "weighted by energy, half up"."""
+    return [half_up(sum(q * line[4] for q, line in zip(prices, rows) if line[0] == i), e[i]) for i in range(len(e))]
 
 
 def limit_and_rounds(p, e):
@@ -160,21 +208,21 @@ def limit_and_rounds(p, e):
     return limit, r, rounds, residue, final
 
 
-def fix(book, month, dollar, factor, first, series, lines, sectors, in_force, out):
-    """(number, values, ledger, list); in_force is None in a regular fixing."""
-    keep = (book, out)
+def fix(book, month, dollar, factor, first, series, lines, sectors, in_force, prices, power):
+    """(number, values, ledger, prices, power); in_force is None in a regular fixing."""
+    keep = (book, prices, power)
     if not sound(book):
         return 2, (), *keep
     n = book.n
-    if len(series) != 240 or len(lines) % 26 or not 1 <= len(lines) // 26 <= 256:
+    if len(series) != 240 or len(lines) % 30 or not 1 <= len(lines) // 30 <= 256:
         return 3, (), *keep
-    if len(sectors) != 8 * n or len(out) != 3 * n:
+    if len(sectors) != 8 * n or len(prices) != 3 * n or len(power) != n:
         return 3, (), *keep
-    if in_force is not None and len(in_force) != len(lines) // 26:
+    if in_force is not None and len(in_force) != len(lines) // 30:
         return 3, (), *keep
     if month > 1199 or (book.months and month != book.last + 1):
         return 4, (), *keep
-    rows = [lines[26 * j:26 * j + 26] for j in range(len(lines) // 26)]
+    rows = [lines[30 * j:30 * j + 30] for j in range(len(lines) // 30)]
     if not 1 <= dollar <= 200_000 or not 5000 <= factor <= 20000 or first > 1199:
         return 6, (), *keep
     if any(line_wrong(line, n) for line in rows):
@@ -188,10 +236,10 @@ def fix(book, month, dollar, factor, first, series, lines, sectors, in_force, ou
     if {line[0] for line in rows} != set(range(n)):
         return 9, (), *keep
     for j, line in enumerate(rows):
-        for k in range(line[5]):
-            row, weight, lag, window, value = line[6 + 5 * k:11 + 5 * k]
-            if any(value_at(series, first, row, m) is None for m in months_of(month, lag, window)):
-                return 10, (j, k), *keep
+        k = missing_term(line, month, first, series)
+        if k is not None:
+            return 10, (j, k), *keep
+    power_prices = []
     references, moved = [], in_force is None
     for j, line in enumerate(rows):
         taken = new_indexed(line, month, first, series)
@@ -203,12 +251,14 @@ def fix(book, month, dollar, factor, first, series, lines, sectors, in_force, ou
             else:
                 taken = in_force[j]
         references.append(line_price(line, dollar, factor, taken))
-        if references[j] is None:
+        # "An interim fixing works power afresh, without the 10% test."
+        power_prices.append(power_price(line, month, first, series, dollar))
+        if references[j] is None or power_prices[j] is None:
             return 11, (j,), *keep
     if not moved:
         return 14, (), *keep
     e = [sum(line[4] for line in rows if line[0] == i) for i in range(n)]
-    p = [half_up(sum(q * line[4] for q, line in zip(references, rows) if line[0] == i), e[i]) for i in range(n)]
+    p = averages(references, rows, e)
     limit, r, rounds, residue, final = limit_and_rounds(p, e)
     written = []
     for i in range(n):
@@ -220,7 +270,7 @@ def fix(book, month, dollar, factor, first, series, lines, sectors, in_force, ou
         i = k // 8
         if s:
             new.present[k], new.charge[k] = True, half_away((final[i] - p[i]) * s, 10000)
-    return 0, (limit, r, rounds, residue), new, written
+    return 0, (limit, r, rounds, residue), new, written, averages(power_prices, rows, e)
 
 
 def shares(sizes, t):
@@ -324,10 +374,10 @@ def fixing_command(journal, book, name):
     month, dollar, factor, first = (journal.number() for _ in range(4))
     series, lines, sectors = (journal.list(name, journal.number) for name in (b"series", b"lines", b"sectors"))
     in_force = journal.list(b"inforce", journal.number) if name == "interim" else None
-    lent = [-1] * journal.count(b"prices")
-    number, values, book, out = fix(book, month, dollar, factor, first, series, lines, sectors, in_force, lent)
+    prices, power = [-1] * journal.count(b"prices"), [2 ** 64 - 1] * journal.count(b"power")
+    number, values, book, prices, power = fix(book, month, dollar, factor, first, series, lines, sectors, in_force, prices, power)
     if number == 0:
-        rows = [f"{i} {out[3 * i]} {out[3 * i + 1]} {out[3 * i + 2]}" for i in range(book.n)]
+        rows = [f"{i} {prices[3 * i]} {prices[3 * i + 1]} {prices[3 * i + 2]} {power[i]}" for i in range(book.n)]
         return book, [name + " accepted limit %d surcharge %d rounds %d residue %d" % values] + rows
     place = {10: " line %d term %d", 11: " line %d"}.get(number, "")
     return book, [f"{name} refused {number}" + place % values]
