@@ -6,7 +6,7 @@ use mathlib.Core.List.{List}
 use Prim.Native.Nat.{ℕ, _+_, _*_, _≤_, _<_}
 use native.Mathlib.Omega.{arith}
 use native.Mathlib.Decide.{ℕ-discrete}
-use native.Mathlib.Nat.{mul-le-mul}
+use native.Mathlib.Nat.{mul-le-mul, mul-le-mul-right}
 use lib.Dec.{eqb}
 use lib.ListN.{getD, set, length, length-set, replicate, length-replicate, getD-replicate}
 use lib.Seq.{getD-set-same, getD-set-other, ext-getD}
@@ -17,7 +17,7 @@ use Rattle.numbers.specs.Sizes.{mostDistributors}
 use Rattle.numbers.specs.declared.units.PesoPrice.{PesoPrice}
 use Rattle.numbers.specs.declared.units.Energy.{Energy}
 use Rattle.numbers.specs.declared.units.UnsignedPesos.{UnsignedPesos}
-use Rattle.numbers.proofs.SumLaws.{sum-step, sum-same, sum-le, sum-part}
+use Rattle.numbers.proofs.SumLaws.{sum-step, sum-same, sum-le, sum-part, sum-scale, sum-le-sum}
 use Rattle.numbers.proofs.TestLaws.{any-none, all-at, all-same}
 use Rattle.numbers.proofs.ListLaws.{list-length, list-at}
 use Rattle.numbers.proofs.SearchLaws.{any-where}
@@ -47,6 +47,20 @@ module _ (lines : List ℕ) (f : ℕ → ℕ) (i j : ℕ) where
 pub parts-most : (lines : List ℕ) (f : ℕ → ℕ) (i k most : ℕ) → ((j : ℕ) → j < k → f j ≤ most) →
     sumBelow k (ownPart lines f i) ≤ k * most
 parts-most lines f i k most h = sum-le k most (ownPart lines f i) (λ j p. omega (arith, part-most lines f i j, h j p))
+
+-- where each price is at most so much, an amount is at most the energy at that price
+pub amount-within : (price : ℕ → ℕ) (lines : List ℕ) (most : ℕ) → ((j : ℕ) → j < lineCount lines → price j ≤ most) →
+    (i : ℕ) → linesAmount price lines i ≤ most * suppliedEnergy lines i
+unfolding suppliedEnergy linesAmount ownSum ownPart
+amount-within price lines most h i =
+    rw (← sum-scale (lineCount lines) most (ownPart lines (λ j. lineOf lines j .energy) i))
+    (sum-le-sum (lineCount lines) _ _
+    (λ j p. go (eqb (lineOf lines j .distributor) i) j (mul-le-mul-right (lineOf lines j .energy) (h j p))))
+  where
+    go : (b : Bool) (j : ℕ) → price j * lineOf lines j .energy ≤ most * lineOf lines j .energy →
+        cond b (price j * lineOf lines j .energy) 0 ≤ most * cond b (lineOf lines j .energy) 0
+    go true j q = q
+    go false j q = omega arith
 
 -- a pass over the lines that keeps the sum of each distributor as a value of its own type
 module _ {A : Type 0} (make : ℕ → A) (read : A → ℕ) (made : (x : ℕ) → read (make x) ≡ x)

@@ -10,6 +10,7 @@ use Rattle.numbers.specs.Bounded.{filledBelow}
 use Rattle.numbers.specs.Units.{noPrice, mostPrice}
 use Rattle.numbers.specs.Sizes.{mostDistributors, sectorCount}
 use Rattle.numbers.specs.declared.units.PesoPrice.{PesoPrice}
+use Rattle.numbers.specs.declared.units.PowerPrice.{PowerPrice}
 use Rattle.numbers.specs.declared.units.Energy.{Energy}
 use Rattle.numbers.proofs.ListLaws.{filled-at, filled-same}
 use Rattle.fixing.specs.Limit.{InRange, finalPrice, charge}
@@ -74,14 +75,15 @@ module _ (n : ℕ) (averages : List PesoPrice) (energies : List Energy) (r : InR
             charge = λ i p. rw (charges-at i p) (charge-size (distributors n averages energies) r i p);
           }
 
-      pub fixing-is : (sectors : List ℕ) (force : SectorCharges) →
+      pub fixing-is : (power : List PowerPrice) (sectors : List ℕ) (force : SectorCharges) →
           force ≡ sectorCharges n (λ i. getD list i (pos 0)) sectors →
           _≡_ {A = Fixing} (record {
             verdict = Passed;
             averages = averages;
+            power = power;
             prices = answer;
             charges = list;
             sectors = force;
-          }) (acceptedFixing n averages energies sectors)
+          }) (acceptedFixing n averages power energies sectors)
       unfolding acceptedFixing
-      fixing-is sectors force f = rw (e, charges-are, f ∙ sectors-same n _ _ sectors charges-at)
+      fixing-is power sectors force f = rw (e, charges-are, f ∙ sectors-same n _ _ sectors charges-at)

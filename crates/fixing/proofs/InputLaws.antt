@@ -26,7 +26,7 @@ use Rattle.fixing.specs.Prices.{distributors}
 use Rattle.fixing.specs.Average.{ownPart, ownSum, linesAmount, suppliedEnergy, averagePrice, energyList}
 use Rattle.fixing.specs.Average.{averageList}
 use Rattle.fixing.specs.Required.{OwnLines, AcceptedLines}
-use Rattle.fixing.proofs.AverageLaws.{energy-at, supplied-some}
+use Rattle.fixing.proofs.AverageLaws.{amount-within, energy-at, supplied-some}
 
 pub own-lines : (n : ℕ) (lines : List ℕ) → n ≤ mostDistributors → lineCount lines ≤ mostLines →
     linesInRange n lines ≡ true → OwnLines lines
@@ -39,10 +39,6 @@ own-lines n lines few count h =
 pick-le : (b : Bool) (x y m : ℕ) → m * x ≤ y → m * cond b x 0 ≤ cond b y 0
 pick-le true x y m h = h
 pick-le false x y m h = omega arith
-
-pick-ge : (b : Bool) (x y m : ℕ) → y ≤ m * x → cond b y 0 ≤ m * cond b x 0
-pick-ge true x y m h = h
-pick-ge false x y m h = omega arith
 
 -- what distributors before the k-th get of a line: its amount at most
 own-none : (k amount own : ℕ) → k ≤ own → sumBelow k (λ i. cond (eqb own i) amount 0) ≤ k * 0
@@ -91,12 +87,7 @@ module _ (n : ℕ) (prices : List PesoPrice) (lines : List ℕ) (ok : AcceptedLi
       (mul-le-mul-right (energyOf j) (ok .least j p))))
 
   amount-most : (i : ℕ) → linesAmount price lines i ≤ mostPrice * suppliedEnergy lines i
-  unfolding suppliedEnergy linesAmount ownSum ownPart
-  amount-most i =
-      rw (← sum-scale (lineCount lines) mostPrice (ownPart lines energyOf i))
-      (sum-le-sum (lineCount lines) _ _
-      (λ j p. pick-ge (eqb (lineOf lines j .distributor) i) (energyOf j) (price j * energyOf j) mostPrice
-      (mul-le-mul-right (energyOf j) (ok .priced .priced j p))))
+  amount-most = amount-within price lines mostPrice (ok .priced .priced)
 
   module _ (i : ℕ) (p : i < n) where
     some : 1 ≤ suppliedEnergy lines i

@@ -8,13 +8,14 @@ use Prim.Native.Nat.{ℕ, _≤_, _<_}
 use native.Mathlib.Omega.{arith}
 use lib.ListN.{getD}
 use Rattle.numbers.specs.Checks.{verdictOf}
-use Rattle.numbers.specs.Units.{noPrice, leastPrice, mostPrice}
+use Rattle.numbers.specs.Units.{noPrice, noPower, leastPrice, mostPrice}
 use Rattle.numbers.specs.declared.refusal.Refusal.{Refusal}
 use Rattle.numbers.specs.declared.refusal.Refusal.the-variants.{OutOfRange, ValueTooLarge, WrongSector, NoLine}
 use Rattle.numbers.specs.declared.refusal.Verdict.{Verdict}
 use Rattle.numbers.specs.Required.{ValuesWithin}
 use Rattle.numbers.specs.declared.refusal.Verdict.the-variants.{Passed, Refused}
 use Rattle.numbers.specs.declared.units.PesoPrice.{PesoPrice}
+use Rattle.numbers.specs.declared.units.PowerPrice.{PowerPrice}
 use Rattle.numbers.proofs.ListLaws.{filled-at}
 use Rattle.numbers.proofs.CheckLaws.{FirstPass, AllTold, passes, refused-unless, passed-test, verdict-from, all-passed}
 use Rattle.numbers.proofs.CheckLaws.{check-told, judged}
@@ -22,20 +23,23 @@ use Rattle.series.specs.Series.{valuesInRange}
 use Rattle.series.specs.Required.{TableInRange}
 use Rattle.series.proofs.SeriesLaws.{table-in-range}
 use Rattle.supply.specs.Line.{mostLines, lineCount}
-use Rattle.supply.specs.Price.{termMean, priceChecks, tableChecks, referencePrice, referenceList, ReferencesPromise}
+use Rattle.supply.specs.Price.{termMean, priceChecks, tableChecks, referencePrice, referenceList, powerPrice, powerList}
+use Rattle.supply.specs.Price.{pricesBy, LinePricesPromise}
 use Rattle.supply.specs.Required.{NumbersFacts}
-use Rattle.supply.specs.declared.price.References.{References}
+use Rattle.supply.specs.declared.price.LinePrices.{LinePrices}
 use Rattle.supply.proofs.RangeLaws.{input-numbers, input-lines, input-in-force}
-use Rattle.supply.proofs.PriceLaws.{search-within, bounds-passed}
-use Rattle.supply.proofs.ReferenceLaws.{table-told, passed-bounds, passed-prices}
+use Rattle.supply.proofs.PriceLaws.{search-within, power-within, bounds-passed}
+use Rattle.supply.proofs.LinePriceLaws.{table-told, passed-bounds, passed-prices}
 use Rattle.fixing.specs.Average.{energyList, averageList}
 use Rattle.fixing.specs.Limit.{InRange}
 use Rattle.fixing.specs.Prices.{distributors}
+use Rattle.fixing.specs.Power.{powerAverages}
 use Rattle.fixing.specs.Sector.{sectorsAllowed}
 use Rattle.fixing.specs.Input.{FixingInput, indexTable, inputMean, ranged, supplied, beyondLine}
-use Rattle.fixing.specs.Input.{inputChecks, inputVerdict, inputReferences, inputAverages, inputEnergies}
+use Rattle.fixing.specs.Input.{inputChecks, inputVerdict, inputReferences, inputPowerPrices, inputPower}
+use Rattle.fixing.specs.Input.{inputAverages, inputEnergies}
 use Rattle.fixing.specs.Fixing.{refusedFixing, acceptedFixing, fixingBy, workedFixing, fixingOf, InputPromise}
-use Rattle.fixing.specs.Required.{OwnLines, AcceptedLines, RightLengths, CheckedInput}
+use Rattle.fixing.specs.Required.{OwnLines, AcceptedLines, PoweredLines, RightLengths, CheckedInput}
 use Rattle.fixing.specs.declared.fix.Fixing.{Fixing}
 use Rattle.fixing.proofs.InputLaws.{own-lines, accepted-range}
 
@@ -92,6 +96,24 @@ module _ (n : ℕ) (input : FixingInput) where
             rw e (ap (λ x. x .0) (filled-at mostLines noPrice (referenceOf input) (lineCount (input .lines)) j p
             (omega (arith, ok .lengths .lines))))
 
+    -- and so can power prices
+    pub checked-powered : beyondLine input ≡ none → (power : List PowerPrice) → power ≡ inputPowerPrices input →
+        PoweredLines power (input .lines)
+    unfolding inputPowerPrices powerList
+    checked-powered h power e =
+        record {
+          own = checked-own;
+          powered = λ j p.
+              rw (
+                e,
+                ap (λ x. x .0) (filled-at mostLines noPower
+                    (powerPrice (inputMean input) (input .numbers) (input .lines)) (lineCount (input .lines)) j p
+                    (omega (arith, ok .lengths .lines))),
+              )
+              (power-within (inputMean input) (input .numbers) (input .lines) (input .inForce) h j p
+              (checked-numbers .dollarMost));
+        }
+
 -- the whole: a refusal, or the prices
 module _ (n : ℕ) (input : FixingInput) where
   -- the verdict that a fixing tells is its input's
@@ -146,8 +168,8 @@ module _ (n : ℕ) (input : FixingInput) where
         )
 
     -- what the pricing of its lines says: a refusal, or references to go on with
-    module _ (table : List (List ℕ)) (e : table ≡ indexTable input) (given : References)
-        (promise : ReferencesPromise table (input .numbers) (input .lines) (input .inForce) given) where
+    module _ (table : List (List ℕ)) (e : table ≡ indexTable input) (given : LinePrices)
+        (promise : LinePricesPromise table (input .numbers) (input .lines) (input .inForce) given) where
       priced : (verdict : Verdict) → given .verdict ≡ verdict →
           verdictOf (tableChecks (indexTable input) (input .numbers) (input .lines) (input .inForce)) ≡ verdict
       priced verdict v =
@@ -159,33 +181,40 @@ module _ (n : ℕ) (input : FixingInput) where
       priced-refused fixing refusal f v = worked-refused fixing refusal f (table-left ∙ priced (Refused refusal) v)
 
       module _ (v : given .verdict ≡ Passed) where
-        prices-are : given .prices ≡ inputReferences input
-        unfolding inputReferences
+        prices-are : given ≡ pricesBy Passed (inputReferences input) (inputPowerPrices input)
+        unfolding inputReferences inputPowerPrices
         prices-are =
             passed-prices table (input .numbers) (input .lines) (input .inForce) given promise v
-            ∙ ap (λ t. referenceList (termMean t (input .numbers)) (input .numbers) (input .lines) (input .inForce)) e
+            ∙ ap (λ t. pricesBy Passed
+            (referenceList (termMean t (input .numbers)) (input .numbers) (input .lines) (input .inForce))
+            (powerList (termMean t (input .numbers)) (input .numbers) (input .lines))) e
 
-        pub priced-accepted : AcceptedLines n (given .prices) (input .lines)
+        within : beyondLine input ≡ none
+        within =
+            passed-bounds (indexTable input) (input .numbers) (input .lines) (input .inForce) (priced Passed v)
+
+        pub priced-accepted : AcceptedLines n (given .references) (input .lines)
         priced-accepted =
-            checked-accepted n input ok
-            (passed-bounds (indexTable input) (input .numbers) (input .lines) (input .inForce) (priced Passed v))
-            (given .prices) prices-are
+            checked-accepted n input ok within (given .references) (ap (λ (p : LinePrices). p .references) prices-are)
+
+        pub priced-powered : PoweredLines (given .power) (input .lines)
+        priced-powered = checked-powered n input ok within (given .power) (ap (λ (p : LinePrices). p .power) prices-are)
 
         pub priced-worked : (fixing : Fixing) →
-            fixing ≡ acceptedFixing n (averageList n (given .prices) (input .lines)) (energyList (input .lines))
-            (input .sectors) →
+            fixing ≡ acceptedFixing n (averageList n (given .references) (input .lines))
+            (powerAverages n (given .power) (input .lines)) (energyList (input .lines)) (input .sectors) →
             InputPromise n input fixing
-        unfolding fixingOf inputVerdict workedFixing inputAverages inputEnergies
+        unfolding fixingOf inputVerdict workedFixing inputAverages inputPower inputEnergies
         priced-worked fixing f =
             fixing-worked fixing
-            (f ∙ ap (λ p. acceptedFixing n (averageList n p (input .lines)) (energyList (input .lines))
-            (input .sectors)) prices-are
+            (f ∙ ap (λ (p : LinePrices). acceptedFixing n (averageList n (p .references) (input .lines))
+            (powerAverages n (p .power) (input .lines)) (energyList (input .lines)) (input .sectors)) prices-are
             ∙ ap (λ x. fixingBy x (workedFixing n input)) (sym (table-left ∙ priced Passed v)))
 
   -- input that passed every check
   module _ (passed : inputVerdict n input ≡ Passed) where
-    pub passed-fixing : fixingOf n input ≡ acceptedFixing n (inputAverages n input) (inputEnergies input)
-        (input .sectors)
+    pub passed-fixing : fixingOf n input ≡ acceptedFixing n (inputAverages n input) (inputPower n input)
+        (inputEnergies input) (input .sectors)
     unfolding fixingOf workedFixing
     passed-fixing = rw passed
 

@@ -8,16 +8,18 @@ use Rattle.numbers.specs.Checks.{Check, check, verdictOf}
 use Rattle.numbers.specs.declared.refusal.Refusal.the-variants.{OutOfRange, ValueTooLarge, WrongSector, NoLine}
 use Rattle.numbers.specs.declared.refusal.Verdict.{Verdict}
 use Rattle.numbers.specs.declared.units.PesoPrice.{PesoPrice}
+use Rattle.numbers.specs.declared.units.PowerPrice.{PowerPrice}
 use Rattle.numbers.specs.declared.units.Energy.{Energy}
 use Rattle.series.specs.Series.{seriesTable, valuesInRange}
 use Rattle.supply.specs.Range.{inputInRange}
 use Rattle.supply.specs.Months.{Place, lacksMonth, firstMissing}
-use Rattle.supply.specs.Price.{termMean, firstBeyond, anyLineMoved, tableChecks, referenceList}
+use Rattle.supply.specs.Price.{termMean, firstBeyond, anyLineMoved, tableChecks, referenceList, powerList}
 use Rattle.supply.specs.declared.line.Term.{Term}
 use Rattle.supply.specs.declared.market.FixingNumbers.{FixingNumbers}
 use Rattle.fixing.specs.Limit.{Distributors}
 use Rattle.fixing.specs.Prices.{distributors}
 use Rattle.fixing.specs.Average.{everyoneSupplied, energyList, averageList}
+use Rattle.fixing.specs.Power.{powerAverages}
 use Rattle.fixing.specs.Sector.{sectorsAllowed}
 
 -- the numbers of a fixing, the 240 words of the series, the lines, the sector factors; and of an interim fixing, "line
@@ -74,6 +76,13 @@ inputVerdict n input = verdictOf (inputChecks n input)
 -- the references of an input's lines
 unfoldable pub inputReferences : FixingInput → List PesoPrice
 inputReferences input = referenceList (inputMean input) (input .numbers) (input .lines) (input .inForce)
+
+-- the power prices of an input's lines, and the averages of n distributors
+unfoldable pub inputPowerPrices : FixingInput → List PowerPrice
+inputPowerPrices input = powerList (inputMean input) (input .numbers) (input .lines)
+
+unfoldable pub inputPower : ℕ → FixingInput → List PowerPrice
+inputPower n input = powerAverages n (inputPowerPrices input) (input .lines)
 
 -- averages of n distributors and energies, from an input's lines
 unfoldable pub inputAverages : ℕ → FixingInput → List PesoPrice

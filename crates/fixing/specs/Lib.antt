@@ -2,6 +2,7 @@ pub mod Limit
 pub mod Charge
 pub mod Prices
 pub mod Average
+pub mod Power
 pub mod Sector
 pub mod Input
 pub mod Fixing

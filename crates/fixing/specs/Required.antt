@@ -6,16 +6,18 @@ use mathlib.Core.List.{List}
 use Prim.Native.Nat.{ℕ, _*_, _^_, _≤_, _<_}
 use lib.ListN.{getD, length}
 use lib.IntN.{ℤ, pos, natAbs}
-use Rattle.numbers.specs.Units.{noPrice, noEnergy, noTotal, leastPrice, mostPrice}
+use Rattle.numbers.specs.Units.{noPrice, noPower, noEnergy, noTotal, leastPrice, mostPrice}
 use Rattle.numbers.specs.Sizes.{mostDistributors, sectorCount}
 use Rattle.numbers.specs.declared.units.PesoPrice.{PesoPrice}
+use Rattle.numbers.specs.declared.units.PowerPrice.{PowerPrice}
 use Rattle.numbers.specs.declared.units.Energy.{Energy}
 use Rattle.numbers.specs.declared.units.UnsignedPesos.{UnsignedPesos}
 use Rattle.series.specs.Series.{wordCount, valuesInRange}
 use Rattle.supply.specs.Line.{mostLines, lineCount, lineOf}
-use Rattle.supply.specs.Required.{CheckedLines}
+use Rattle.supply.specs.Required.{CheckedLines, mostPesoPower}
 use Rattle.fixing.specs.Limit.{Distributors, InRange, limit}
 use Rattle.fixing.specs.Average.{everyoneSupplied}
+use Rattle.fixing.specs.Power.{million}
 use Rattle.fixing.specs.Sector.{mostFactor, factorAt, sectorsAllowed}
 use Rattle.fixing.specs.Input.{FixingInput, ranged, supplied}
 
@@ -28,6 +30,19 @@ pub record OwnLines (lines : List ℕ) : Type 0 where
 pub record PricedLines (prices : List PesoPrice) (lines : List ℕ) : Type 0 where
   pub own : OwnLines lines
   pub priced : (j : ℕ) → j < lineCount lines → getD prices j noPrice .0 ≤ mostPrice
+
+-- a power price for each line
+pub record PoweredLines (prices : List PowerPrice) (lines : List ℕ) : Type 0 where
+  pub own : OwnLines lines
+  pub powered : (j : ℕ) → j < lineCount lines → getD prices j noPower .0 ≤ mostPesoPower
+
+-- an amount of power in two parts, and the energy that it is divided by: each part is that of prices that are at most so
+-- much
+pub record PartsWithin (millions rest energy : ℕ) : Type 0 where
+  pub some : 1 ≤ energy
+  pub most : energy ≤ 2560000000
+  pub millionsMost : millions ≤ 200000 * energy
+  pub restMost : rest ≤ million * energy
 
 -- lines that passed every check: each price within the bounds of a peso price, each distributor with a line
 pub record AcceptedLines (n : ℕ) (prices : List PesoPrice) (lines : List ℕ) : Type 0 where

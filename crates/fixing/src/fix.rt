@@ -1,17 +1,21 @@
-// The fixing of input of right lengths: causes 6 to 11 and 14 in their order, then averages, prices and sector charges.
+// The fixing of input of right lengths: causes 6 to 11 and 14 in their order, then averages, average power prices,
+// prices and sector charges.
 ghost use mathlib.Core.Path.{_≡_};
 ghost use mathlib.Core.Bool.{true};
 ghost use Prim.Native.Nat.{_*_};
 ghost use lib.ListN.{length};
 ghost use Rattle.numbers.specs.Sizes.{sectorCount};
 ghost use Rattle.fixing.specs.Average.{averageList, energyList};
+ghost use Rattle.fixing.specs.Power.{powerAverages};
 ghost use Rattle.fixing.specs.Sector.{sectorsAllowed};
 ghost use Rattle.fixing.specs.Input.{inputOf};
 ghost use Rattle.fixing.specs.Fixing.{refusedFixing, acceptedFixing, InputPromise};
-ghost use Rattle.fixing.specs.Required.{AcceptedLines, RightLengths};
+ghost use Rattle.fixing.specs.Required.{AcceptedLines, PoweredLines, RightLengths};
 use crate::average::averages;
 use crate::average::energies;
 use crate::average::every_energy;
+use crate::power::no_power;
+use crate::power::power_averages;
 use crate::prices::FixedPrices;
 use crate::prices::charges;
 use crate::prices::fix_prices;
@@ -26,11 +30,12 @@ use numbers::refusal::Verdict;
 use numbers::sizes::MOST_DISTRIBUTORS;
 use numbers::units::Energy;
 use numbers::units::PesoPrice;
+use numbers::units::PowerPrice;
 use numbers::units::UnsignedPesos;
 use series::table::fill;
 use series::table::values_in_range;
-use supply::line::MOST_LINES;
 use supply::market::FixingNumbers;
+use supply::price::LinePrices;
 use supply::price::price_lines;
 use supply::range::input_in_range;
 
@@ -38,6 +43,7 @@ use supply::range::input_in_range;
 pub struct Fixing {
     pub verdict: Verdict,
     pub averages: [PesoPrice; MOST_DISTRIBUTORS],
+    pub power: [PowerPrice; MOST_DISTRIBUTORS],
     pub prices: FixedPrices,
     // Final price less average, signed, in 0.001 $/kWh.
     pub charges: [i64; MOST_DISTRIBUTORS],
@@ -56,11 +62,13 @@ fn refused(refusal: Refusal) -> Fixing
         residue: UnsignedPesos(0),
         finals: none,
     };
+    let power = no_power();
     let charges = no_charge_list();
     let sectors = no_charges();
     Fixing {
         verdict: Verdict::Refused(refusal),
         averages: none,
+        power,
         prices,
         charges,
         sectors,
@@ -70,17 +78,22 @@ fn refused(refusal: Refusal) -> Fixing
 // An accepted fixing: the prices of lines that passed every check.
 fn accepted(
     n: usize,
-    references: [PesoPrice; MOST_LINES],
+    priced: LinePrices,
     lines: &[u64],
     energies: [Energy; MOST_DISTRIBUTORS],
     sectors: &[u64],
 ) -> Fixing
-    requires { ⌜ AcceptedLines n references (now lines) ⌝ ∗ ⌜ energies ≡ energyList (now lines) ⌝
-        ∗ ⌜ length (now sectors) ≡ n * sectorCount ⌝ ∗ ⌜ sectorsAllowed n (now sectors) ≡ true ⌝ }
-    ensures { λ r. ⌜ r ≡ acceptedFixing n (averageList n references (now (lines .entry)))
+    requires { ⌜ AcceptedLines n (priced .references) (now lines) ⌝ ∗ ⌜ PoweredLines (priced .power) (now lines) ⌝
+        ∗ ⌜ energies ≡ energyList (now lines) ⌝ ∗ ⌜ length (now sectors) ≡ n * sectorCount ⌝
+        ∗ ⌜ sectorsAllowed n (now sectors) ≡ true ⌝ }
+    ensures { λ r. ⌜ r ≡ acceptedFixing n (averageList n (priced .references) (now (lines .entry)))
+        (powerAverages n (priced .power) (now (lines .entry)))
         (energyList (now (lines .entry))) (now (sectors .entry)) ⌝ }
 {
+    let references = priced.references;
+    let power_prices = priced.power;
     let averages = averages(n, references, lines, energies);
+    let power = power_averages(n, power_prices, lines, energies);
     let prices = fix_prices(n, averages, energies);
     let finals = prices.finals;
     let charges = charges(n, averages, finals);
@@ -88,6 +101,7 @@ fn accepted(
     Fixing {
         verdict: Verdict::Passed,
         averages,
+        power,
         prices,
         charges,
         sectors,
@@ -120,11 +134,10 @@ pub fn fix_input(
     if !every_energy(n, energies) {
         return refused(Refusal::NoLine);
     }
-    let references = price_lines(fill(series), numbers, lines, in_force);
-    let verdict = references.verdict;
+    let priced = price_lines(fill(series), numbers, lines, in_force);
+    let verdict = priced.verdict;
     if let Verdict::Refused(refusal) = verdict {
         return refused(refusal);
     }
-    let prices = references.prices;
-    accepted(n, prices, lines, energies, sectors)
+    accepted(n, priced, lines, energies, sectors)
 }

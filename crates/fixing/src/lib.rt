@@ -2,5 +2,6 @@
 // sector charges from checked lines, and the causes 6 to 11 and 14 in their order.
 mod average;
 pub mod fix;
+mod power;
 pub mod prices;
 pub mod sector;

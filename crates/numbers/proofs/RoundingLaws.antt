@@ -1,10 +1,11 @@
 -- Laws of the roundings: a rounded quotient keeps whole bounds, and lies within a half of the quotient.
 -- Assumes nothing.
-use mathlib.Core.Path.{_≡_, refl}
+use mathlib.Core.Path.{_≡_, refl, _∙_, ap}
 use mathlib.Core.Bool.{true, false, false≢true, true≢false}
 use Prim.Native.Nat.{ℕ, suc, _+_, _-_, _*_, _/_, _<_, _≤_}
 use native.Mathlib.Omega.{arith}
 use native.Mathlib.Nat.{div-mul-le-self, lt-div-mul-add, le-div-iff-mul-le, div-lt-iff-lt-mul, mul-le-mul-left}
+use native.Mathlib.Nat.{add-mul-div-right}
 use lib.IntN.{ℤ, pos, negsuc, natAbs, subℕ}
 use Rattle.numbers.specs.Rounding.{halfUp, halfAway, divideUp}
 use Rattle.numbers.specs.Signed.{isNegative}
@@ -35,6 +36,14 @@ module _ (a b : ℕ) (some : 0 < b) where
   pub half-up-under : 2 * a + b < halfUp a b * (2 * b) + 2 * b
   unfolding halfUp
   half-up-under = lt-div-mul-add {b = 2 * b} (omega arith)
+
+  -- whole quotients stand aside
+  pub half-up-whole : (c : ℕ) → halfUp (c * b + a) b ≡ c + halfUp a b
+  unfolding halfUp
+  half-up-whole c =
+      let same : 2 * (c * b + a) + b ≡ 2 * a + b + c * (2 * b) = omega arith in
+      let more = add-mul-div-right (2 * a + b) c {z = 2 * b} (omega (arith, some)) in
+      ap (λ x. x / (2 * b)) same ∙ omega arith
 
   -- division upwards: the least c with a ≤ c * b
   pub divide-up-covers : a ≤ divideUp a b * b

@@ -43,7 +43,7 @@ use Rattle.supply.specs.Price.{answerAt, beyondAt, beyondIn, firstBeyond
 use Rattle.supply.specs.Price.{anyMoved, anyLineMoved, priceChecks, priceOr, referencePrice}
 use Rattle.supply.specs.Listed.{withinOrZero, indexedWord, indexedOrZero, indexedList, indexedReference}
 use Rattle.supply.specs.Listed.{powerOrZero, powerWords}
-use Rattle.supply.specs.Required.{TermFacts, LineFacts}
+use Rattle.supply.specs.Required.{TermFacts, LineFacts, mostPesoPower}
 use Rattle.supply.specs.declared.line.Term.{Term}
 use Rattle.supply.specs.declared.line.Line.{Line}
 use Rattle.supply.specs.declared.market.FixingNumbers.{FixingNumbers}
@@ -154,15 +154,18 @@ bought-none line facts =
 -- the power purchase price of a line as a word
 module _ (mean : Term → ℕ) (line : Line) where
   -- where the ratio and the prices are in their bounds, it is that price, at least 1
-  pub power-allowed : powerAllowed mean line ≡ true →
-      (powerOrZero mean line ≡ powerPurchase mean line) × (1 ≤ powerPurchase mean line)
-  unfolding powerOrZero powerAllowed
-  power-allowed h = (
-    rw h,
-    between-low 1 mostPowerPrice _
-        (and-right (indexedWithin mostPowerPrice (line .«power_base_price») (termRatio mean (termOf line powerTerm)))
-        (between 1 mostPowerPrice (powerPurchase mean line)) h),
-  )
+  power-bounds : powerAllowed mean line ≡ true →
+      (1 ≤ powerPurchase mean line) × (powerPurchase mean line ≤ mostPowerPrice)
+  unfolding powerAllowed
+  power-bounds h =
+      let b =
+      and-right (indexedWithin mostPowerPrice (line .«power_base_price») (termRatio mean (termOf line powerTerm)))
+      (between 1 mostPowerPrice (powerPurchase mean line)) h in
+      (between-low 1 mostPowerPrice _ b, between-high 1 mostPowerPrice _ b)
+
+  power-allowed : powerAllowed mean line ≡ true → powerOrZero mean line ≡ powerPurchase mean line
+  unfolding powerOrZero
+  power-allowed h = rw h
 
   -- so it tells whether they are
   pub power-tells : eqb (powerOrZero mean line) 0 ≡ not (powerAllowed mean line)
@@ -170,7 +173,7 @@ module _ (mean : Term → ℕ) (line : Line) where
   power-tells = go (powerAllowed mean line) refl
     where
       go : (b : Bool) → powerAllowed mean line ≡ b → eqb (cond b (powerPurchase mean line) 0) 0 ≡ not b
-      go true e = ne-eqb (powerPurchase mean line) 0 (λ z. omega (arith, power-allowed e .1))
+      go true e = ne-eqb (powerPurchase mean line) 0 (λ z. omega (arith, power-bounds e .0))
       go false e = refl
 
   -- it is worked from the indexed price's word
@@ -194,14 +197,11 @@ module _ (mean : Term → ℕ) (line : Line) where
       go false e = rw (bought-none line facts)
 
   pub power-most : powerOrZero mean line ≤ mostPowerPrice
-  unfolding powerOrZero powerAllowed
+  unfolding powerOrZero
   power-most = go (powerAllowed mean line) refl
     where
       go : (b : Bool) → powerAllowed mean line ≡ b → cond b (powerPurchase mean line) 0 ≤ mostPowerPrice
-      go true e =
-          between-high 1 mostPowerPrice _
-          (and-right (indexedWithin mostPowerPrice (line .«power_base_price») (termRatio mean (termOf line powerTerm)))
-          (between 1 mostPowerPrice (powerPurchase mean line)) e)
+      go true e = power-bounds e .1
       go false e = omega arith
 
 -- the words of a line stand at their places
@@ -332,7 +332,14 @@ module _ (mean : Term → ℕ) (numbers : FixingNumbers) (lines inForce : List �
     word-indexed = rw (searched .0)
 
     word-power : powerOrZero mean (lineOf lines j) ≡ powerPurchase mean (lineOf lines j)
-    word-power = power-allowed mean (lineOf lines j) (searched .2) .0
+    word-power = power-allowed mean (lineOf lines j) (searched .2)
+
+    -- and its power price is at most so much at every dollar
+    pub power-within : numbers .dollar ≤ 200000 → powerPrice mean numbers lines j .0 ≤ mostPesoPower
+    unfolding powerPrice linePower powerPesoOf
+    power-within most =
+        half-up-le (powerPurchase mean (lineOf lines j) * numbers .dollar) 100 (omega arith) mostPesoPower
+        (mul-le-mul {n₂ = mostPowerPrice} (power-bounds mean (lineOf lines j) (searched .2) .1) most)
 
   -- and the words tell whether any line moved
   pub words-moved : firstBeyond mean numbers lines inForce ≡ none → lineCount lines ≤ mostLines →

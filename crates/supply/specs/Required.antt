@@ -38,6 +38,10 @@ pub record CheckedLines (lines : List ℕ) : Type 0 where
   pub few : lineCount lines ≤ mostLines
   pub facts : (j : ℕ) → j < lineCount lines → LineFacts (lineOf lines j)
 
+-- what a power price in pesos is at most: 100,000,000 at a dollar of 200,000 hundredths of $
+abbrev pub mostPesoPower : ℕ
+mostPesoPower = 200000000000
+
 pub record NumbersFacts (numbers : FixingNumbers) : Type 0 where
   pub dollarMost : numbers .dollar ≤ 200000
   pub factorMost : numbers .«reference_factor» ≤ 20000

@@ -12,7 +12,8 @@ use Rattle.fixing.specs.Input.{FixingInput, inputOf, ranged, supplied, i
 use Rattle.fixing.proofs.AverageLaws.{energies-tell}
 use Rattle.fixing.proofs.VerdictLaws.{no-line, ranged-own, checked-own, checked-numbers, checked-in-force}
 use Rattle.fixing.proofs.VerdictLaws.{checked-table}
-use Rattle.fixing.proofs.VerdictLaws.{worked-refused, priced-refused, priced-accepted, priced-worked}
+use Rattle.fixing.proofs.VerdictLaws.{worked-refused, priced-refused, priced-accepted, priced-powered}
+use Rattle.fixing.proofs.VerdictLaws.{priced-worked}
 use borrow.Author.Needs.{needs}
 use Rattle.fixing.proofs.fix.fix_input.Statement.{statement}
 use Rattle.fixing.proofs.fix.fix_input.Tie as tie
@@ -133,18 +134,21 @@ returns-5 c =
 
 accepted-requires : tie.Need-accepted-requires
 accepted-requires c κs =
-    let t = c .before in
-    let p = t .before .before in
+    let p = c .before .before in
     let e = p .before .before in
     let s = begun (e .before .before .before) in
-    let ok = passed-nine e in (
-      priced-accepted _ (input s) ok _ (p .before .fill .ensures) _ (p .price-lines .ensures) (t .enum-told .given .1),
-      (e .before .before .energies .ensures, (ok .lengths .factors, ok .sectored)),
+    let ok = passed-nine e in
+    let given = c .enum-told .given .1 in (
+      priced-accepted _ (input s) ok _ (p .before .fill .ensures) _ (p .price-lines .ensures) given,
+      (
+        priced-powered _ (input s) ok _ (p .before .fill .ensures) _ (p .price-lines .ensures) given,
+        (e .before .before .energies .ensures, (ok .lengths .factors, ok .sectored)),
+      ),
     )
 
 returns-6 : tie.Need-returns-6
 returns-6 c =
-    let t = c .before .before in
+    let t = c .before in
     let p = t .before .before in
     let e = p .before .before in
     let s = begun (e .before .before .before) in
