@@ -12,7 +12,7 @@ use Rattle.numbers.specs.Sizes.{mostDistributors, sectorCount}
 use Rattle.numbers.specs.declared.refusal.Refusal.the-variants.{Unsound, WrongLength, OutOfTurn, NoFixing, WrongReading}
 use Rattle.numbers.specs.declared.refusal.Refusal.the-variants.{PositionBeyond}
 use Rattle.numbers.specs.declared.refusal.Verdict.the-variants.{Passed}
-use Rattle.numbers.proofs.BoolLaws.{and-left, and-right, and-three}
+use Rattle.numbers.proofs.BoolLaws.{and-left, and-right, and-five}
 use Rattle.numbers.proofs.CheckLaws.{FirstPass, passed-test, verdict-from, all-passed, is-passed}
 use Rattle.numbers.proofs.UnitLaws.{between-high}
 use Rattle.series.specs.Series.{wordCount}
@@ -60,17 +60,17 @@ pub length-parts : (n : ℕ) (call : FixingCall) → callLengths n call ≡ true
     × (linesWhole (call .input .lines) ≡ true)
     × (eqb (length (call .input .sectors)) (n * sectorCount) ≡ true)
     × (eqb (length (call .prices)) (n * 3) ≡ true)
+    × (eqb (length (call .power)) n ≡ true)
 unfolding fixingLengths
 length-parts n call h =
     let series = eqb (length (call .input .series)) wordCount in
     let lines = linesWhole (call .input .lines) in
     let sectors = eqb (length (call .input .sectors)) (n * sectorCount) in
     let prices = eqb (length (call .prices)) (n * 3) in
-    let four =
-    and-left (series && lines && sectors && prices)
-    (inForceLength (call .isInterim) (call .input .lines) (call .input .inForce)) h in
-    let three = and-three series lines sectors (and-left (series && lines && sectors) prices four) in
-    (three .0, three .1, three .2, and-right (series && lines && sectors) prices four)
+    let power = eqb (length (call .power)) n in
+    and-five series lines sectors prices power
+    (and-left (series && lines && sectors && prices && power)
+    (inForceLength (call .isInterim) (call .input .lines) (call .input .inForce)) h)
 
 -- the lengths as facts
 pub right-lengths : (n : ℕ) (call : FixingCall) → 1 ≤ n → n ≤ mostDistributors → callLengths n call ≡ true →

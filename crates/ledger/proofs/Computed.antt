@@ -3,8 +3,8 @@
 use Prim.Native.Nat.{ℕ}
 use Rattle.fixing.proofs.Computed.{fixingComputed}
 use Rattle.settlement.proofs.Computed.{settlementComputed}
-use Rattle.ledger.specs.Example.{plainLine, plainNumbers, plainCall, printCall, printLedger, firstBilling}
-use Rattle.ledger.specs.Example.{secondBilling, firstLedger}
+use Rattle.ledger.specs.Example.{plainLine, plainSeries, plainNumbers, plainCall, printCall, printLedger}
+use Rattle.ledger.specs.Example.{firstBilling, secondBilling, firstLedger}
 use Rattle.ledger.specs.Fix.{linesWhole, fixingLengths, inForceLength, fixingChecks, fixingVerdict}
 use Rattle.ledger.specs.Fix.{acceptedAnswer, fixingAnswer, fixingLedger, priceWord, priceList, fixingList}
 use Rattle.ledger.specs.Ledger.{noBalances, emptyLedger, anySettled, nextMonth, billedUnder, fixedLedger}
@@ -16,7 +16,7 @@ use Rattle.ledger.specs.Sound.{mostBalanceOf, balanceTest, balanceSound,
 use Rattle.ledger.specs.Turn.{fixingTurn, settlementTurn}
 
 unfoldable pub ledgerComputed : ℕ
-unfolding fixingComputed settlementComputed plainLine plainNumbers plainCall printCall printLedger firstBilling
+unfolding fixingComputed settlementComputed plainLine plainSeries plainNumbers plainCall printCall printLedger firstBilling
     secondBilling firstLedger linesWhole fixingLengths inForceLength fixingChecks fixingVerdict acceptedAnswer
     fixingAnswer fixingLedger priceWord priceList fixingList noBalances emptyLedger anySettled nextMonth billedUnder
     fixedLedger settledLedger openingChecks openingVerdict openingLedger settlementLengths positionsOf

@@ -25,16 +25,19 @@ use Rattle.ledger.specs.Sound.{sound}
 use Rattle.ledger.specs.Turn.{fixingTurn}
 use Rattle.ledger.specs.Fix.{FixingCall, callLengths, fixingChecks, fixingVerdict, acceptedAnswer, answerBy}
 use Rattle.ledger.specs.Fix.{fixingAnswer, fixingAnswered, roundsBelow, fixingLedger, priceList, fixingList}
-use Rattle.ledger.specs.Fix.{FixingPromise}
+use Rattle.ledger.specs.Fix.{averagePowerList, fixingPowerList, FixingPromise}
 use Rattle.ledger.specs.declared.ledger.Ledger.{Ledger}
 use Rattle.ledger.specs.declared.fix.FixingAnswer.the-variants as answer
 use Rattle.ledger.specs.declared.fix.FixingOutcome.{FixingOutcome}
 use Rattle.ledger.proofs.CallLaws.{fixing-passed, length-parts}
 
 module _ (ledger : Ledger) (call : FixingCall) where
-  -- the price list's length by cause 3
+  -- the lent lists' lengths by cause 3
   pub prices-length : callLengths (ledger .n) call ≡ true → length (call .prices) ≡ ledger .n * 3
   prices-length h = eqb-true _ _ (length-parts (ledger .n) call h .3)
+
+  pub power-length : callLengths (ledger .n) call ≡ true → length (call .power) ≡ ledger .n
+  power-length h = eqb-true _ _ (length-parts (ledger .n) call h .4)
 
   -- every answer has the number and values of the checks
   pub fixing-told : AllTold (fixingChecks ledger call)
@@ -71,11 +74,11 @@ module _ (ledger : Ledger) (call : FixingCall) where
   unfolding fixingVerdict
   numbered-by = answer-told ∙ verdict-told (fixingChecks ledger call) _ fixing-told
 
-  -- what is promised of a refusal: ledger and list as they were
+  -- what is promised of a refusal: ledger and lists as they were
   pub fixed-refused : (refusal : Refusal) → verdictOf (fixingChecks ledger call) ≡ Refused refusal →
       (r : FixingOutcome) → r ≡ record { answer = answer.Refused refusal; ledger = ledger } →
-      FixingPromise ledger call (r .answer) (r .ledger) (call .prices)
-  unfolding fixingLedger fixingList fixingAnswer fixingVerdict
+      FixingPromise ledger call (r .answer) (r .ledger) (call .prices) (call .power)
+  unfolding fixingLedger fixingList fixingPowerList fixingAnswer fixingVerdict
   fixed-refused refusal v r e =
       let given : r .answer ≡ answer.Refused refusal = ap (λ (o : FixingOutcome). o .answer) e in
       let told : r .answer ≡ fixingAnswer ledger call = given ∙ rw v in
@@ -85,6 +88,7 @@ module _ (ledger : Ledger) (call : FixingCall) where
         few = ap (roundsBelow (ledger .n)) given;
         booked = ap (λ (o : FixingOutcome). o .ledger) e ∙ rw v;
         listed = rw v;
+        powered = rw v;
       }
 
   module _ (first : FirstPass 3 (fixingChecks ledger call)) (fixing : Fixing)
@@ -101,14 +105,15 @@ module _ (ledger : Ledger) (call : FixingCall) where
 
     -- what is promised of an accepted fixing
     pub fixed-accepted : RightLengths (ledger .n) (call .input) → fixing .verdict ≡ Passed →
-        (r : FixingOutcome) (list : List ℤ) → r ≡ record {
+        (r : FixingOutcome) (list : List ℤ) (power : List ℕ) → r ≡ record {
           answer = acceptedAnswer (fixing .prices);
           ledger = fixedLedger ledger (call .input .numbers .month) (fixing .sectors);
         } →
-        list ≡ priceList (ledger .n) fixing → FixingPromise ledger call (r .answer) (r .ledger) list
-    unfolding fixingLedger fixingList fixingAnswer fixingVerdict acceptedAnswer acceptedFixing fixedPrices
+        list ≡ priceList (ledger .n) fixing → power ≡ averagePowerList (ledger .n) fixing →
+        FixingPromise ledger call (r .answer) (r .ledger) list power
+    unfolding fixingLedger fixingList fixingPowerList fixingAnswer fixingVerdict acceptedAnswer acceptedFixing fixedPrices
         returnedValues inputDistributors
-    fixed-accepted right h r list o l =
+    fixed-accepted right h r list power o l w =
         let p : r .answer ≡ acceptedAnswer (fixing .prices) = ap (λ (x : FixingOutcome). x .answer) o in
         let v = verdict-left ∙ h in
         let passed = input-passes h in
@@ -127,4 +132,5 @@ module _ (ledger : Ledger) (call : FixingCall) where
               ap (λ (x : FixingOutcome). x .ledger) o
               ∙ ap (λ (f : Fixing). fixedLedger ledger (call .input .numbers .month) (f .sectors)) e ∙ rw v;
           listed = l ∙ ap (priceList (ledger .n)) e ∙ rw v;
+          powered = w ∙ ap (averagePowerList (ledger .n)) e ∙ rw v;
         }

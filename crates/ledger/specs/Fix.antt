@@ -1,5 +1,5 @@
 -- The open calls of fixing, regular and interim (W-201 of document 02): their checks in their order, answer, the ledger
--- handed back and the list written. Assumes nothing.
+-- handed back, and the two lists written, of prices and of power prices (W-204). Assumes nothing.
 use mathlib.Core.Path.{_≡_}
 use mathlib.Core.Bool.{Bool, true, cond, _&&_}
 use mathlib.Core.List.{List, [], _∷_}
@@ -13,7 +13,7 @@ use Rattle.numbers.specs.Checks.{Check, check, verdictOf, answeredBy}
 use Rattle.numbers.specs.declared.refusal.Refusal.the-variants.{Unsound, WrongLength, OutOfTurn}
 use Rattle.numbers.specs.declared.refusal.Verdict.{Verdict}
 use Rattle.numbers.specs.declared.refusal.Verdict.the-variants.{Passed, Refused}
-use Rattle.numbers.specs.Units.{between, noPrice}
+use Rattle.numbers.specs.Units.{between, noPrice, noPower}
 use Rattle.numbers.specs.Sizes.{sectorCount}
 use Rattle.numbers.specs.declared.units.PesoPrice.{PesoPrice}
 use Rattle.series.specs.Series.{wordCount}
@@ -31,28 +31,36 @@ use Rattle.ledger.specs.declared.ledger.Ledger.{Ledger}
 use Rattle.ledger.specs.declared.fix.FixingAnswer.{FixingAnswer}
 use Rattle.ledger.specs.declared.fix.FixingAnswer.the-variants as answer
 
--- what a fixing is given beside the ledger: its input, whether it is an interim one, and the lent list for the prices,
--- as found
+-- what a fixing is given beside the ledger: its input, whether it is an interim one, and the lent lists for the prices
+-- and for the power prices, as found
 pub record FixingCall : Type 0 where
   pub input : FixingInput
   pub isInterim : Bool
   pub prices : List ℤ
+  pub power : List ℕ
 
 -- a call from its parts
-abbrev pub fixingCallOf : Bool → FixingNumbers → List ℕ → List ℕ → List ℕ → List ℕ → List ℤ → FixingCall
-fixingCallOf isInterim numbers series lines sectors inForce prices =
-    record { input = inputOf numbers series lines sectors inForce; isInterim = isInterim; prices = prices }
+abbrev pub fixingCallOf : Bool → FixingNumbers → List ℕ → List ℕ → List ℕ → List ℕ → List ℤ → List ℕ → FixingCall
+fixingCallOf isInterim numbers series lines sectors inForce prices power =
+    record {
+      input = inputOf numbers series lines sectors inForce;
+      isInterim = isInterim;
+      prices = prices;
+      power = power;
+    }
 
 -- "a lent list of wrong length or line count": whole lines, 1 to 256 of them
 unfoldable pub linesWhole : List ℕ → Bool
 linesWhole lines = eqb (length lines % lineWords) 0 && between 1 mostLines (lineCount lines)
 
-unfoldable pub fixingLengths : ℕ → List ℕ → List ℕ → List ℕ → List ℤ → Bool
-fixingLengths n series lines sectors prices =
+-- "A further lent list of n words takes each distributor's average"
+unfoldable pub fixingLengths : ℕ → List ℕ → List ℕ → List ℕ → List ℤ → List ℕ → Bool
+fixingLengths n series lines sectors prices power =
     eqb (length series) wordCount
     && linesWhole lines
     && eqb (length sectors) (n * sectorCount)
     && eqb (length prices) (n * 3)
+    && eqb (length power) n
 
 -- a price in force for each line, "a list of another length 3"; a regular fixing has none
 unfoldable pub inForceLength : Bool → List ℕ → List ℕ → Bool
@@ -61,7 +69,7 @@ inForceLength isInterim lines inForce = eqb (length inForce) (cond isInterim (li
 -- of a call
 abbrev pub callLengths : ℕ → FixingCall → Bool
 callLengths n call =
-    fixingLengths n (call .input .series) (call .input .lines) (call .input .sectors) (call .prices)
+    fixingLengths n (call .input .series) (call .input .lines) (call .input .sectors) (call .prices) (call .power)
     && inForceLength (call .isInterim) (call .input .lines) (call .input .inForce)
 
 -- the checks of a fixing in their order: unsound ledger, a lent list of wrong length or line count, month above 1,199
@@ -125,13 +133,24 @@ fixingList ledger call =
     (priceList (ledger .n) (fixingOf (ledger .n) (call .input)))
     (call .prices)
 
+-- the average power price of each distributor
+unfoldable pub averagePowerList : ℕ → Fixing → List ℕ
+averagePowerList n fixing = listBelow n (λ i. getD (fixing .power) i noPower .0)
+
+unfoldable pub fixingPowerList : Ledger → FixingCall → List ℕ
+fixingPowerList ledger call =
+    cond (isPassed (fixingVerdict ledger call))
+    (averagePowerList (ledger .n) (fixingOf (ledger .n) (call .input)))
+    (call .power)
+
 -- what the open calls promise, for every ledger and every call: answer, its number and values, rounds below n, ledger
--- and written list
-pub record FixingPromise (ledger : Ledger) (call : FixingCall) (given : FixingAnswer) (next : Ledger) (list : List ℤ) :
-    Type 0 where
+-- and both written lists
+pub record FixingPromise (ledger : Ledger) (call : FixingCall) (given : FixingAnswer) (next : Ledger) (list : List ℤ)
+    (power : List ℕ) : Type 0 where
   pub answered : given ≡ fixingAnswer ledger call
   pub numbered : fixingAnswered given
       ≡ answeredBy (fixingChecks ledger call) (returnedValues (inputDistributors (ledger .n) (call .input)))
   pub few : roundsBelow (ledger .n) given ≡ true
   pub booked : next ≡ fixingLedger ledger call
   pub listed : list ≡ fixingList ledger call
+  pub powered : power ≡ fixingPowerList ledger call

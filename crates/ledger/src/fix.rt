@@ -1,18 +1,19 @@
 // The open calls of fixing, regular and interim: no requires. Both make the same fixing, an interim one with a price in
-// force for each line. Causes 2, 3 and 4 are the ledger's, the others the fixing's; the prices are written only when
-// all of them are passed.
+// force for each line. Causes 2, 3 and 4 are the ledger's, the others the fixing's; the prices and the power prices are
+// written only when all of them are passed.
 ghost use mathlib.Core.Path.{_≡_};
 ghost use mathlib.Core.Bool.{true, false};
 ghost use mathlib.Core.List.{[]};
 ghost use Prim.Native.Nat.{_*_, _≤_, _<_, _^_};
-ghost use lib.ListN.{length};
+ghost use lib.ListN.{length, getD};
 ghost use Rattle.numbers.specs.Bounded.{listBelow};
+ghost use Rattle.numbers.specs.Units.{noPower};
 ghost use Rattle.ledger.specs.Ledger.{fixedLedger};
 ghost use Rattle.ledger.specs.Turn.{fixingTurn};
 ghost use Rattle.ledger.specs.declared.fix.FixingAnswer.the-variants.{Refused};
 ghost use Rattle.numbers.specs.Sizes.{mostDistributors};
 ghost use Rattle.ledger.specs.Fix.{fixingCallOf, linesWhole, fixingLengths, inForceLength};
-ghost use Rattle.ledger.specs.Fix.{pricePart, priceWord, priceList};
+ghost use Rattle.ledger.specs.Fix.{pricePart, priceWord, priceList, averagePowerList};
 ghost use Rattle.ledger.specs.Fix.{fixingAnswered, acceptedAnswer, FixingPromise};
 ghost use Rattle.ledger.specs.Required.{PricesSmall};
 use crate::ledger::Ledger;
@@ -28,6 +29,7 @@ use numbers::signed::difference;
 use numbers::sizes::MOST_DISTRIBUTORS;
 use numbers::sizes::SECTORS;
 use numbers::units::PesoPrice;
+use numbers::units::PowerPrice;
 use numbers::units::UnsignedPesos;
 use numbers::units::is_between;
 use series::table::LAST_MONTH;
@@ -79,15 +81,23 @@ fn lines_whole(lines: &[u64]) -> bool
 }
 
 // Whether every lent list has its length.
-fn lengths_right(n: usize, series: &[u64], lines: &[u64], sectors: &[u64], prices: &[i64]) -> bool
+fn lengths_right(
+    n: usize,
+    series: &[u64],
+    lines: &[u64],
+    sectors: &[u64],
+    prices: &[i64],
+    power: &[u64],
+) -> bool
     requires { ⌜ n ≤ mostDistributors ⌝ }
     ensures { λ r. ⌜ r ≡ fixingLengths n (now (series .entry)) (now (lines .entry)) (now (sectors .entry))
-        (now (prices .entry)) ⌝ }
+        (now (prices .entry)) (now (power .entry)) ⌝ }
 {
     (series.len() == WORDS)
         & lines_whole(lines)
         & (sectors.len() == n * SECTORS)
         & (prices.len() == n * 3)
+        & (power.len() == n)
 }
 
 // Whether as many prices in force are lent as the fixing takes: one for each line, or none.
@@ -141,6 +151,19 @@ fn write_prices(
     }
 }
 
+// The average power price of each distributor, in another.
+fn write_power(averages: [PowerPrice; MOST_DISTRIBUTORS], power: &mut [u64])
+    requires { ⌜ length (now power) ≤ mostDistributors ⌝ }
+    ensures { λ r. ⌜ now (power .exit) ≡ listBelow (length (now (power .entry)))
+        (λ i. getD averages i noPower .0) ⌝ }
+{
+    let mut i: usize = 0;
+    while i < power.len() {
+        power[i] = averages[i].0;
+        i += 1;
+    }
+}
+
 // What an accepted fixing answers.
 fn accepted(fixed: FixedPrices) -> FixingAnswer
     ensures { λ r. ⌜ r ≡ acceptedAnswer fixed ⌝ }
@@ -168,14 +191,21 @@ fn refused(refusal: Refusal, ledger: Ledger) -> FixingOutcome
 }
 
 // A fixing that passed every check is written, and it is in force in the ledger.
-fn accept(ledger: Ledger, month: u64, fixing: Fixing, prices: &mut [i64]) -> FixingOutcome
+fn accept(
+    ledger: Ledger,
+    month: u64,
+    fixing: Fixing,
+    prices: &mut [i64],
+    power: &mut [u64],
+) -> FixingOutcome
     requires { ⌜ ledger .n ≤ mostDistributors ⌝ ∗ ⌜ length (now prices) ≡ ledger .n * 3 ⌝
-        ∗ ⌜ PricesSmall (fixing .averages) (fixing .prices .finals) ⌝ }
+        ∗ ⌜ length (now power) ≡ ledger .n ⌝ ∗ ⌜ PricesSmall (fixing .averages) (fixing .prices .finals) ⌝ }
     ensures { λ r. ⌜ r ≡ record {
       answer = acceptedAnswer (fixing .prices);
       ledger = fixedLedger ledger month (fixing .sectors);
     } ⌝
-        ∗ ⌜ now (prices .exit) ≡ priceList (ledger .n) fixing ⌝ }
+        ∗ ⌜ now (prices .exit) ≡ priceList (ledger .n) fixing ⌝
+        ∗ ⌜ now (power .exit) ≡ averagePowerList (ledger .n) fixing ⌝ }
 {
     let n = ledger.n;
     let fixed = fixing.prices;
@@ -183,7 +213,9 @@ fn accept(ledger: Ledger, month: u64, fixing: Fixing, prices: &mut [i64]) -> Fix
     let finals = fixed.finals;
     let charges = fixing.charges;
     let force = fixing.sectors;
+    let power_averages = fixing.power;
     write_prices(n, averages, finals, charges, prices);
+    write_power(power_averages, power);
     let answer = accepted(fixed);
     let ledger = ledger.book_fixing(month, force);
     FixingOutcome { answer, ledger }
@@ -198,18 +230,19 @@ fn make_fixing(
     sectors: &[u64],
     in_force: &[u64],
     prices: &mut [i64],
+    power: &mut [u64],
 ) -> FixingOutcome
     ensures { λ r. ⌜ FixingPromise ledger
         (fixingCallOf (request .«is_interim») (request .numbers) (now (series .entry)) (now (lines .entry))
-        (now (sectors .entry)) (now (in_force .entry)) (now (prices .entry)))
-        (r .answer) (r .ledger) (now (prices .exit)) ⌝ }
+        (now (sectors .entry)) (now (in_force .entry)) (now (prices .entry)) (now (power .entry)))
+        (r .answer) (r .ledger) (now (prices .exit)) (now (power .exit)) ⌝ }
 {
     if !is_sound(ledger) {
         return refused(Refusal::Unsound, ledger);
     }
     let n = ledger.n;
     let lent = in_force_right(request.is_interim, lines, in_force);
-    if !(lengths_right(n, series, lines, sectors, prices) & lent) {
+    if !(lengths_right(n, series, lines, sectors, prices, power) & lent) {
         return refused(Refusal::WrongLength, ledger);
     }
     let numbers = request.numbers;
@@ -222,12 +255,12 @@ fn make_fixing(
     if let Verdict::Refused(refusal) = verdict {
         return refused(refusal, ledger);
     }
-    accept(ledger, month, fixing, prices)
+    accept(ledger, month, fixing, prices, power)
 }
 
 // A fixing of the ledger's distributors for a month, from the dollar, the reference factor, the index series with its
-// first month, the supply lines and the sector factors. Where it is accepted the price list is written and the fixing
-// is in force in the ledger handed back; where it is refused both are as they were.
+// first month, the supply lines and the sector factors. Where it is accepted the price list and the power list are
+// written and the fixing is in force in the ledger handed back; where it is refused all three are as they were.
 pub fn fix(
     ledger: Ledger,
     numbers: FixingNumbers,
@@ -235,22 +268,32 @@ pub fn fix(
     lines: &[u64],
     sectors: &[u64],
     prices: &mut [i64],
+    power: &mut [u64],
 ) -> FixingOutcome
     ensures { λ r. ⌜ FixingPromise ledger
         (fixingCallOf false numbers (now (series .entry)) (now (lines .entry)) (now (sectors .entry)) []
-        (now (prices .entry)))
-        (r .answer) (r .ledger) (now (prices .exit)) ⌝ }
+        (now (prices .entry)) (now (power .entry)))
+        (r .answer) (r .ledger) (now (prices .exit)) (now (power .exit)) ⌝ }
 {
     let request = Request {
         numbers,
         is_interim: false,
     };
     let none = [0u64; 0];
-    make_fixing(ledger, request, series, lines, sectors, &none, prices)
+    make_fixing(
+        ledger,
+        request,
+        series,
+        lines,
+        sectors,
+        &none,
+        prices,
+        power,
+    )
 }
 
 // An interim fixing: a fixing in which a line takes its new indexed price only if that moved by more than 10% from the
-// one in force, which is lent for each line.
+// one in force, which is lent for each line. Power is worked afresh.
 pub fn interim(
     ledger: Ledger,
     numbers: FixingNumbers,
@@ -259,17 +302,27 @@ pub fn interim(
     sectors: &[u64],
     in_force: &[u64],
     prices: &mut [i64],
+    power: &mut [u64],
 ) -> FixingOutcome
     ensures { λ r. ⌜ FixingPromise ledger
         (fixingCallOf true numbers (now (series .entry)) (now (lines .entry)) (now (sectors .entry))
-        (now (in_force .entry)) (now (prices .entry)))
-        (r .answer) (r .ledger) (now (prices .exit)) ⌝ }
+        (now (in_force .entry)) (now (prices .entry)) (now (power .entry)))
+        (r .answer) (r .ledger) (now (prices .exit)) (now (power .exit)) ⌝ }
 {
     let request = Request {
         numbers,
         is_interim: true,
     };
-    make_fixing(ledger, request, series, lines, sectors, in_force, prices)
+    make_fixing(
+        ledger,
+        request,
+        series,
+        lines,
+        sectors,
+        in_force,
+        prices,
+        power,
+    )
 }
 
 // The number of a fixing's answer: 0 where it is accepted.

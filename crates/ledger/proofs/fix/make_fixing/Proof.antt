@@ -15,14 +15,15 @@ use Rattle.ledger.specs.declared.ledger.Ledger.{Ledger}
 use Rattle.ledger.proofs.SoundLaws.{sound-some, sound-few, sound-last}
 use Rattle.ledger.proofs.PassedLaws.{prices-small}
 use Rattle.ledger.proofs.CallLaws.{right-lengths}
-use Rattle.ledger.proofs.FixLaws.{prices-length, verdict-left, input-passes, fixed-accepted, fixed-refused}
+use Rattle.ledger.proofs.FixLaws.{prices-length, power-length, verdict-left, input-passes, fixed-accepted}
+use Rattle.ledger.proofs.FixLaws.{fixed-refused}
 use Rattle.ledger.proofs.fix.make_fixing.Statement.{statement}
 use Rattle.ledger.proofs.fix.make_fixing.Tie as tie
 
 -- the ledger and the call, and what is known where each check is passed
 module _ (c : tie.Else1) where
   abbrev start : tie.Start
-  start = c .before .before .before .before .before .before
+  start = c .before .before .before .before .before .before .before
 
   abbrev ledger : Ledger
   ledger = start .args .ledger
@@ -31,17 +32,18 @@ module _ (c : tie.Else1) where
   call =
       fixingCallOf (start .args .request .«is_interim») (start .args .request .numbers) (start .args .series .now)
       (start .args .lines .now) (start .args .sectors .now) (start .args .in-force .now) (start .args .prices .now)
+      (start .args .power .now)
 
   whole : sound ledger ≡ true
   whole = told-true (c .before .is-sound .ensures) (c .if1 .left)
 
 module _ (c : tie.After-lengths-right) where
   abbrev two : tie.Else1
-  two = c .before .before .before
+  two = c .before .before .before .before
 
-  told : (c .lengths-right .result && c .before .before .in-force-right .result) ≡ callLengths (ledger two .n)
+  told : (c .lengths-right .result && c .before .before .before .in-force-right .result) ≡ callLengths (ledger two .n)
       (call two)
-  told = ap₂ _&&_ (c .lengths-right .ensures) (c .before .before .in-force-right .ensures)
+  told = ap₂ _&&_ (c .lengths-right .ensures) (c .before .before .before .in-force-right .ensures)
 
 lengths : (c : tie.Else2) → callLengths (ledger (two (c .before)) .n) (call (two (c .before))) ≡ true
 lengths c = told-true (told (c .before)) (c .if2 .left)
@@ -121,7 +123,7 @@ module _ (c : tie.After-enum-told) where
 
 accept-requires : tie.Need-accept-requires
 accept-requires c κs =
-    let t = c .before in
+    let t = c .before .before in
     let g = worked t in
     let e = g .before in
     let b = ledger (from e) in
@@ -129,19 +131,22 @@ accept-requires c κs =
       sound-few _ (whole (from e)),
       (
         prices-length b l (lengths (three e)),
-        prices-small _ _ (right e) (input-passes b l (first e) _ (g .fix-input .ensures .worked) (passed t)) _
-            (g .fix-input .ensures .worked),
+        (
+          power-length b l (lengths (three e)),
+          prices-small _ _ (right e) (input-passes b l (first e) _ (g .fix-input .ensures .worked) (passed t)) _
+              (g .fix-input .ensures .worked),
+        ),
       ),
     )
 
 returns-5 : tie.Need-returns-5
 returns-5 c =
-    let a = c .before in
-    let t = a .before .before in
+    let a = c .before .before .before in
+    let t = a .before .before .before in
     let g = worked t in
     let e = g .before in
     fixed-accepted (ledger (from e)) (call (from e)) (first e) _ (g .fix-input .ensures .worked) (right e) (passed t)
-    _ _ (a .accept .ensures .0) (a .accept .ensures .1)
+    _ _ _ (a .accept .ensures .0) (a .accept .ensures .1 .0) (a .accept .ensures .1 .1)
 
 pub make-fixing-spec : {M : Type 1} → statement M
 make-fixing-spec =
@@ -149,16 +154,16 @@ make-fixing-spec =
     (tie.spec
     (λ c κs. search needs) (λ c κs. search needs)
     returns
-    (λ c κs. search needs) (λ c κs. sound-few _ (whole (c .before .before)))
-    (λ c κs. search needs) (λ c. search needs)
+    (λ c κs. search needs) (λ c κs. sound-few _ (whole (c .before .before .before)))
+    (λ c κs. search needs) (λ c. search needs) (λ c. search needs)
     returns-2
     (λ c κs. search needs) (λ c κs. sound-last _ (whole (two (c .before .before .before)))) (λ c κs. search needs)
-    (λ c κs. search needs) (λ c. search needs)
+    (λ c κs. search needs) (λ c. search needs) (λ c. search needs)
     returns-3
     (λ c κs. right c)
-    (λ c. search needs) (λ c κs. search needs) (λ c. search needs)
+    (λ c. search needs) (λ c κs. search needs) (λ c. search needs) (λ c. search needs)
     returns-4
     (λ c. search needs)
     accept-requires
-    (λ c. search needs)
+    (λ c. search needs) (λ c. search needs)
     returns-5)
