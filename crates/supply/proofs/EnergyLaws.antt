@@ -1,6 +1,6 @@
 -- Lines that agree in all but their power words have the same distributors, energies and references: nothing of energy
 -- is worked from a word of power. Assumes nothing.
-use mathlib.Core.Path.{_≡_, refl, sym, _∙_, ap}
+use mathlib.Core.Path.{_≡_, sym, _∙_, ap}
 use mathlib.Core.List.{List}
 use mathlib.Core.Option.{Option}
 use Prim.Native.Nat.{ℕ, _+_, _*_, _/_}
@@ -17,11 +17,11 @@ use Rattle.supply.specs.Price.{referenceList}
 use Rattle.supply.specs.declared.line.Term.{Term}
 use Rattle.supply.specs.declared.market.FixingNumbers.{FixingNumbers}
 
--- the words of line j before those of power, as a line of their own: with no word of power
+-- the words of line j before those of power, as a line of their own
 abbrev energyWords : List ℕ → ℕ → List ℕ
 energyWords words j = listBelow powerStart (λ k. wordAt words (j * lineWords + k))
 
--- they alone tell the reference
+-- they alone tell the reference: the two sides compute to one, but for how the sums of places are bracketed
 energy-answer : (mean : Term → ℕ) (numbers : FixingNumbers) (words : List ℕ) (j : ℕ) (old : Option ℕ) →
     priceAnswer mean numbers (lineOf words j) old ≡ priceAnswer mean numbers (lineOf (energyWords words j) 0) old
 unfolding priceAnswer indexedAllowed lineIndexed indexFactor referenceAnswer lineReference linePurchase lineOf termFrom
