@@ -1,5 +1,6 @@
 -- What a fixing is given beside the ledger, and the checks that it makes of it, causes 6 to 11 of document 01 and 14 of
 -- document 02, each over the whole input. Their order is the list `inputChecks`. Assumes nothing.
+use mathlib.Core.Path.{_≡_}
 use mathlib.Core.Bool.{Bool}
 use mathlib.Core.List.{List, _∷_}
 use mathlib.Core.Option.{Option}
@@ -11,6 +12,7 @@ use Rattle.numbers.specs.declared.units.PesoPrice.{PesoPrice}
 use Rattle.numbers.specs.declared.units.PowerPrice.{PowerPrice}
 use Rattle.numbers.specs.declared.units.Energy.{Energy}
 use Rattle.series.specs.Series.{seriesTable, valuesInRange}
+use Rattle.supply.specs.Line.{SameEnergyWords}
 use Rattle.supply.specs.Range.{inputInRange}
 use Rattle.supply.specs.Months.{Place, lacksMonth, firstMissing}
 use Rattle.supply.specs.Price.{termMean, firstBeyond, anyLineMoved, tableChecks, referenceList, powerList}
@@ -35,6 +37,14 @@ pub record FixingInput : Type 0 where
 abbrev pub inputOf : FixingNumbers → List ℕ → List ℕ → List ℕ → List ℕ → FixingInput
 inputOf numbers series lines sectors inForce =
     record { numbers = numbers; series = series; lines = lines; sectors = sectors; inForce = inForce }
+
+-- inputs that agree in all but the lines' power words
+pub record SameButPower (one other : FixingInput) : Type 0 where
+  pub numbers : one .numbers ≡ other .numbers
+  pub series : one .series ≡ other .series
+  pub lines : SameEnergyWords (one .lines) (other .lines)
+  pub sectors : one .sectors ≡ other .sectors
+  pub inForce : one .inForce ≡ other .inForce
 
 -- the table that the series fill, and the mean of each term in it
 abbrev pub indexTable : FixingInput → List (List ℕ)

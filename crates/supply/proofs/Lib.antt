@@ -3,4 +3,5 @@ pub mod MonthLaws
 pub mod PriceLaws
 pub mod ListedLaws
 pub mod LinePriceLaws
+pub mod EnergyLaws
 pub mod Computed

@@ -1,8 +1,9 @@
 -- A supply line of document 01 ("Supply lines") with the power words of W-204 of document 02: of its 30 words these are
 -- the places. Assumes nothing.
+use mathlib.Core.Path.{_≡_}
 use mathlib.Core.Bool.{Bool, _||_}
 use mathlib.Core.List.{List, [], _∷_}
-use Prim.Native.Nat.{ℕ, _+_, _*_, _/_}
+use Prim.Native.Nat.{ℕ, _+_, _*_, _/_, _<_}
 use lib.Dec.{ltb, eqb}
 use lib.ListN.{getD, length}
 use Rattle.series.specs.Series.{cpiSeries}
@@ -109,3 +110,8 @@ termOf line k = getD (line .terms) k noTerm
 -- whether a line uses term k: those below its count, and always the power term
 unfoldable pub termUsed : Line → ℕ → Bool
 termUsed line k = ltb k (line .«term_count») || eqb k powerTerm
+
+-- lines that agree in all but their power words: as many words, and in each line the words before those of power
+pub record SameEnergyWords (one other : List ℕ) : Type 0 where
+  pub long : length one ≡ length other
+  pub words : (j k : ℕ) → k < powerStart → wordAt one (j * lineWords + k) ≡ wordAt other (j * lineWords + k)
