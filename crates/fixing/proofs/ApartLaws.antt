@@ -21,8 +21,16 @@ use Rattle.fixing.specs.Prices.{distributors, fixedPrices, chargeList}
 use Rattle.fixing.specs.Sector.{sectorCharges}
 use Rattle.fixing.specs.Input.{FixingInput, SameButPower, inputMean, inputVerdict, inputReferences, inputAverages}
 use Rattle.fixing.specs.Input.{inputEnergies, inputDistributors}
-use Rattle.fixing.specs.Fixing.{acceptedFixing, fixingOf, SameEnergyParts}
+use Rattle.fixing.specs.Fixing.{acceptedFixing, fixingOf}
+use Rattle.fixing.specs.declared.fix.Fixing.{Fixing}
 use Rattle.fixing.proofs.VerdictLaws.{passed-fixing}
+
+-- fixings that agree in all that is worked from energy
+pub record SameEnergyParts (one other : Fixing) : Type 0 where
+  pub averages : one .averages ≡ other .averages
+  pub prices : one .prices ≡ other .prices
+  pub charges : one .charges ≡ other .charges
+  pub sectors : one .sectors ≡ other .sectors
 
 -- sums over the lines of a distributor
 module _ (one other : List ℕ) (same : SameEnergyWords one other) where

@@ -6,7 +6,7 @@ mod PassLaws
 mod LoopLaws
 mod AnswerLaws
 pub mod AverageLaws
-mod PowerLaws
+pub mod PowerLaws
 pub mod SectorLaws
 pub mod InputLaws
 pub mod FixingLaws

@@ -6,14 +6,20 @@ use Prim.Native.Nat.{ℕ, _+_, _*_, _/_, _%_, _≤_, _<_}
 use native.Mathlib.Omega.{arith}
 use native.Mathlib.Nat.{mul-le-mul, div-add-mod}
 use lib.Dec.{eqb}
+use lib.ListN.{getD}
 use Rattle.numbers.specs.Bounded.{sumBelow}
 use Rattle.numbers.specs.Rounding.{halfUp}
+use Rattle.numbers.specs.Sizes.{mostDistributors}
+use Rattle.numbers.specs.Units.{noPower}
 use Rattle.numbers.specs.declared.units.PowerPrice.{PowerPrice}
+use Rattle.numbers.proofs.ListLaws.{filled-at}
 use Rattle.numbers.proofs.SumLaws.{sum-same, sum-add, sum-scale}
 use Rattle.numbers.proofs.RoundingLaws.{half-up-whole}
-use Rattle.supply.specs.Line.{lineCount, lineOf}
-use Rattle.fixing.specs.Average.{ownPart, ownSum, linesAmount, suppliedEnergy}
-use Rattle.fixing.specs.Power.{powerOf, million}
+use Rattle.supply.specs.Line.{mostLines, lineCount, lineOf}
+use Rattle.supply.specs.Price.{powerPrice, powerList}
+use Rattle.fixing.specs.Average.{ownPart, ownSum, linesAmount, suppliedEnergy, averagePrice}
+use Rattle.fixing.specs.Power.{powerOf, powerAverages, million}
+use Rattle.fixing.specs.Input.{FixingInput, inputMean, inputPowerPrices, inputPower, inputPowerAverage}
 use Rattle.fixing.specs.Required.{PoweredLines, PartsWithin}
 use Rattle.fixing.proofs.AverageLaws.{Held, amount-within, energy-most}
 
@@ -96,3 +102,16 @@ parts-within prices lines ok i some =
           (λ j p. let most = ok .powered j p in omega arith) i;
       restMost = amount-within (λ j. restOf (powerOf prices j)) lines million (λ j p. omega arith) i;
     }
+
+-- the averages of an input's power prices are 02's
+pub input-power : (n : ℕ) (input : FixingInput) → n ≤ mostDistributors → lineCount (input .lines) ≤ mostLines →
+    (i : ℕ) → i < n → getD (inputPower n input) i noPower .0 ≡ inputPowerAverage input i
+unfolding inputPower inputPowerPrices powerAverages powerList powerPrice averagePrice linesAmount ownSum ownPart
+input-power n input few count i p =
+    ap (λ x. x .0) (filled-at mostDistributors noPower _ n i p (omega arith))
+    ∙ ap (λ x. halfUp x (suppliedEnergy (input .lines) i))
+    (sum-same (lineCount (input .lines)) _ _
+    (λ j q. ap (λ (x : PowerPrice). cond (eqb (lineOf (input .lines) j .distributor) i)
+    (x .0 * lineOf (input .lines) j .energy) 0)
+    (filled-at mostLines noPower (powerPrice (inputMean input) (input .numbers) (input .lines))
+    (lineCount (input .lines)) j q (omega arith))))

@@ -43,7 +43,7 @@ refusedFixing refusal =
     }
 
 -- averages and energies give the prices, these the charges, and these the charges of the sectors; "Prices, charges and
--- ledger are untouched by any power input that passes", which proofs/ApartLaws shows
+-- ledger are untouched by any power input that passes"
 unfoldable pub acceptedFixing : ℕ → List PesoPrice → List PowerPrice → List Energy → List ℕ → Fixing
 acceptedFixing n averages power energies sectors =
     record {
@@ -71,10 +71,3 @@ fixingOf n input = fixingBy (inputVerdict n input) (workedFixing n input)
 pub record InputPromise (n : ℕ) (input : FixingInput) (fixing : Fixing) : Type 0 where
   pub worked : fixing ≡ fixingOf n input
   pub judged : Judged (fixing .verdict) (inputChecks n input)
-
--- fixings that agree in all that is worked from energy
-pub record SameEnergyParts (one other : Fixing) : Type 0 where
-  pub averages : one .averages ≡ other .averages
-  pub prices : one .prices ≡ other .prices
-  pub charges : one .charges ≡ other .charges
-  pub sectors : one .sectors ≡ other .sectors

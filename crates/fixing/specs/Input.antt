@@ -12,15 +12,15 @@ use Rattle.numbers.specs.declared.units.PesoPrice.{PesoPrice}
 use Rattle.numbers.specs.declared.units.PowerPrice.{PowerPrice}
 use Rattle.numbers.specs.declared.units.Energy.{Energy}
 use Rattle.series.specs.Series.{seriesTable, valuesInRange}
-use Rattle.supply.specs.Line.{SameEnergyWords}
+use Rattle.supply.specs.Line.{lineOf, SameEnergyWords}
 use Rattle.supply.specs.Range.{inputInRange}
 use Rattle.supply.specs.Months.{Place, lacksMonth, firstMissing}
-use Rattle.supply.specs.Price.{termMean, firstBeyond, anyLineMoved, tableChecks, referenceList, powerList}
+use Rattle.supply.specs.Price.{termMean, linePower, firstBeyond, anyLineMoved, tableChecks, referenceList, powerList}
 use Rattle.supply.specs.declared.line.Term.{Term}
 use Rattle.supply.specs.declared.market.FixingNumbers.{FixingNumbers}
 use Rattle.fixing.specs.Limit.{Distributors}
 use Rattle.fixing.specs.Prices.{distributors}
-use Rattle.fixing.specs.Average.{everyoneSupplied, energyList, averageList}
+use Rattle.fixing.specs.Average.{averagePrice, everyoneSupplied, energyList, averageList}
 use Rattle.fixing.specs.Power.{powerAverages}
 use Rattle.fixing.specs.Sector.{sectorsAllowed}
 
@@ -93,6 +93,11 @@ inputPowerPrices input = powerList (inputMean input) (input .numbers) (input .li
 
 unfoldable pub inputPower : ℕ → FixingInput → List PowerPrice
 inputPower n input = powerAverages n (inputPowerPrices input) (input .lines)
+
+-- the average power price of distributor i: "weighted by energy, half up"
+abbrev pub inputPowerAverage : FixingInput → ℕ → ℕ
+inputPowerAverage input =
+    averagePrice (λ j. linePower (inputMean input) (input .numbers) (lineOf (input .lines) j)) (input .lines)
 
 -- averages of n distributors and energies, from an input's lines
 unfoldable pub inputAverages : ℕ → FixingInput → List PesoPrice

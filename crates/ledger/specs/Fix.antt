@@ -154,3 +154,20 @@ pub record FixingPromise (ledger : Ledger) (call : FixingCall) (given : FixingAn
   pub booked : next ≡ fixingLedger ledger call
   pub listed : list ≡ fixingList ledger call
   pub powered : power ≡ fixingPowerList ledger call
+
+-- what a fixing hands back, and that it was accepted
+pub record HandedBack : Type 0 where
+  pub answer : FixingAnswer
+  pub ledger : Ledger
+  pub prices : List ℤ
+  pub power : List ℕ
+
+pub record FixingAccepted (ledger : Ledger) (call : FixingCall) (given : HandedBack) : Type 0 where
+  pub promise : FixingPromise ledger call (given .answer) (given .ledger) (given .prices) (given .power)
+  pub number : fixingAnswered (given .answer) .number ≡ 0
+
+-- all but the power list is the same
+pub record SameButPowerList (one other : HandedBack) : Type 0 where
+  pub answer : one .answer ≡ other .answer
+  pub ledger : one .ledger ≡ other .ledger
+  pub prices : one .prices ≡ other .prices

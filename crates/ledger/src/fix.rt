@@ -15,6 +15,9 @@ ghost use Rattle.numbers.specs.Sizes.{mostDistributors};
 ghost use Rattle.ledger.specs.Fix.{fixingCallOf, linesWhole, fixingLengths, inForceLength};
 ghost use Rattle.ledger.specs.Fix.{pricePart, priceWord, priceList, averagePowerList};
 ghost use Rattle.ledger.specs.Fix.{fixingAnswered, acceptedAnswer, FixingPromise};
+ghost use Rattle.ledger.specs.Fix.{FixingCall, HandedBack, FixingAccepted, SameButPowerList};
+ghost use Rattle.ledger.specs.declared.ledger.Ledger.{Ledger};
+ghost use Rattle.fixing.specs.Input.{SameButPower};
 ghost use Rattle.ledger.specs.Required.{PricesSmall};
 use crate::ledger::Ledger;
 use crate::sound::is_sound;
@@ -324,6 +327,15 @@ pub fn interim(
         power,
     )
 }
+
+// "Prices, charges and ledger are untouched by any power input that passes" (document 02), of whatever `fix` and
+// `interim` hand back where they accept: two calls that agree in all but the lines' power words, and the lent lists as
+// found, have the same answer, ledger and price list. The function does nothing; its ensures is the statement.
+pub fn power_stands_apart()
+    ensures { λ r. ⌜ ((ledger : Ledger) (one other : FixingCall) → SameButPower (one .input) (other .input) →
+        (first second : HandedBack) → FixingAccepted ledger one first → FixingAccepted ledger other second →
+        SameButPowerList first second) ⌝ }
+{}
 
 // The number of a fixing's answer: 0 where it is accepted.
 pub fn fixing_number(answer: FixingAnswer) -> u64

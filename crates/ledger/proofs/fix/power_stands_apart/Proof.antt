@@ -1,0 +1,63 @@
+-- What each call hands back is worked from the parts of its fixing that are worked from energy.
+use mathlib.Core.Path.{_≡_, sym, _∙_, ap, ap₂}
+use mathlib.Core.Bool.{true}
+use lib.Dec.{eqb}
+use borrow.Author.Tests.{eq-eqb}
+use Rattle.numbers.specs.Bounded.{listBelow}
+use Rattle.numbers.specs.Refusal.{Answered, isPassed}
+use Rattle.numbers.specs.declared.refusal.Verdict.the-variants.{Passed}
+use Rattle.numbers.proofs.CheckLaws.{passed-number, is-passed}
+use Rattle.supply.specs.declared.market.FixingNumbers.{FixingNumbers}
+use Rattle.fixing.specs.Fixing.{fixingOf}
+use Rattle.fixing.proofs.ApartLaws.{fixing-same}
+use Rattle.ledger.specs.Ledger.{fixedLedger}
+use Rattle.ledger.specs.Fix.{FixingCall, fixingVerdict, acceptedAnswer, fixingAnswer, fixingAnswered, fixingLedger}
+use Rattle.ledger.specs.Fix.{priceWord, priceList, fixingList, HandedBack, FixingAccepted}
+use Rattle.ledger.specs.declared.ledger.Ledger.{Ledger}
+use Rattle.ledger.proofs.CallLaws.{fixing-passed}
+use Rattle.ledger.proofs.FixLaws.{answer-told}
+use Rattle.ledger.proofs.fix.power_stands_apart.Statement.{statement}
+use Rattle.ledger.proofs.fix.power_stands_apart.Tie as tie
+
+-- an accepted call
+module _ (ledger : Ledger) (call : FixingCall) (given : HandedBack) (h : FixingAccepted ledger call given) where
+  passed : isPassed (fixingVerdict ledger call) ≡ true
+  passed =
+      passed-number _ (fixingVerdict ledger call)
+      ∙ ap (λ (x : Answered). eqb (x .number) 0) (sym (ap fixingAnswered (h .promise .answered) ∙ answer-told ledger call))
+      ∙ eq-eqb _ 0 (h .number)
+
+  verdict : fixingVerdict ledger call ≡ Passed
+  verdict = is-passed (fixingVerdict ledger call) passed
+
+  answered : given .answer ≡ acceptedAnswer (fixingOf (ledger .n) (call .input) .prices)
+  unfolding fixingAnswer
+  answered = rw verdict at (h .promise .answered)
+
+  booked : given .ledger ≡ fixedLedger ledger (call .input .numbers .month) (fixingOf (ledger .n) (call .input) .sectors)
+  unfolding fixingLedger
+  booked = rw verdict at (h .promise .booked)
+
+  listed : given .prices ≡ priceList (ledger .n) (fixingOf (ledger .n) (call .input))
+  unfolding fixingList
+  listed = rw verdict at (h .promise .listed)
+
+returns : tie.Need-returns
+unfolding priceList
+returns c ledger one other same first second p q =
+    let alike =
+    fixing-same (ledger .n) (one .input) (other .input) same
+    (fixing-passed ledger one (passed ledger one first p) .passed)
+    (fixing-passed ledger other (passed ledger other second q) .passed) in
+    record {
+      answer = answered ledger one first p ∙ ap acceptedAnswer (alike .prices) ∙ sym (answered ledger other second q);
+      ledger =
+          booked ledger one first p
+          ∙ ap₂ (λ (numbers : FixingNumbers) sectors. fixedLedger ledger (numbers .month) sectors) (same .numbers)
+          (alike .sectors)
+          ∙ sym (booked ledger other second q);
+      prices = listed ledger one first p ∙ rw (alike .averages, alike .prices, alike .charges) (sym (listed ledger other second q));
+    }
+
+pub power-stands-apart-spec : {M : Type 1} → statement M
+power-stands-apart-spec = tie.close (tie.spec returns)
