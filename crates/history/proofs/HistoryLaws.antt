@@ -19,7 +19,7 @@ use Rattle.fixing.specs.Sector.{noCharges}
 use Rattle.fixing.specs.Input.{inputDistributors}
 use Rattle.ledger.specs.Ledger.{billedUnder, noBalances, emptyLedger, openingChecks, openingVerdict, openingLedger}
 use Rattle.ledger.specs.Sound.{sound}
-use Rattle.ledger.specs.Fix.{FixingCall, fixingList}
+use Rattle.ledger.specs.Fix.{FixingCall, fixingList, fixingPowerList}
 use Rattle.ledger.specs.Settle.{SettlementCall}
 use Rattle.ledger.specs.declared.ledger.Ledger.{Ledger}
 use Rattle.ledger.proofs.SoundFacts.{sound-facts}
@@ -28,9 +28,9 @@ use Rattle.ledger.proofs.KeptLaws.{opened-sound, fixing-keeps, settlement-keeps
 use Rattle.history.specs.Run.{Call, fixing, settlement, opened, step, answer, after, answers}
 use Rattle.history.specs.Plain.{Plain, plainOpened, image, plainAnswer, plainUnder, plainAmount, plainAccepts}
 use Rattle.history.specs.Plain.{plainChange, plainStep, plainAfter, plainAnswers, callCollects, plainCollected}
-use Rattle.history.specs.History.{WrittenPrices, History}
+use Rattle.history.specs.History.{WrittenPrices, WrittenPower, History}
 use Rattle.history.proofs.CallLaws.{fixing-same, fixing-step, settlement-same, settlement-step}
-use Rattle.history.proofs.WrittenLaws.{written}
+use Rattle.history.proofs.WrittenLaws.{written, power-written}
 
 -- one call: the ledger's step is the image of the plain one, and the answer is the same
 pub step-same : (plain : Plain) (call : Call) → sound (image plain) ≡ true →
@@ -171,7 +171,10 @@ history n p q calls =
       signs = sound-facts (after (opened n) calls) (run-sound n p q calls) .signs;
       whole = run-sound n p q calls;
       fixings = λ before rest call e accepted.
-          subst (λ m. WrittenPrices m (inputDistributors m (call .input)) (fixingList (after (opened n) before) call))
-          (run-count n p q before)
-          (written (after (opened n) before) call (run-sound n p q before) accepted);
+          subst (λ m. WrittenPrices m (inputDistributors m (call .input)) (fixingList (after (opened n) before) call)
+          × WrittenPower m (call .input) (fixingPowerList (after (opened n) before) call))
+          (run-count n p q before) (
+            written (after (opened n) before) call (run-sound n p q before) accepted,
+            power-written (after (opened n) before) call (run-sound n p q before) accepted,
+          );
     }

@@ -1,4 +1,5 @@
--- What an accepted fixing wrote: the prices of document 01, with a smallest largest charge. Assumes nothing.
+-- What an accepted fixing wrote: the prices of document 01, with a smallest largest charge, and the average power
+-- prices of document 02. Assumes nothing.
 use mathlib.Core.Path.{_≡_, refl, _∙_, ap, ap₂}
 use mathlib.Core.Bool.{true}
 use mathlib.Core.List.{List}
@@ -8,25 +9,27 @@ use lib.ListN.{length, getD}
 use lib.IntN.{ℤ, pos, _-ℤ_, _*ℤ_}
 use Rattle.numbers.specs.Bounded.{listBelow}
 use Rattle.numbers.specs.Refusal.{isPassed}
-use Rattle.numbers.specs.Units.{noPrice}
+use Rattle.numbers.specs.Units.{noPrice, noPower}
 use Rattle.numbers.specs.declared.units.PesoPrice.{PesoPrice}
 use Rattle.numbers.proofs.ListLaws.{list-length, list-at}
 use Rattle.numbers.proofs.SignedLaws.{pos-le, signed-sum-same}
 use Rattle.fixing.specs.Limit.{Distributors, InRange, contractTotal, limit, finalPrice, charge, collected}
 use Rattle.fixing.specs.Charge.{greater, greatestUpTo, pricesCollect, largestCharge}
 use Rattle.fixing.specs.Prices.{fixedPrices, chargeList}
-use Rattle.fixing.specs.Input.{inputAverages, inputEnergies, inputDistributors}
+use Rattle.fixing.specs.Input.{inputAverages, inputPower, inputEnergies, inputDistributors}
 use Rattle.fixing.specs.Fixing.{acceptedFixing}
 use Rattle.fixing.specs.declared.fix.Fixing.{Fixing}
 use Rattle.fixing.proofs.LimitLaws.{final-limit, rounds-few, collects, smallest-largest, collect-whole}
 use Rattle.fixing.proofs.FixingLaws.{final-at, charge-at}
+use Rattle.fixing.proofs.PowerLaws.{input-power}
 use Rattle.ledger.specs.Sound.{sound}
 use Rattle.ledger.specs.Fix.{FixingCall, fixingVerdict, fixingList, priceList, pricePart, priceWord}
+use Rattle.ledger.specs.Fix.{averagePowerList, fixingPowerList}
 use Rattle.ledger.specs.declared.ledger.Ledger.{Ledger}
 use Rattle.ledger.proofs.SoundFacts.{sound-facts}
-use Rattle.ledger.proofs.CallLaws.{fixing-passed, passed-range}
+use Rattle.ledger.proofs.CallLaws.{fixing-passed, right-lengths, passed-range}
 use Rattle.fixing.proofs.VerdictLaws.{passed-fixing}
-use Rattle.history.specs.History.{writtenFinal, WrittenPrices}
+use Rattle.history.specs.History.{writtenFinal, WrittenPrices, WrittenPower}
 
 -- prices that agree below n collect the same and have the same largest charge
 greatest-same : (k : ℕ) (f g : ℕ → ℤ) → ((i : ℕ) → i ≤ k → f i ≡ g i) → greatestUpTo k f ≡ greatestUpTo k g
@@ -128,4 +131,25 @@ module _ (ledger : Ledger) (call : FixingCall) (h : sound ledger ≡ true)
             rw (largest-same d (writtenFinal (fixingList ledger call)) (λ i. pos (finalPrice d i)) same (range .some))
             (smallest-largest d range price below enough);
         few = rounds-few d range;
+      }
+
+  -- the power list
+  power-is : fixingPowerList ledger call ≡ listBelow (ledger .n)
+      (λ i. getD (inputPower (ledger .n) (call .input)) i noPower .0)
+  unfolding fixingPowerList averagePowerList acceptedFixing
+  power-is =
+      rw e
+      (ap (averagePowerList (ledger .n))
+      (passed-fixing (ledger .n) (call .input) (fixing-passed ledger call e .passed)))
+
+  pub power-written : WrittenPower (ledger .n) (call .input) (fixingPowerList ledger call)
+  power-written =
+      let g = sound-facts ledger h in
+      let right = right-lengths (ledger .n) call (g .some) (g .few) (fixing-passed ledger call e .lengths) in
+      record {
+        words = ap length power-is ∙ list-length _ (ledger .n);
+        average = λ i p.
+            ap (λ l. getD l i 0) power-is
+            ∙ list-at (λ i. getD (inputPower (ledger .n) (call .input)) i noPower .0) (ledger .n) 0 i p
+            ∙ input-power (ledger .n) (call .input) (g .few) (right .lines) i p;
       }

@@ -1,5 +1,5 @@
 -- Demand 3 of document 01 as one statement about a whole list of calls, interim fixings among them ("Lists may now
--- contain interim fixings", W-201 of document 02). Assumes nothing.
+-- contain interim fixings", W-201 of document 02), with the power prices that fixings write (W-204). Assumes nothing.
 use mathlib.Core.Path.{_≡_}
 use mathlib.Core.Bool.{true}
 use mathlib.Core.List.{List, _∷_, _++_}
@@ -11,12 +11,12 @@ use Rattle.numbers.specs.Refusal.{isPassed}
 use Rattle.numbers.specs.Signed.{signedSumBelow}
 use Rattle.numbers.specs.Sizes.{mostDistributors}
 use Rattle.fixing.specs.Limit.{Distributors, contractTotal, limit, rounds, finalPrice, charge}
-use Rattle.fixing.specs.Input.{inputDistributors}
+use Rattle.fixing.specs.Input.{FixingInput, inputPowerAverage, inputDistributors}
 use Rattle.fixing.specs.Charge.{pricesCollect, largestCharge}
 use Rattle.settlement.specs.Settlement.{oneSign}
 use Rattle.settlement.specs.Month.{moneyAt}
 use Rattle.ledger.specs.Sound.{sound}
-use Rattle.ledger.specs.Fix.{FixingCall, fixingVerdict, fixingList}
+use Rattle.ledger.specs.Fix.{FixingCall, fixingVerdict, fixingList, fixingPowerList}
 use Rattle.history.specs.Run.{Call, fixing, opened, after, answers}
 use Rattle.history.specs.Plain.{plainOpened, image, plainAfter, plainAnswers, plainCollected}
 
@@ -38,6 +38,11 @@ pub record WrittenPrices (n : ℕ) (d : Distributors) (written : List ℤ) : Typ
       pos (contractTotal d) ≤ℤ pricesCollect d price → largestCharge d (writtenFinal written) ≤ℤ largestCharge d price
   pub few : rounds d < n
 
+-- what it wrote of power: n words, each distributor's average power price
+pub record WrittenPower (n : ℕ) (input : FixingInput) (written : List ℕ) : Type 0 where
+  pub words : length written ≡ n
+  pub average : (i : ℕ) → i < n → getD written i 0 ≡ inputPowerAverage input i
+
 -- after every list of calls from an opened ledger of n distributors:
 pub record History (n : ℕ) (calls : List Call) : Type 0 where
   -- the ledger equals the plain ledger part by part
@@ -52,7 +57,8 @@ pub record History (n : ℕ) (calls : List Call) : Type 0 where
   -- the ledger is sound, so that no call in such a list meets 2
   pub whole : sound (after (opened n) calls) ≡ true
   -- each accepted fixing in the list, regular or interim, wrote 01's prices over the prices that its lines take, with a
-  -- smallest largest charge
+  -- smallest largest charge, and 02's power prices
   pub fixings : (before rest : List Call) (call : FixingCall) → calls ≡ before ++ (fixing call ∷ rest) →
       isPassed (fixingVerdict (after (opened n) before) call) ≡ true →
       WrittenPrices n (inputDistributors n (call .input)) (fixingList (after (opened n) before) call)
+      × WrittenPower n (call .input) (fixingPowerList (after (opened n) before) call)
