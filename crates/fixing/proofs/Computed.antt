@@ -18,7 +18,8 @@ use Rattle.fixing.specs.Sector.{sectorCharges, noCharges}
 unfoldable pub fixingComputed : ℕ
 unfolding supplyComputed ownPart ownSum suppliedEnergy linesAmount averagePrice hasLine everyoneSupplied energyList
     averageList noPrices refusedFixing acceptedFixing workedFixing fixingOf inputChecks inputVerdict inputReferences
-    inputPowerPrices inputPower powerAverages inputAverages inputEnergies contractTotal totalEnergy limit sumInside sumOutside roundSurcharge aboveLimit
+    inputPowerPrices inputPower powerAverages inputAverages inputEnergies contractTotal totalEnergy limit sumInside
+    sumOutside roundSurcharge aboveLimit
     cappedAfter joinsAfter anyJoinsAfter anyAbove roundsBeforeLast rounds capped surcharge finalPrice charge
     collected residue finalPrices chargeList fixedPrices sectorPresent hasSector sectorsAllowed sectorCharge
     chargedPlaces sectorCharges noCharges

@@ -1,4 +1,5 @@
--- The two parts of an amount of power make up the whole, and their average is the whole's, rounded once. Assumes nothing.
+-- The two parts of an amount of power make up the whole, and their average is the whole's, rounded once.
+-- Assumes nothing.
 use mathlib.Core.Path.{_≡_, refl, sym, _∙_, ap}
 use mathlib.Core.Bool.{Bool, true, false, cond}
 use mathlib.Core.List.{List}
@@ -7,7 +8,6 @@ use native.Mathlib.Omega.{arith}
 use native.Mathlib.Nat.{mul-le-mul, div-add-mod}
 use lib.Dec.{eqb}
 use lib.ListN.{getD}
-use Rattle.numbers.specs.Bounded.{sumBelow}
 use Rattle.numbers.specs.Rounding.{halfUp}
 use Rattle.numbers.specs.Sizes.{mostDistributors}
 use Rattle.numbers.specs.Units.{noPower}

@@ -36,8 +36,7 @@ pub record PoweredLines (prices : List PowerPrice) (lines : List ℕ) : Type 0 w
   pub own : OwnLines lines
   pub powered : (j : ℕ) → j < lineCount lines → getD prices j noPower .0 ≤ mostPesoPower
 
--- an amount of power in two parts, and the energy that it is divided by: each part is that of prices that are at most so
--- much
+-- an amount of power in two parts, each at prices of at most so much, and the energy that it is divided by
 pub record PartsWithin (millions rest energy : ℕ) : Type 0 where
   pub some : 1 ≤ energy
   pub most : energy ≤ 2560000000

@@ -1,5 +1,5 @@
-// The average power price of each distributor, from its lines. What the power of a distributor's lines comes to passes 64
-// bits, so that it is kept in two parts, at the millions of each price and at the rest, and rounded once.
+// The average power price of each distributor, from its lines. What the power of a distributor's lines comes to passes
+// 64 bits, so that it is kept in two parts, at the millions of each price and at the rest, and rounded once.
 ghost use mathlib.Core.Path.{_≡_};
 ghost use mathlib.Core.Bool.{true};
 ghost use Prim.Native.Nat.{_+_, _*_, _≤_};

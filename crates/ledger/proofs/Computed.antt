@@ -16,7 +16,8 @@ use Rattle.ledger.specs.Sound.{mostBalanceOf, balanceTest, balanceSound,
 use Rattle.ledger.specs.Turn.{fixingTurn, settlementTurn}
 
 unfoldable pub ledgerComputed : ℕ
-unfolding fixingComputed settlementComputed plainLine plainSeries plainNumbers plainCall printCall printLedger firstBilling
+unfolding fixingComputed settlementComputed plainLine plainSeries plainNumbers plainCall printCall printLedger
+    firstBilling
     secondBilling firstLedger linesWhole fixingLengths inForceLength fixingChecks fixingVerdict acceptedAnswer
     fixingAnswer fixingLedger priceWord priceList fixingList noBalances emptyLedger anySettled nextMonth billedUnder
     fixedLedger settledLedger openingChecks openingVerdict openingLedger settlementLengths positionsOf

@@ -111,7 +111,8 @@ module _ (ledger : Ledger) (call : FixingCall) where
         } →
         list ≡ priceList (ledger .n) fixing → power ≡ averagePowerList (ledger .n) fixing →
         FixingPromise ledger call (r .answer) (r .ledger) list power
-    unfolding fixingLedger fixingList fixingPowerList fixingAnswer fixingVerdict acceptedAnswer acceptedFixing fixedPrices
+    unfolding fixingLedger fixingList fixingPowerList fixingAnswer fixingVerdict acceptedAnswer acceptedFixing
+        fixedPrices
         returnedValues inputDistributors
     fixed-accepted right h r list power o l w =
         let p : r .answer ≡ acceptedAnswer (fixing .prices) = ap (λ (x : FixingOutcome). x .answer) o in

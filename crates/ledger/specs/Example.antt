@@ -26,7 +26,8 @@ plainSeries = replicate 144 0 ++ (10000 ∷ replicate 95 0)
 unfoldable pub plainNumbers : FixingNumbers
 plainNumbers = record { month = 1; dollar = 100000; «reference_factor» = 10000; «first_month» = 0 }
 
--- a fixing of n distributors in month 1 of plain lines at D 100,000 and F 10,000, whose references are their base prices
+-- a fixing in month 1 of n distributors, of plain lines at D 100,000 and F 10,000: their references are their base
+-- prices
 unfoldable pub plainCall : ℕ → List ℕ → List ℕ → FixingCall
 plainCall n lines sectors =
     fixingCallOf false plainNumbers plainSeries lines sectors [] (replicate (n * 3) (pos 0)) (replicate n 0)

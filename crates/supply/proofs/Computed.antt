@@ -16,7 +16,8 @@ use Rattle.supply.specs.Range.{weightsAllowed, powerInRange, lineInRange
 use Rattle.supply.specs.Range.{inputInRange}
 
 unfoldable pub supplyComputed : ℕ
-unfolding seriesComputed termFrom powerTermFrom lineOf termUsed lacksMonth missingTerm missingInLine firstMissing monthCheck ratioOf
+unfolding seriesComputed termFrom powerTermFrom lineOf termUsed lacksMonth missingTerm missingInLine firstMissing
+    monthCheck ratioOf
     indexedOf purchaseOf pesoOf referenceOf termMean termRatio weightedRatio indexFactor lineIndexed indexedWithin
     indexedAllowed powerPesoOf powerIndexed powerPurchase powerAllowed linePower powerPrice powerList
     priceInForce moved priceTaken linePurchase lineReference referenceAnswer priceAnswer answerAt

@@ -18,12 +18,12 @@ use Rattle.series.specs.Means.{meanCount, meanPlace, meanOrZero, meanList, mean
 use Rattle.series.specs.Required.{mostMean}
 use Rattle.series.proofs.SeriesLaws.{window-size}
 use Rattle.series.proofs.MeanLaws.{mean-published, zero-missing, place-below, mean-listed}
-use Rattle.supply.specs.Line.{mostLines, termPlaces, lineCount, lineOf, termOf, termUsed}
+use Rattle.supply.specs.Line.{mostLines, lineCount, lineOf, termOf}
 use Rattle.supply.specs.Months.{lacksMonth, firstMissing, monthCheck, missingAt}
 use Rattle.supply.specs.Listed.{listedMean, listedLacks}
 use Rattle.supply.specs.Price.{termMean, priceInForce, moved, answerAt, priceOr, referencePrice, referenceList}
 use Rattle.supply.specs.Price.{beyondAt, beyondIn, firstBeyond, boundsCheck, anyMoved, anyLineMoved}
-use Rattle.supply.specs.Price.{powerPesoOf, powerAllowed, linePower, powerPrice, powerList, priceChecks}
+use Rattle.supply.specs.Price.{powerPesoOf, linePower, powerPrice, powerList, priceChecks}
 use Rattle.supply.specs.Price.{boundedPrices}
 use Rattle.supply.specs.Required.{TermFacts, CheckedLines}
 use Rattle.supply.specs.declared.line.Term.{Term}

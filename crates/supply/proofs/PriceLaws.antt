@@ -11,7 +11,7 @@ use native.Mathlib.Nat.{mul-le-mul}
 use native.Mathlib.Decide.{decLt}
 use lib.Dec.{leb, ltb, eqb}
 use lib.ListN.{length, getD}
-use borrow.Author.Tests.{ltb-true, lt-ltb, le-ltb, eq-eqb, ne-eqb}
+use borrow.Author.Tests.{lt-ltb, le-ltb, eq-eqb, ne-eqb}
 use Rattle.numbers.specs.Required.{ValuesWithin}
 use Rattle.numbers.specs.Rounding.{halfUp}
 use Rattle.numbers.specs.Bounded.{filledBelow}
@@ -77,16 +77,9 @@ module _ (most price : ℕ) where
   unfolding withinOrZero
   word-within h = rw h
 
-  pub word-beyond : between 1 most price ≡ false → withinOrZero most price ≡ 0
+  word-beyond : between 1 most price ≡ false → withinOrZero most price ≡ 0
   unfolding withinOrZero
   word-beyond h = rw h
-
-  pub word-most : withinOrZero most price ≤ most
-  word-most = go (between 1 most price) refl
-    where
-      go : (b : Bool) → between 1 most price ≡ b → withinOrZero most price ≤ most
-      go true e = rw (word-within e) (between-high 1 most price e)
-      go false e = rw (word-beyond e) (omega arith)
 
   -- so the word tells which
   pub word-tells : eqb (withinOrZero most price) 0 ≡ not (between 1 most price)
@@ -299,8 +292,8 @@ answered-price mean numbers line old p h = go (indexedAllowed mean line) refl
         absurd (let z : _≡_ {A = ℕ} 0 1 = cc in omega arith)
 
 module _ (mean : Term → ℕ) (numbers : FixingNumbers) (lines inForce : List ℕ) where
-  -- where the search for a line out of bounds finds none, every line's indexed price and power price are allowed, and it
-  -- has a reference within the bounds
+  -- where the search for a line out of bounds finds none, every line's indexed price and power price are allowed, and
+  -- it has a reference within the bounds
   module _ (h : firstBeyond mean numbers lines inForce ≡ none) (j : ℕ) (q : j < lineCount lines) where
     searched : (indexedAllowed mean (lineOf lines j) ≡ true)
         × ((leastPrice ≤ referencePrice mean numbers lines inForce j .0)

@@ -90,7 +90,8 @@ module _ (n : ℕ) (line : Line) (h : lineInRange n line ≡ true) where
       and-left (headInRange n line) (powerInRange line)
       (and-left (headInRange n line && powerInRange line) (termsAllowed line && weightsAllowed line) h)
 
-  line-power : (between 1 mostPowerPrice (line .«power_base_price») ≡ true) × (termInRange (termOf line powerTerm) ≡ true)
+  line-power : (between 1 mostPowerPrice (line .«power_base_price») ≡ true)
+      × (termInRange (termOf line powerTerm) ≡ true)
   unfolding lineInRange powerInRange
   line-power =
       let p =

@@ -1,6 +1,6 @@
--- "Steps for a line" of document 01, each half up, with the ratio of W-202 of document 02, the bounds of cause 11, which
--- price a line takes in an interim fixing (W-201), and its power price (W-204). The steps up to the indexed price take
--- the mean of each term as given; all later ones of energy take the price that the line takes. Assumes nothing.
+-- "Steps for a line" of document 01, each half up, with the ratio of W-202 of document 02, the bounds of cause 11,
+-- which price a line takes in an interim fixing (W-201), and its power price (W-204). The steps up to the indexed price
+-- take the mean of each term as given; all later ones of energy take the price that the line takes. Assumes nothing.
 use mathlib.Core.Path.{_≡_}
 use mathlib.Core.Bool.{Bool, true, cond, _&&_}
 use mathlib.Core.List.{List, [], _∷_}
@@ -148,8 +148,8 @@ powerAllowed mean line =
     indexedWithin mostPowerPrice (line .«power_base_price») (termRatio mean (termOf line powerTerm))
     && between 1 mostPowerPrice (powerPurchase mean line)
 
--- the line's power price, in 0.001 $/kW/month. "An interim fixing works power afresh, without the 10% test": no price in
--- force is looked at
+-- the line's power price, in 0.001 $/kW/month. "An interim fixing works power afresh, without the 10% test": no price
+-- in force is looked at
 unfoldable pub linePower : (Term → ℕ) → FixingNumbers → Line → ℕ
 linePower mean numbers line = powerPesoOf (powerPurchase mean line) (numbers .dollar)
 

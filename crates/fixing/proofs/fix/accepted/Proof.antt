@@ -34,7 +34,10 @@ charges-requires c κs =
     let s = start a in
     let r = range a in (
       r .few,
-      (r .most, finals-most (s .args .n) (a .averages .result) (s .args .energies) r _ (f .fix-prices .ensures .answered)),
+      (
+        r .most,
+        finals-most (s .args .n) (a .averages .result) (s .args .energies) r _ (f .fix-prices .ensures .answered),
+      ),
     )
 
 sector-charges-requires : tie.Need-sector-charges-requires

@@ -53,9 +53,12 @@ module _ (c : tie.After-line-at Inv-loop μ-loop) where
     product : part (powerOf prices (l .loop .j)) * c .line-at .result .energy ≡ partOf part prices lines (l .loop .j)
     product = ap (λ line. part (powerOf prices (l .loop .j)) * line .energy) (c .line-at .ensures)
 
-    fits : (held : List ℕ) → PartsHeld part prices lines (l .loop .j) held →
+    -- the place with the line at hand
+    abbrev raised : List ℕ → ℕ
+    raised held =
         getD held (c .line-at .result .distributor) 0 + part (powerOf prices (l .loop .j)) * c .line-at .result .energy
-        ≤ 256 * most
+
+    fits : (held : List ℕ) → PartsHeld part prices lines (l .loop .j) held → raised held ≤ 256 * most
     fits held h =
         let few : l .loop .j ≤ 255 = omega (arith, below, s .pre .own .checked .few) in
         omega (
@@ -69,18 +72,18 @@ module _ (c : tie.After-line-at Inv-loop μ-loop) where
         )
 
     more : (held : List ℕ) → PartsHeld part prices lines (l .loop .j) held →
-        PartsHeld part prices lines (l .loop .j + 1) (set held (c .line-at .result .distributor)
-        (getD held (c .line-at .result .distributor) 0 + part (powerOf prices (l .loop .j)) * c .line-at .result .energy))
+        PartsHeld part prices lines (l .loop .j + 1) (set held (c .line-at .result .distributor) (raised held))
     more held h =
         held-more (λ x. x) (λ x. x) (λ x. refl) (λ x. refl) lines (partOf part prices lines) (l .loop .j) held
         (c .line-at .result .distributor) _ placed own (omega (arith, product)) h
 
   fits-millions : getD (l .loop .millions) (c .line-at .result .distributor) 0
-      + millionsOf (powerOf prices (l .loop .j)) * c .line-at .result .energy ≤ 256 * 2000000000000
-  fits-millions = fits millionsOf 2000000000000 (millions-most prices lines (s .pre)) (l .loop .millions) (l .loop .inv .1)
+      + millionsOf (powerOf prices (l .loop .j)) * c .line-at .result .energy ≤ 512000000000000
+  fits-millions =
+      fits millionsOf 2000000000000 (millions-most prices lines (s .pre)) (l .loop .millions) (l .loop .inv .1)
 
   fits-rest : getD (l .loop .rest) (c .line-at .result .distributor) 0
-      + restOf (powerOf prices (l .loop .j)) * c .line-at .result .energy ≤ 256 * 10000000000000
+      + restOf (powerOf prices (l .loop .j)) * c .line-at .result .energy ≤ 2560000000000000
   fits-rest = fits restOf 10000000000000 (rest-most prices lines (s .pre)) (l .loop .rest) (l .loop .inv .2)
 
 -- before the first line, and past the last

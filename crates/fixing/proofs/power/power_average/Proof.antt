@@ -1,10 +1,8 @@
 -- The parts' average is the whole's; nothing on the way is above 6 * 10^15.
-use mathlib.Core.Path.{_≡_, _∙_, ap}
+use mathlib.Core.Path.{_∙_, ap}
 use Prim.Native.Nat.{_/_, _%_, _*_, _+_, _≤_, _<_}
 use native.Mathlib.Nat.{div-le-of-le-mul, mod-lt}
 use native.Mathlib.Omega.{arith}
-use borrow.Author.Needs.{needs}
-use Rattle.numbers.specs.Rounding.{halfUp}
 use Rattle.numbers.specs.declared.units.PowerPrice.{PowerPrice}
 use Rattle.numbers.proofs.RoundingLaws.{half-up-self}
 use Rattle.fixing.specs.Power.{million}
@@ -32,7 +30,7 @@ add-t10 c =
     omega (
       arith,
       c .half-up .ensures,
-      half-up-self (s .args .millions % s .args .energy .0 * million + s .args .rest) (s .args .energy .0) (s .pre .some),
+      half-up-self (s .args .millions % s .args .energy .0 * million + s .args .rest) _ (s .pre .some),
       divided s,
       whole-most s,
     )

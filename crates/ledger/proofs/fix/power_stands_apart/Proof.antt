@@ -3,7 +3,6 @@ use mathlib.Core.Path.{_≡_, sym, _∙_, ap, ap₂}
 use mathlib.Core.Bool.{true}
 use lib.Dec.{eqb}
 use borrow.Author.Tests.{eq-eqb}
-use Rattle.numbers.specs.Bounded.{listBelow}
 use Rattle.numbers.specs.Refusal.{Answered, isPassed}
 use Rattle.numbers.specs.declared.refusal.Verdict.the-variants.{Passed}
 use Rattle.numbers.proofs.CheckLaws.{passed-number, is-passed}
@@ -11,8 +10,8 @@ use Rattle.supply.specs.declared.market.FixingNumbers.{FixingNumbers}
 use Rattle.fixing.specs.Fixing.{fixingOf}
 use Rattle.fixing.proofs.ApartLaws.{fixing-same}
 use Rattle.ledger.specs.Ledger.{fixedLedger}
-use Rattle.ledger.specs.Fix.{FixingCall, fixingVerdict, acceptedAnswer, fixingAnswer, fixingAnswered, fixingLedger}
-use Rattle.ledger.specs.Fix.{priceWord, priceList, fixingList, HandedBack, FixingAccepted}
+use Rattle.ledger.specs.Fix.{FixingCall, fixingVerdict, acceptedAnswer, fixingAnswer, fixingAnswered}
+use Rattle.ledger.specs.Fix.{fixingLedger, priceList, fixingList, HandedBack, FixingAccepted}
 use Rattle.ledger.specs.declared.ledger.Ledger.{Ledger}
 use Rattle.ledger.proofs.CallLaws.{fixing-passed}
 use Rattle.ledger.proofs.FixLaws.{answer-told}
@@ -24,7 +23,8 @@ module _ (ledger : Ledger) (call : FixingCall) (given : HandedBack) (h : FixingA
   passed : isPassed (fixingVerdict ledger call) ≡ true
   passed =
       passed-number _ (fixingVerdict ledger call)
-      ∙ ap (λ (x : Answered). eqb (x .number) 0) (sym (ap fixingAnswered (h .promise .answered) ∙ answer-told ledger call))
+      ∙ ap (λ (x : Answered). eqb (x .number) 0)
+      (sym (ap fixingAnswered (h .promise .answered) ∙ answer-told ledger call))
       ∙ eq-eqb _ 0 (h .number)
 
   verdict : fixingVerdict ledger call ≡ Passed
@@ -34,7 +34,8 @@ module _ (ledger : Ledger) (call : FixingCall) (given : HandedBack) (h : FixingA
   unfolding fixingAnswer
   answered = rw verdict at (h .promise .answered)
 
-  booked : given .ledger ≡ fixedLedger ledger (call .input .numbers .month) (fixingOf (ledger .n) (call .input) .sectors)
+  booked : given .ledger ≡ fixedLedger ledger (call .input .numbers .month)
+      (fixingOf (ledger .n) (call .input) .sectors)
   unfolding fixingLedger
   booked = rw verdict at (h .promise .booked)
 
@@ -56,7 +57,9 @@ returns c ledger one other same first second p q =
           ∙ ap₂ (λ (numbers : FixingNumbers) sectors. fixedLedger ledger (numbers .month) sectors) (same .numbers)
           (alike .sectors)
           ∙ sym (booked ledger other second q);
-      prices = listed ledger one first p ∙ rw (alike .averages, alike .prices, alike .charges) (sym (listed ledger other second q));
+      prices =
+          listed ledger one first p
+          ∙ rw (alike .averages, alike .prices, alike .charges) (sym (listed ledger other second q));
     }
 
 pub power-stands-apart-spec : {M : Type 1} → statement M

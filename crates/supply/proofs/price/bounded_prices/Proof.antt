@@ -22,9 +22,9 @@ use Rattle.supply.specs.Price.{anyLineMoved, referencePrice, referenceLi
 use Rattle.supply.specs.Price.{boundedPrices}
 use Rattle.supply.specs.declared.line.Term.{Term}
 use Rattle.supply.specs.declared.price.PriceWords.{PriceWords}
-use Rattle.supply.proofs.PriceLaws.{indexed-most, indexed-reference, indexed-at, power-at, power-tells, power-most}
-use Rattle.supply.proofs.PriceLaws.{line-within, line-beyond, power-beyond, line-price, words-moved, words-power}
-use Rattle.supply.proofs.PriceLaws.{prices-beyond, prices-unmoved, prices-passed}
+use Rattle.supply.proofs.PriceLaws.{indexed-most, indexed-reference, indexed-at, power-at, power-tells}
+use Rattle.supply.proofs.PriceLaws.{power-most, line-within, line-beyond, power-beyond, line-price, words-moved}
+use Rattle.supply.proofs.PriceLaws.{words-power, prices-beyond, prices-unmoved, prices-passed}
 use Rattle.supply.proofs.price.bounded_prices.Statement.{statement}
 use Rattle.supply.proofs.price.bounded_prices.Tie as tie
 

@@ -1,5 +1,5 @@
 -- The factor is tested before the product, and the price it gives is the definition's.
-use mathlib.Core.Path.{_≡_, _∙_, ap}
+use mathlib.Core.Path.{_∙_, ap}
 use Prim.Native.Nat.{_*_, _≤_}
 use native.Mathlib.Nat.{mul-le-mul}
 use native.Mathlib.Omega.{arith}
@@ -27,7 +27,8 @@ unfolding indexedWord indexedWithin withinOrZero indexedOf
 returns-2 c =
     let h = c .before in
     let e = h .before in
-    rw (le-leb _ _ (e .if1 .left)) (c .within-or-zero .ensures ∙ ap (withinOrZero (e .before .args .most)) (h .half-up .ensures))
+    rw (le-leb _ _ (e .if1 .left))
+    (c .within-or-zero .ensures ∙ ap (withinOrZero (e .before .args .most)) (h .half-up .ensures))
 
 pub indexed-word-spec : {M : Type 1} → statement M
 indexed-word-spec =

@@ -1,9 +1,8 @@
 -- Each step is the definition's, word by word.
-use mathlib.Core.Path.{_≡_, _∙_, ap}
-use Prim.Native.Nat.{_≤_}
+use mathlib.Core.Path.{_∙_, ap}
 use native.Mathlib.Omega.{arith}
 use borrow.Author.Needs.{needs}
-use Rattle.supply.specs.Line.{mostPowerPrice, powerTerm, termOf}
+use Rattle.supply.specs.Line.{mostPowerPrice, powerTerm}
 use Rattle.supply.specs.Listed.{listedMean, withinOrZero, indexedWord}
 use Rattle.supply.specs.Price.{linePurchase}
 use Rattle.supply.proofs.PriceLaws.{power-used, indexed-most, power-word}
@@ -18,7 +17,11 @@ purchase-price-requires : tie.Need-purchase-price-requires
 purchase-price-requires c κs =
     let s = c .before .before .before in (
       s .pre .1,
-      omega (arith, c .indexed-word .ensures, indexed-most mostPowerPrice (s .args .t2 .«power_base_price») (c .before .term-ratio .result)),
+      omega (
+        arith,
+        c .indexed-word .ensures,
+        indexed-most mostPowerPrice (s .args .t2 .«power_base_price») (c .before .term-ratio .result),
+      ),
     )
 
 returns : tie.Need-returns
