@@ -1,5 +1,6 @@
-// The given journal of W-202, then a tie in each rounding that can have one, bounds met alone, neighbouring causes met
-// at once and words that are all different: the journal beside this program, replayed.
+// The given journal of W-204, then a tie in each rounding that can have one, bounds met alone, neighbouring causes met
+// at once, words that are all different, interim fixings and forty distributors: the journal beside this program,
+// replayed.
 use commands::input::journal_buffer;
 use commands::run::replay;
 use libc::STDIN_FILENO;

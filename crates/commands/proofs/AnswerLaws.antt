@@ -19,7 +19,7 @@ use Rattle.journal.specs.declared.command.Command.the-variants.{Unknown, End}
 use Rattle.journal.specs.declared.command.CommandRead.{CommandRead}
 use Rattle.ledger.specs.declared.ledger.Ledger.{Ledger}
 use Rattle.text.proofs.SizeLaws.{line-size}
-use Rattle.answers.proofs.SizeLaws.{answer-size}
+use Rattle.answers.proofs.SizeLaws.{settled-size, fixed-size}
 use Rattle.commands.specs.Replay.{openingText, fixingText, settlementText, loadingText}
 use Rattle.commands.specs.Replay.{commandLedger, commandAnswer, wordRoom, stepAfter, answerOf}
 use Rattle.commands.specs.Replay.{answerAfter, longestAnswer, CommandMade, CommandAnswered}
@@ -48,11 +48,11 @@ answer-fits : (command : Command) (parts : List Held) (ledger : Ledger) →
     length (commandAnswer command parts ledger) ≤ longestAnswer
 unfolding openingText fixingText settlementText loadingText
 answer-fits Open parts ledger = le-trans (line-size _) (omega arith)
-answer-fits Fix parts ledger = le-trans (answer-size _ _ _ 3 _) (omega arith)
-answer-fits Settle parts ledger = le-trans (answer-size _ _ _ 1 _) (omega arith)
+answer-fits Fix parts ledger = le-trans (fixed-size _ _ _ _) (omega arith)
+answer-fits Settle parts ledger = le-trans (settled-size _ _ _ _) (omega arith)
 answer-fits Save parts ledger = saving-size ledger
 answer-fits Load parts ledger = le-trans (line-size _) (omega arith)
-answer-fits Interim parts ledger = le-trans (answer-size _ _ _ 3 _) (omega arith)
+answer-fits Interim parts ledger = le-trans (fixed-size _ _ _ _) (omega arith)
 answer-fits Unknown parts ledger = omega arith
 answer-fits End parts ledger = omega arith
 

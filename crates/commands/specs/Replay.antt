@@ -9,6 +9,7 @@ use lib.ListN.{length, take}
 use lib.IntN.{ℤ, negsuc}
 use Rattle.numbers.specs.Bounded.{listBelow}
 use Rattle.numbers.specs.Refusal.{verdictAnswered}
+use Rattle.numbers.specs.Signed.{wordOf}
 use Rattle.numbers.specs.Sizes.{mostDistributors}
 use Rattle.settlement.specs.Month.{moneyAt}
 use Rattle.text.specs.Text.{bytes}
@@ -22,11 +23,12 @@ use Rattle.journal.specs.declared.command.Command.{Command}
 use Rattle.journal.specs.declared.command.Command.the-variants.{Open, Fix, Settle, Save, Load, Interim}
 use Rattle.journal.specs.declared.command.Command.the-variants.{Unknown, End}
 use Rattle.ledger.specs.Ledger.{emptyLedger, openingVerdict, openingLedger}
-use Rattle.ledger.specs.Fix.{FixingCall, fixingCallOf, fixingAnswer, fixingAnswered, fixingLedger, fixingList}
+use Rattle.ledger.specs.Fix.{FixingCall, fixingCallOf, fixingAnswer, fixingAnswered}
+use Rattle.ledger.specs.Fix.{fixingLedger, fixingList, fixingPowerList}
 use Rattle.ledger.specs.Settle.{SettlementCall, settlementCallOf, settlementVerdict, settlementLedger, settlementList}
 use Rattle.ledger.specs.declared.ledger.Ledger.{Ledger}
 use Rattle.store.specs.Store.{ledgerParts, loadedLedger}
-use Rattle.answers.specs.Answer.{outcomeLine, fixingLine, answerText}
+use Rattle.answers.specs.Answer.{outcomeLine, fixingLine, unwrittenWord, settledText, fixedText}
 use Rattle.commands.specs.declared.answer.Made.{Made}
 use Rattle.commands.specs.declared.run.CommandOutcome.{CommandOutcome}
 use Rattle.commands.specs.declared.run.Step.{Step}
@@ -35,8 +37,12 @@ use Rattle.commands.specs.declared.run.Step.{Step}
 unfoldable pub unwritten : ℕ → List ℤ
 unwritten k = listBelow k (λ i. negsuc 0)
 
--- "fix MONTH DOLLAR FACTOR FIRST series K .. lines K .. sectors K .. prices K": the fixing of these parts, of which an
--- interim one has "inforce K .." before the prices
+-- the list for the power prices: "it is lent with every word 18446744073709551615"
+unfoldable pub unwrittenPower : ℕ → List ℕ
+unwrittenPower k = listBelow k (λ i. unwrittenWord)
+
+-- "fix MONTH DOLLAR FACTOR FIRST series K .. lines K .. sectors K .. prices K power K": the fixing of these parts, of
+-- which an interim one has "inforce K .." before the prices
 unfoldable pub fixingCall : Bool → List Held → FixingCall
 fixingCall isInterim parts =
     fixingCallOf isInterim
@@ -47,7 +53,7 @@ fixingCall isInterim parts =
       «first_month» = heldIn parts 3 .number;
     })
     (heldIn parts 4 .words) (heldIn parts 5 .words) (heldIn parts 6 .words) (heldIn parts 7 .words)
-    (unwritten (heldIn parts 8 .number))
+    (unwritten (heldIn parts 8 .number)) (unwrittenPower (heldIn parts 9 .number))
 
 -- "settle MONTH readings K .. losses K .. transfers K"
 unfoldable pub settlementCall : List Held → SettlementCall
@@ -59,24 +65,24 @@ settlementCall parts =
 unfoldable pub openingText : ℕ → List ℕ
 openingText n = lineText (outcomeLine (bytes "open        ") (verdictAnswered [] (openingVerdict n) .number))
 
--- the line of a fixing, "I AVERAGE FINAL CHARGE (a row for each distributor)"; an interim one "answers as `fix` does,
--- with the word `interim` in place of `fix`"
+-- the line of a fixing, "I AVERAGE FINAL CHARGE POWER (a row for each distributor)"; an interim one "answers as `fix`
+-- does, with the word `interim` in place of `fix`"
 abbrev pub fixingName : Bool → List ℕ
 fixingName isInterim = cond isInterim (bytes "interim     ") (bytes "fix         ")
 
 unfoldable pub fixingText : Ledger → FixingCall → List ℕ
 fixingText ledger call =
     let answer = fixingAnswer ledger call in
-    answerText (fixingLine (fixingName (call .isInterim)) answer) (eqb (fixingAnswered answer .number) 0)
-    (fixingList ledger call) 3 []
+    fixedText (fixingLine (fixingName (call .isInterim)) answer) (eqb (fixingAnswered answer .number) 0)
+    (fixingList ledger call) (fixingPowerList ledger call)
 
 -- the line of a settlement, "I TRANSFER BALANCE (a row for each distributor)"
 unfoldable pub settlementText : Ledger → SettlementCall → List ℕ
 settlementText ledger call =
     let number = verdictAnswered [] (settlementVerdict ledger call) .number in
     let balances = settlementLedger ledger call .balances in
-    answerText (outcomeLine (bytes "settle      ") number) (eqb number 0) (settlementList ledger call) 1
-    (listBelow mostDistributors (moneyAt balances))
+    settledText (outcomeLine (bytes "settle      ") number) (eqb number 0) (settlementList ledger call)
+    (listBelow mostDistributors (λ i. wordOf (moneyAt balances i)))
 
 -- "`save` prints the ledger as a `load` command"
 unfoldable pub savingText : Ledger → List ℕ

@@ -7,10 +7,16 @@ ghost use Rattle.ledger.specs.Settle.{settlementLedger};
 ghost use Rattle.store.specs.Store.{loadedLedger};
 ghost use Rattle.journal.specs.Form.{FormHeld, numberOf, partsIn};
 ghost use Rattle.journal.specs.Command.{fixingForm, settleForm, loadForm};
-ghost use Rattle.commands.specs.Replay.{unwritten, fixingCall, settlementCall, openingText, fixingName};
-ghost use Rattle.commands.specs.Replay.{fixingText, settlementText, savingText, loadingText, CommandMade};
-use answers::answer::amounts;
-use answers::answer::write_answer;
+ghost use Rattle.commands.specs.Replay.{unwritten, unwrittenPower, fixingCall, settlementCall};
+ghost use Rattle.commands.specs.Replay.{openingText, fixingName, fixingText, settlementText};
+ghost use Rattle.commands.specs.Replay.{savingText, loadingText, CommandMade};
+use crate::call::lent;
+use crate::call::lent_power;
+use crate::call::list_buffer;
+use crate::call::power_buffer;
+use answers::answer::balance_words;
+use answers::answer::write_fixed;
+use answers::answer::write_settled;
 use answers::line::fixing_line;
 use answers::line::outcome_line;
 use journal::command::load_form;
@@ -61,18 +67,19 @@ fn fixing_name(is_interim: bool) -> [u8; NAME]
     }
 }
 
-// Makes a fixing with its lent list, by the open call of its kind.
+// Makes a fixing with its lent lists, by the open call of its kind.
 fn call_fixing(
     is_interim: bool,
     parts: Parts,
     ledger: Ledger,
     words: &[u64],
     prices: &mut [i64],
+    power: &mut [u64],
 ) -> FixingOutcome
     requires { ⌜ FormHeld (fixingForm «is_interim») parts (length (now words)) ⌝
-        ∗ ⌜ now prices ≡ unwritten (numberOf parts 8) ⌝ }
+        ∗ ⌜ now prices ≡ unwritten (numberOf parts 8) ⌝ ∗ ⌜ now power ≡ unwrittenPower (numberOf parts 9) ⌝ }
     ensures { λ r. ⌜ FixingPromise ledger (fixingCall «is_interim» (partsIn parts (now (words .entry)))) (r .answer)
-        (r .ledger) (now (prices .exit)) ⌝ }
+        (r .ledger) (now (prices .exit)) (now (power .exit)) ⌝ }
 {
     let numbers = parts.numbers;
     let call = FixingNumbers {
@@ -86,9 +93,18 @@ fn call_fixing(
     let sectors = words_of(parts, words, 6);
     if is_interim {
         let in_force = words_of(parts, words, 7);
-        return interim(ledger, call, series, lines, sectors, in_force, prices);
+        return interim(
+            ledger,
+            call,
+            series,
+            lines,
+            sectors,
+            in_force,
+            prices,
+            power,
+        );
     }
-    fix(ledger, call, series, lines, sectors, prices)
+    fix(ledger, call, series, lines, sectors, prices, power)
 }
 
 // Makes a fixing and answers it.
@@ -97,34 +113,30 @@ pub(crate) fn run_fixing(
     parts: Parts,
     ledger: Ledger,
     words: &[u64],
-    prices: &mut [i64],
     buffer: &mut [u8],
 ) -> Made
-    requires { ⌜ FormHeld (fixingForm «is_interim») parts (length (now words)) ⌝
-        ∗ ⌜ now prices ≡ unwritten (numberOf parts 8) ⌝ }
+    requires { ⌜ FormHeld (fixingForm «is_interim») parts (length (now words)) ⌝ }
     ensures { λ r. ⌜ CommandMade r (fixingLedger ledger (fixingCall «is_interim» (partsIn parts (now (words .entry)))))
         (fixingText ledger (fixingCall «is_interim» (partsIn parts (now (words .entry))))) (now (buffer .entry))
         (now (buffer .exit)) ⌝ }
 {
-    let outcome = call_fixing(is_interim, parts, ledger, words, prices);
+    let numbers = parts.numbers;
+    let mut price_buffer = list_buffer();
+    let mut power_buffer = power_buffer();
+    let prices = lent(&mut price_buffer, numbers[8]);
+    let power = lent_power(&mut power_buffer, numbers[9]);
+    let outcome = call_fixing(is_interim, parts, ledger, words, prices, power);
     let answer = outcome.answer;
     let line = fixing_line(fixing_name(is_interim), answer);
     let accepted = fixing_number(answer) == 0;
-    let column = [0i64; 0];
-    let count = write_answer(buffer, line, accepted, prices, 3, &column);
+    let count = write_fixed(buffer, line, accepted, prices, power);
     let ledger = outcome.ledger;
     Made { ledger, count }
 }
 
-// Makes a settlement with its lent list.
-pub(crate) fn run_settle(
-    parts: Parts,
-    ledger: Ledger,
-    words: &[u64],
-    transfers: &mut [i64],
-    buffer: &mut [u8],
-) -> Made
-    requires { ⌜ FormHeld settleForm parts (length (now words)) ⌝ ∗ ⌜ now transfers ≡ unwritten (numberOf parts 3) ⌝ }
+// Makes a settlement and answers it.
+pub(crate) fn run_settle(parts: Parts, ledger: Ledger, words: &[u64], buffer: &mut [u8]) -> Made
+    requires { ⌜ FormHeld settleForm parts (length (now words)) ⌝ }
     ensures { λ r. ⌜ CommandMade r (settlementLedger ledger (settlementCall (partsIn parts (now (words .entry)))))
         (settlementText ledger (settlementCall (partsIn parts (now (words .entry))))) (now (buffer .entry))
         (now (buffer .exit)) ⌝ }
@@ -132,6 +144,8 @@ pub(crate) fn run_settle(
     let numbers = parts.numbers;
     let readings = words_of(parts, words, 1);
     let losses = words_of(parts, words, 2);
+    let mut transfer_buffer = list_buffer();
+    let transfers = lent(&mut transfer_buffer, numbers[3]);
     let outcome = settle(ledger, numbers[0], readings, losses, transfers);
     let verdict = outcome.verdict;
     let ledger = outcome.ledger;
@@ -139,8 +153,8 @@ pub(crate) fn run_settle(
     let line = outcome_line(*b"settle      ", number);
     let accepted = number == 0;
     let balances = ledger.balances;
-    let column = amounts(balances);
-    let count = write_answer(buffer, line, accepted, transfers, 1, &column);
+    let column = balance_words(balances);
+    let count = write_settled(buffer, line, accepted, transfers, &column);
     Made { ledger, count }
 }
 

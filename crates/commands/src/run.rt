@@ -3,7 +3,7 @@ ghost use mathlib.Core.Path.{_≡_};
 ghost use Prim.Native.Nat.{_≤_};
 ghost use lib.ListN.{length};
 ghost use Rattle.journal.specs.Form.{FormHeld, partsIn};
-ghost use Rattle.journal.specs.Command.{longestList, commandForm};
+ghost use Rattle.journal.specs.Command.{commandForm};
 ghost use Rattle.commands.specs.Replay.{wordRoom, commandLedger, commandAnswer, stepAfter, answerAfter, replayed};
 ghost use Rattle.commands.specs.Replay.{longestAnswer, longestText, CommandMade, CommandAnswered};
 use crate::answer::Made;
@@ -12,7 +12,6 @@ use crate::answer::run_load;
 use crate::answer::run_open;
 use crate::answer::run_save;
 use crate::answer::run_settle;
-use crate::call::lent;
 use answers::line::error_line;
 use journal::command::Command;
 use journal::command::form_of;
@@ -49,12 +48,6 @@ fn word_buffer() -> [u64; 32768]
     [0; 32768]
 }
 
-fn lent_buffer() -> [i64; 8192]
-    ensures { λ r. ⌜ length r ≡ longestList ⌝ }
-{
-    [0; 8192]
-}
-
 fn answer_buffer() -> [u8; 262144]
     ensures { λ r. ⌜ length r ≡ longestAnswer ⌝ }
 {
@@ -67,10 +60,9 @@ fn make_command(
     parts: Parts,
     ledger: Ledger,
     words: &[u64],
-    list: &mut [i64],
     buffer: &mut [u8],
 ) -> Made
-    requires { ⌜ FormHeld (commandForm command) parts (length (now words)) ⌝ ∗ ⌜ length (now list) ≡ longestList ⌝ }
+    requires { ⌜ FormHeld (commandForm command) parts (length (now words)) ⌝ }
     ensures { λ r. ⌜ CommandMade r (commandLedger command (partsIn parts (now (words .entry))) ledger)
         (commandAnswer command (partsIn parts (now (words .entry))) ledger) (now (buffer .entry))
         (now (buffer .exit)) ⌝ }
@@ -82,9 +74,9 @@ fn make_command(
         Command::Open => run_open(numbers[0] as usize, buffer),
         Command::Save => run_save(ledger, buffer),
         Command::Load => run_load(parts, words, buffer),
-        Command::Fix => run_fixing(false, parts, ledger, words, lent(list, numbers[8]), buffer),
-        Command::Settle => run_settle(parts, ledger, words, lent(list, numbers[3]), buffer),
-        Command::Interim => run_fixing(true, parts, ledger, words, lent(list, numbers[8]), buffer),
+        Command::Fix => run_fixing(false, parts, ledger, words, buffer),
+        Command::Settle => run_settle(parts, ledger, words, buffer),
+        Command::Interim => run_fixing(true, parts, ledger, words, buffer),
     }
 }
 
@@ -95,7 +87,6 @@ fn run_command(text: &[u8], at: usize, ledger: Ledger, buffer: &mut [u8]) -> Com
         (answerAfter (now (text .entry)) at ledger) (now (buffer .exit)) ⌝ }
 {
     let mut words = word_buffer();
-    let mut list = lent_buffer();
     let read = next_command(text, at);
     let command = read.command;
     let form = form_of(command);
@@ -106,7 +97,7 @@ fn run_command(text: &[u8], at: usize, ledger: Ledger, buffer: &mut [u8]) -> Com
         return CommandOutcome { step, count: 0 };
     }
     let parts = held.parts;
-    let made = make_command(command, parts, ledger, &words, &mut list, buffer);
+    let made = make_command(command, parts, ledger, &words, buffer);
     let ledger = made.ledger;
     let step = Step { ledger, next };
     CommandOutcome {

@@ -41,16 +41,18 @@ lentWords coal cpi = rowOf 0 ++ (rowOf coal ++ (rowOf 0 ++ (rowOf cpi ++ rowOf 0
 unfoldable pub indexedNumbers : FixingNumbers
 indexedNumbers = record { month = 10; dollar = 100000; «reference_factor» = 10000; «first_month» = 9 }
 
--- example 3's line: coal over 610,160 with weight 6,000, CPI over 10,000 with weight 4,000, each of one month
+-- example 3's line: coal over 610,160 with weight 6,000, CPI over 10,000 with weight 4,000, each of one month; its
+-- power words pass
 unfoldable pub indexedLine : List ℕ
 indexedLine =
     0 ∷ 80000 ∷ 10000 ∷ 10000 ∷ 1 ∷ 2
-    ∷ 1 ∷ 6000 ∷ 1 ∷ 1 ∷ 610160 ∷ 3 ∷ 4000 ∷ 1 ∷ 1 ∷ 10000 ∷ 0 ∷ 0 ∷ 0 ∷ 0 ∷ 0 ∷ 0 ∷ 0 ∷ 0 ∷ 0 ∷ 0 ∷ []
+    ∷ 1 ∷ 6000 ∷ 1 ∷ 1 ∷ 610160 ∷ 3 ∷ 4000 ∷ 1 ∷ 1 ∷ 10000 ∷ 0 ∷ 0 ∷ 0 ∷ 0 ∷ 0 ∷ 0 ∷ 0 ∷ 0 ∷ 0 ∷ 0
+    ∷ 10000 ∷ 1 ∷ 1 ∷ 10000 ∷ []
 
 -- 01's number of a fixing of one plain line, whose reference is its base price
 unfoldable pub plainNumber : ℕ → ℕ
 plainNumber base =
-    fixingAnswered (fixingAnswer (openingLedger 1) (plainCall 3 (plainLine 0 base 1) (10000 ∷ replicate 7 0))) .number
+    fixingAnswered (fixingAnswer (openingLedger 1) (plainCall 1 (plainLine 0 base 1) (10000 ∷ replicate 7 0))) .number
 
 -- two distributors of energy 1 each
 abbrev pub ofTwo : ℕ → ℕ → ℕ → ℕ

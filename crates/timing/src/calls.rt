@@ -42,8 +42,9 @@ fn fix_load(
     lines: &[u64; LINES],
     sectors: &[u64; PLACES],
     prices: &mut [i64; PRICES],
+    power: &mut [u64; MOST_DISTRIBUTORS],
 ) -> FixingOutcome {
-    fix(ledger, numbers, series, lines, sectors, prices)
+    fix(ledger, numbers, series, lines, sectors, prices, power)
 }
 
 // The settlement of the load; the two lists have one lifetime, so that both are lent out of one struct.
@@ -62,6 +63,7 @@ pub(crate) fn make_calls(
     load: Load,
     task: Task,
     prices: &mut [i64; PRICES],
+    power: &mut [u64; MOST_DISTRIBUTORS],
     transfers: &mut [i64; MOST_DISTRIBUTORS],
 ) -> Results {
     let opened = open(MOST_DISTRIBUTORS).ledger;
@@ -70,7 +72,7 @@ pub(crate) fn make_calls(
     let series = load.series;
     let lines = load.lines;
     let sectors = load.sectors;
-    let mut fixing = fix_load(opened, numbers, &series, &lines, &sectors, prices);
+    let mut fixing = fix_load(opened, numbers, &series, &lines, &sectors, prices, power);
     let fixed = fixing.ledger;
     let mut settled = fixed;
     let mut fixings: u64 = 0;
@@ -78,7 +80,7 @@ pub(crate) fn make_calls(
     let mut run: u64 = 0;
     while run < task.count {
         if task.fixings {
-            fixing = fix_load(opened, numbers, &series, &lines, &sectors, prices);
+            fixing = fix_load(opened, numbers, &series, &lines, &sectors, prices, power);
             let answer = fixing.answer;
             fixings += accepted(fixing_number(answer));
         }

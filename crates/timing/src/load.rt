@@ -25,6 +25,11 @@ const WORDS_OF_LINE: u64 = LINE_WORDS as u64;
 
 const SERIES_MONTHS: u64 = MONTHS as u64;
 
+// Where the words of a line's terms start, and those of its power.
+const TERMS_START: u64 = 6;
+
+const POWER_START: u64 = WORDS_OF_LINE - 4;
+
 // The lists that the calls are lent, and the fixing's numbers.
 pub(crate) struct Load {
     pub numbers: FixingNumbers,
@@ -63,6 +68,15 @@ fn even_term(term: u64, word: u64) -> u64 {
         1 => 2500,
         2 => 1,
         3 => 9,
+        _ => 10000,
+    }
+}
+
+// A word of an even line's power: base price, then lag, window and base value of its CPI term.
+fn even_power(word: u64) -> u64 {
+    match word {
+        1 => 1,
+        2 => 9,
         _ => 10000,
     }
 }
@@ -117,24 +131,41 @@ fn mixed_term(line: u64, term: u64, word: u64) -> u64
     }
 }
 
-// A word of a line: six of its own, then five for each of four terms.
-fn line_word(mixed: bool, line: u64, word: u64) -> u64
-    requires { ⌜ line < mostLines ⌝ ∗ ⌜ word < lineWords ⌝ }
+// A word of a mixed line's power.
+fn mixed_power(line: u64, word: u64) -> u64
+    requires { ⌜ line < mostLines ⌝ }
 {
-    if word < 6 {
-        return if mixed {
-            mixed_head(line, word)
-        } else {
-            even_head(line, word)
-        };
+    match word {
+        0 => 5000 + 811 * line % 20001,
+        1 => 1 + line % 12,
+        2 => window(line),
+        _ => 9500 + 37 * line % 1001,
     }
-    let term = (word - 6) / 5;
-    let part = (word - 6) % 5;
-    if mixed {
-        mixed_term(line, term, part)
-    } else {
-        even_term(term, part)
+}
+
+// A word of a line: six of its own, five for each of four terms, then four for power.
+fn even_line(line: u64, word: u64) -> u64
+    requires { ⌜ line < mostLines ⌝ }
+{
+    if word < TERMS_START {
+        return even_head(line, word);
     }
+    if word < POWER_START {
+        return even_term((word - TERMS_START) / 5, (word - TERMS_START) % 5);
+    }
+    even_power(word - POWER_START)
+}
+
+fn mixed_line(line: u64, word: u64) -> u64
+    requires { ⌜ line < mostLines ⌝ }
+{
+    if word < TERMS_START {
+        return mixed_head(line, word);
+    }
+    if word < POWER_START {
+        return mixed_term(line, (word - TERMS_START) / 5, (word - TERMS_START) % 5);
+    }
+    mixed_power(line, word - POWER_START)
 }
 
 fn mixed_series(place: u64) -> u64
@@ -171,7 +202,7 @@ fn even_word(list: List, place: u64) -> u64
 {
     match list {
         List::Series => 10000,
-        List::Lines => line_word(false, place / WORDS_OF_LINE, place % WORDS_OF_LINE),
+        List::Lines => even_line(place / WORDS_OF_LINE, place % WORDS_OF_LINE),
         List::Sectors => 10000,
         List::Readings => 1000,
         List::Losses => 10500,
@@ -183,7 +214,7 @@ fn mixed_word(list: List, place: u64) -> u64
 {
     match list {
         List::Series => mixed_series(place),
-        List::Lines => line_word(true, place / WORDS_OF_LINE, place % WORDS_OF_LINE),
+        List::Lines => mixed_line(place / WORDS_OF_LINE, place % WORDS_OF_LINE),
         List::Sectors => mixed_sector(place),
         List::Readings => mixed_reading(place),
         List::Losses => 10000 + 97 * place % 1501,

@@ -25,7 +25,8 @@ fn main() {
     };
     let load = build_load(task.mixed);
     let mut prices = [0i64; PRICES];
+    let mut power = [0u64; MOST_DISTRIBUTORS];
     let mut transfers = [0i64; MOST_DISTRIBUTORS];
-    let results = make_calls(load, task, &mut prices, &mut transfers);
+    let results = make_calls(load, task, &mut prices, &mut power, &mut transfers);
     print_results(results, prices, transfers);
 }

@@ -1,6 +1,6 @@
 // What is printed of the calls, as bench/plain.rs prints it.
 use crate::calls::Results;
-use answers::answer::amounts;
+use answers::answer::balance_words;
 use answers::line::values_line;
 use ledger::fix::FixingAnswer;
 use libc::STDOUT_FILENO;
@@ -42,8 +42,8 @@ fn print_fixing(answer: FixingAnswer, prices: [i64; PRICES]) {
         let mut text = io::buffer();
         let values = values_line(limit, surcharge, rounds, residue);
         let end = write_line(&mut text, 0, values);
-        let column = [0i64; 0];
-        let end = write_rows(&mut text, end, &prices, 3, &column);
+        let column = [0u64; 0];
+        let end = write_rows(&mut text, end, &prices, 3, false, &column);
         print(&text, end);
     }
 }
@@ -51,8 +51,8 @@ fn print_fixing(answer: FixingAnswer, prices: [i64; PRICES]) {
 // The last settlement: transfer and balance of each distributor.
 fn print_settlement(transfers: [i64; MOST_DISTRIBUTORS], balances: [Pesos; MOST_DISTRIBUTORS]) {
     let mut text = io::buffer();
-    let column = amounts(balances);
-    let end = write_rows(&mut text, 0, &transfers, 1, &column);
+    let column = balance_words(balances);
+    let end = write_rows(&mut text, 0, &transfers, 1, true, &column);
     print(&text, end);
 }
 

@@ -30,11 +30,15 @@ fn words() {
     );
     report(
         b"prices in force in a regular fixing",
-        b"fix 0 1 1 0 series 0 lines 0 sectors 0 inforce 0 prices 0\n",
+        b"fix 0 1 1 0 series 0 lines 0 sectors 0 inforce 0 prices 0 power 0\n",
     );
     report(
         b"an interim fixing without prices in force",
-        b"interim 0 1 1 0 series 0 lines 0 sectors 0 prices 0\n",
+        b"interim 0 1 1 0 series 0 lines 0 sectors 0 prices 0 power 0\n",
+    );
+    report(
+        b"a fixing without a power list",
+        b"fix 0 1 1 0 series 0 lines 0 sectors 0 prices 0\nsave\n",
     );
     report(b"a comment in a word", b"op#en\n");
 }
@@ -84,6 +88,10 @@ fn lists() {
     report(
         b"a lent list too long",
         b"settle 0 readings 0 losses 0 transfers 8193\n",
+    );
+    report(
+        b"a power list too long",
+        b"fix 0 1 1 0 series 0 lines 0 sectors 0 prices 8192 power 8193\n",
     );
     report(
         b"the longest lent list",

@@ -11,12 +11,13 @@ use Rattle.commands.proofs.answer.call_fixing.Statement.{statement}
 use Rattle.commands.proofs.answer.call_fixing.Tie as tie
 
 abbrev start : tie.After-words-of3 → tie.Start
-start c = c .before .before .before .before .before
+start c = c .before .before .before .before .before .before
 
 returns : tie.Need-returns
 unfolding fixingCall partsIn listBelow
 returns c =
-    let w = c .before .before .before in
+    let i = c .before .before .before in
+    let w = i .before .before .before in
     let l = w .before .before in
     rw (
       w .before .if1 .taken,
@@ -24,14 +25,16 @@ returns c =
       ← l .before .words-of2 .ensures,
       ← l .words-of3 .ensures,
       ← w .words-of4 .ensures,
-      ← start l .pre .1,
+      ← start l .pre .1 .0,
+      ← start l .pre .1 .1,
     )
-    (c .before .interim .ensures)
+    (i .interim .ensures)
 
 returns-2 : tie.Need-returns-2
 unfolding fixingCall partsIn listBelow
 returns-2 c =
-    let e = c .before .before .before in
+    let f = c .before .before .before in
+    let e = f .before .before .before in
     let l = e .before in
     let s = start l in
     rw (
@@ -41,20 +44,21 @@ returns-2 c =
       ← l .before .before .words-of .ensures,
       ← l .before .words-of2 .ensures,
       ← l .words-of3 .ensures,
-      ← s .pre .1,
+      ← s .pre .1 .0,
+      ← s .pre .1 .1,
     )
-    (c .before .fix .ensures)
+    (f .fix .ensures)
 
 pub call-fixing-spec : {M : Type 1} → statement M
 call-fixing-spec =
     tie.close
     (tie.spec
     (λ c. search needs) (λ c. search needs) (λ c. search needs) (λ c. search needs)
-    (λ c κs. part-lies (c .before .before .pre .0) 4 (omega arith))
-    (λ c κs. part-lies (c .before .before .before .pre .0) 5 (omega arith))
-    (λ c κs. part-lies (c .before .before .before .before .pre .0) 6 (omega arith))
-    (λ c κs. part-lies (c .before .before .before .before .before .before .pre .0) 7 (omega arith))
-    (λ c κs. search needs) (λ c. search needs)
+    (λ c κs. part-lies (c .before .before .before .pre .0) 4 (omega arith))
+    (λ c κs. part-lies (c .before .before .before .before .pre .0) 5 (omega arith))
+    (λ c κs. part-lies (c .before .before .before .before .before .pre .0) 6 (omega arith))
+    (λ c κs. part-lies (c .before .before .before .before .before .before .before .pre .0) 7 (omega arith))
+    (λ c κs. search needs) (λ c. search needs) (λ c. search needs)
     returns
-    (λ c κs. search needs) (λ c. search needs)
+    (λ c κs. search needs) (λ c. search needs) (λ c. search needs)
     returns-2)

@@ -10,27 +10,30 @@ use borrow.Author.Needs.{needs}
 use Rattle.commands.proofs.answer.run_settle.Statement.{statement}
 use Rattle.commands.proofs.answer.run_settle.Tie as tie
 
+lent-requires : tie.Need-lent-requires
+lent-requires c κs =
+    let l = c .before in
+    rw (l .list-buffer .ensures) (l .before .before .before .before .before .before .pre .bounded 3 (omega arith))
+
 returns : tie.Need-returns
 unfolding settlementCall settlementText settlementVerdict partsIn listBelow
 returns c =
-    let a = c .before .before .before .before .before .before in
+    let w = c .before .before .before in
+    let a = w .before .before .before .before in
     let l = a .before .before in
     let v = l .before .before .before in
     let m = v .before .before .before in
-    let losses = m .before .before in
+    let lent = m .before .before in
+    let losses = lent .before .before .before in
     let promise = m .settle .ensures in
-    rw (
-      ← losses .before .words-of .ensures,
-      ← losses .words-of2 .ensures,
-      ← losses .before .before .before .before .before .pre .1,
-    )
+    rw (← losses .before .words-of .ensures, ← losses .words-of2 .ensures, ← lent .lent .ensures)
     (record {
       booked = promise .booked;
-      answered = c .before .before .write-answer .ensures
+      answered = w .write-settled .ensures
           ∙ rw (
             l .outcome-line .ensures,
             v .verdict-number .ensures,
-            a .amounts .ensures,
+            a .balance-words .ensures,
             promise .listed,
             promise .booked,
             promise .judged .answered,
@@ -41,8 +44,10 @@ pub run-settle-spec : {M : Type 1} → statement M
 run-settle-spec =
     tie.close
     (tie.spec
-    (λ c κs. part-lies (c .before .before .before .pre .0) 1 (omega arith))
-    (λ c κs. part-lies (c .before .before .before .before .pre .0) 2 (omega arith))
+    (λ c κs. part-lies (c .before .before .before .pre) 1 (omega arith))
+    (λ c κs. part-lies (c .before .before .before .before .pre) 2 (omega arith))
+    (λ c κs. search needs) (λ c. search needs) (λ c. search needs)
+    lent-requires
     (λ c. search needs) (λ c κs. search needs) (λ c κs. search needs) (λ c κs. search needs) (λ c κs. search needs)
-    (λ c. search needs) (λ c κs. search needs) (λ c. search needs) (λ c. search needs)
+    (λ c. search needs) (λ c κs. search needs) (λ c. search needs)
     returns)

@@ -1,11 +1,10 @@
 -- The first places are filled, and are what is lent.
 use mathlib.Core.Path.{_≡_, sym, _∙_, ap}
-use mathlib.Core.List.{List, _++_}
-use lib.IntN.{ℤ, negsuc}
-use lib.ListN.{length, take}
-use lib.Seq.{length-take-le, take-at}
-use Rattle.numbers.proofs.ListLaws.{list-length}
+use lib.IntN.{negsuc}
+use lib.Seq.{length-take-le}
+use Rattle.numbers.specs.Bounded.{listBelow}
 use Rattle.commands.specs.Replay.{unwritten}
+use Rattle.commands.proofs.LentLaws.{first-lent, first-long}
 use borrow.Author.Needs.{needs}
 use Rattle.commands.proofs.call.lent.Statement.{statement}
 use Rattle.commands.proofs.call.lent.Tie as tie
@@ -13,28 +12,16 @@ use Rattle.commands.proofs.call.lent.Tie as tie
 slice-aggregate-lend : tie.Need-slice-aggregate-lend
 slice-aggregate-lend c = sym (length-take-le _ _ (c .before .pre))
 
--- what was filled
-module _ (d : tie.After-lend) where
-  abbrev s : tie.Start
-  s = d .before .before
-
-  filled : d .lend .last .0 ≡ unwritten (s .args .count)
-  filled = d .lend .ensures ∙ ap unwritten (length-take-le _ _ (s .pre))
-
-  long : length (unwritten (s .args .count)) ≡ s .args .count
-  unfolding unwritten
-  long = list-length (λ i. negsuc 0) (s .args .count)
-
-  first : (rest : List ℤ) → take (s .args .count) (d .lend .last .0 ++ rest) ≡ unwritten (s .args .count)
-  first rest =
-      ap (λ (l : List ℤ). take (s .args .count) (l ++ rest)) filled
-      ∙ take-at (unwritten (s .args .count)) rest (s .args .count) long
+filled : (d : tie.After-lend) → d .lend .last .0 ≡ listBelow (d .before .before .args .count) (λ i. negsuc 0)
+unfolding unwritten
+filled d = d .lend .ensures ∙ ap (λ k. listBelow k (λ i. negsuc 0)) (length-take-le _ _ (d .before .before .pre))
 
 slice-aggregate-result : tie.Need-slice-aggregate-result
-slice-aggregate-result c = let d = c .before .before in sym (ap length (first d _) ∙ long d)
+slice-aggregate-result c = first-long _ _ _ (filled (c .before .before)) _
 
 returns : tie.Need-returns
-returns c = first (c .before .before) _
+unfolding unwritten
+returns c = first-lent _ _ _ (filled (c .before .before)) _
 
 pub lent-spec : {M : Type 1} → statement M
 lent-spec =

@@ -1,28 +1,20 @@
 -- Each arm makes its command with the parts of its form.
 use mathlib.Core.Path.{_≡_, refl}
-use Prim.Native.Nat.{ℕ, _≤_, _<_}
-use native.Mathlib.Omega.{arith}
 use lib.ListN.{length}
 use Rattle.numbers.specs.Bounded.{listBelow}
 use Rattle.text.specs.Buffer.{written}
-use Rattle.journal.specs.Form.{partCount, partAt, boundOf, numberOf, partsIn, FormHeld}
-use Rattle.journal.specs.Command.{longestList, commandForm}
+use Rattle.journal.specs.Form.{partsIn, FormHeld}
+use Rattle.journal.specs.Command.{commandForm}
 use Rattle.journal.specs.declared.command.Command.{Command}
 use Rattle.journal.specs.declared.command.Command.the-variants.{Fix, Settle, Load, Interim}
 use borrow.Author.Needs.{needs}
 use Rattle.commands.proofs.run.make_command.Statement.{statement}
 use Rattle.commands.proofs.run.make_command.Tie as tie
 
--- a list that is lent is no longer than the one at hand
-few : (s : tie.Start) (command : Command) → s .args .command ≡ command → (k : ℕ) → k < partCount →
-    boundOf (partAt (commandForm command) k) ≡ longestList →
-    numberOf (s .args .parts) k ≤ length (s .args .list .now)
-few s command told k p e = rw (s .pre .1, ← e, ← told) (s .pre .0 .bounded k p)
-
 -- its parts are those of its form
 held : (s : tie.Start) (command : Command) → s .args .command ≡ command →
     FormHeld (commandForm command) (s .args .parts) (length (s .args .words .now))
-held s command told = rw told at (s .pre .0)
+held s command told = rw told at (s .pre)
 
 returns : tie.Need-returns
 unfolding written
@@ -43,21 +35,12 @@ make-command-spec =
     (λ c. search needs) (λ c. search needs) (λ c. search needs) (λ c. search needs) (λ c κs. search needs)
     (λ c. search needs) (λ c κs. search needs) (λ c. search needs)
     (λ c κs. held (c .before .before .before .before .before .before) Load (c .before .enum-told5 .given .1))
-    (λ c. search needs) (λ c. search needs)
-    (λ c κs. few (c .before .before .before .before .before .before) Fix (c .before .enum-told6 .given .1) 8
-    (omega arith) refl)
-    (λ c κs. let t = c .before .before .before in
-    (held (t .before .before .before .before .before) Fix (t .enum-told6 .given .1), c .before .lent .ensures))
-    (λ c. search needs) (λ c. search needs)
-    (λ c κs. few (c .before .before .before .before .before .before) Settle (c .before .enum-told7 .given .1) 3
-    (omega arith) refl)
-    (λ c κs. let t = c .before .before .before in
-    (held (t .before .before .before .before .before) Settle (t .enum-told7 .given .1), c .before .lent2 .ensures))
-    (λ c. search needs) (λ c. search needs)
-    (λ c κs. few (c .before .before .before .before .before .before) Interim (c .before .enum-told8 .given .1) 8
-    (omega arith) refl)
-    (λ c κs. let t = c .before .before .before in
-    (held (t .before .before .before .before .before) Interim (t .enum-told8 .given .1), c .before .lent3 .ensures))
+    (λ c. search needs)
+    (λ c κs. held (c .before .before .before .before .before .before) Fix (c .before .enum-told6 .given .1))
+    (λ c. search needs)
+    (λ c κs. held (c .before .before .before .before .before .before) Settle (c .before .enum-told7 .given .1))
+    (λ c. search needs)
+    (λ c κs. held (c .before .before .before .before .before .before) Interim (c .before .enum-told8 .given .1))
     returns
     returns-2
     (λ c. search needs)
@@ -66,12 +49,9 @@ make-command-spec =
     (λ c. let r = c .before .before in rw (r .before .before .enum-told4 .given .1) (r .run-save .ensures))
     (λ c. search needs)
     (λ c. let r = c .before .before in rw (r .before .before .enum-told5 .given .1) (r .run-load .ensures))
-    (λ c. search needs) (λ c. search needs)
-    (λ c. let r = c .before .before .before in
-    rw (r .before .before .before .before .enum-told6 .given .1) (r .run-fixing .ensures))
-    (λ c. search needs) (λ c. search needs)
-    (λ c. let r = c .before .before .before in
-    rw (r .before .before .before .before .enum-told7 .given .1) (r .run-settle .ensures))
-    (λ c. search needs) (λ c. search needs)
-    (λ c. let r = c .before .before .before in
-    rw (r .before .before .before .before .enum-told8 .given .1) (r .run-fixing2 .ensures)))
+    (λ c. search needs)
+    (λ c. let r = c .before .before in rw (r .before .before .enum-told6 .given .1) (r .run-fixing .ensures))
+    (λ c. search needs)
+    (λ c. let r = c .before .before in rw (r .before .before .enum-told7 .given .1) (r .run-settle .ensures))
+    (λ c. search needs)
+    (λ c. let r = c .before .before in rw (r .before .before .enum-told8 .given .1) (r .run-fixing2 .ensures)))

@@ -12,7 +12,7 @@ read-form-requires : tie.Need-read-form-requires
 read-form-requires c κs =
     let n = c .before .before in
     rw (c .before .form-of .ensures)
-    (omega (arith, form-room (n .next-command .result .command), n .before .before .word-buffer .ensures))
+    (omega (arith, form-room (n .next-command .result .command), n .before .word-buffer .ensures))
 
 -- what was read of the form
 module _ (r : tie.After-read-form) where
@@ -20,7 +20,7 @@ module _ (r : tie.After-read-form) where
   n = r .before .before .before
 
   abbrev s : tie.Start
-  s = n .before .before .before .before .before
+  s = n .before .before .before .before
 
   abbrev read : CommandRead
   read = n .next-command .result
@@ -36,25 +36,24 @@ returns c =
 
 make-command-requires : tie.Need-make-command-requires
 make-command-requires c κs =
-    let r = c .before .before .before .before .before .before .before in
-    (follows r .held, n r .before .lent-buffer .ensures)
+    follows (c .before .before .before .before .before .before) .held
 
 returns-2 : tie.Need-returns-2
 returns-2 c =
-    let m = c .before .before .before .before in
-    let r = m .before .before .before .before .before .before .before .before in
+    let m = c .before .before .before in
+    let r = m .before .before .before .before .before .before .before in
     command-made _ _ _ (read r) (n r .next-command .ensures) _ (follows r .next)
-    (m .before .before .before .before .before .if1 .left) _ (follows r .parts) _ _ _ (s r .pre)
+    (m .before .before .before .before .if1 .left) _ (follows r .parts) _ _ _ (s r .pre)
     (m .make-command .ensures)
 
 pub run-command-spec : {M : Type 1} → statement M
 run-command-spec =
     tie.close
     (tie.spec
-    (λ c κs. search needs) (λ c κs. search needs) (λ c κs. search needs) (λ c κs. search needs) (λ c. search needs)
+    (λ c κs. search needs) (λ c κs. search needs) (λ c κs. search needs) (λ c. search needs)
     read-form-requires
     returns
-    (λ c. search needs) (λ c. search needs)
+    (λ c. search needs)
     make-command-requires
     (λ c. search needs)
     returns-2)
