@@ -20,14 +20,33 @@ loop-again c = (
   ⊎-elim (λ w. omega arith) (λ w. omega arith) (c .if3 .came),
 )
 
+slice-aggregate-fix : tie.Need-slice-aggregate-fix Inv-loop μ-loop
+slice-aggregate-fix c = search needs
+
+slice-aggregate-fix-2 : tie.Need-slice-aggregate-fix-2 Inv-loop μ-loop
+slice-aggregate-fix-2 c = search needs
+
+slice-aggregate-fix-3 : tie.Need-slice-aggregate-fix-3 Inv-loop μ-loop
+slice-aggregate-fix-3 c = search needs
+
+-- the lists are lent again as they were before the loop
+abbrev lent : tie.At-loop Inv-loop μ-loop → tie.After-sectors2 Inv-loop μ-loop
+lent l = l .before .before .before .before .before
+
 pub make-calls-spec : {M : Type 1} → statement M
 make-calls-spec =
     tie.close
     (tie.spec
     Inv-loop
     μ-loop
-    (λ c κs. search needs) (λ c κs. search needs)
-    (λ c. omega arith)
+    (λ c κs. search needs)
+    slice-aggregate-fix
+    slice-aggregate-fix-2
+    slice-aggregate-fix-3
+    (λ c κs. search needs) (λ c. omega arith)
+    (λ c. slice-aggregate-fix (lent (c .before .before .before .before) .before .before))
+    (λ c. slice-aggregate-fix-2 (lent (c .before .before .before .before .before) .before))
+    (λ c. slice-aggregate-fix-3 (lent (c .before .before .before .before .before .before)))
     (λ c κs. search needs) (λ c κs. search needs) (λ c κs. search needs)
     (λ c. omega arith)
     (λ c κs. search needs) (λ c κs. search needs) (λ c κs. search needs)
