@@ -14,6 +14,7 @@ use ledger::settle::SettlementOutcome;
 use ledger::settle::settle;
 use numbers::refusal::verdict_number;
 use numbers::sizes::MOST_DISTRIBUTORS;
+use supply::market::FixingNumbers;
 
 // How many calls were accepted, the last fixing and the ledger of the last settlement.
 pub(crate) struct Results {
@@ -30,15 +31,16 @@ fn accepted(number: u64) -> u64
     if number == 0 { 1 } else { 0 }
 }
 
-// The settlement of the load; the two lists have one lifetime, so that both are lent out of one struct.
+// The settlement of the load, for the fixing's month; the two lists have one lifetime, so that both are lent out of one
+// struct.
 fn settle_load<'a>(
     ledger: Ledger,
-    month: u64,
+    numbers: FixingNumbers,
     readings: &'a [u64; READINGS],
     losses: &'a [u64; LOSSES],
     transfers: &mut [i64; MOST_DISTRIBUTORS],
 ) -> SettlementOutcome {
-    settle(ledger, month, readings, losses, transfers)
+    settle(ledger, numbers.month, readings, losses, transfers)
 }
 
 // Makes one fixing that is not counted, for the ledger of the settlements, then the calls.
@@ -51,7 +53,6 @@ pub(crate) fn make_calls(
 ) -> Results {
     let opened = open(MOST_DISTRIBUTORS).ledger;
     let numbers = load.numbers;
-    let month = numbers.month;
     let series = load.series;
     let lines = load.lines;
     let sectors = load.sectors;
@@ -68,7 +69,7 @@ pub(crate) fn make_calls(
             fixings += accepted(fixing_number(answer));
         }
         if task.settlements {
-            let settlement = settle_load(fixed, month, &load.readings, &load.losses, transfers);
+            let settlement = settle_load(fixed, numbers, &load.readings, &load.losses, transfers);
             let verdict = settlement.verdict;
             settled = settlement.ledger;
             settlements += accepted(verdict_number(verdict));

@@ -7,11 +7,11 @@ use Rattle.timing.proofs.calls.make_calls.Statement.{statement}
 use Rattle.timing.proofs.calls.make_calls.Tie as tie
 
 abbrev Inv-loop : tie.InvT-loop
-Inv-loop task _ _ _ _ _ _ _ _ _ _ _ _ _ _ _ _ _ _ _ _ _ fixings settlements run =
+Inv-loop task _ _ _ _ _ _ _ _ _ _ _ _ _ _ _ _ _ _ _ _ fixings settlements run =
     (run ≤ task .count) × (fixings ≤ run) × (settlements ≤ run)
 
 abbrev μ-loop : tie.MeasureT-loop
-μ-loop task _ _ _ _ _ _ _ _ _ _ _ _ _ _ _ _ _ _ _ _ _ _ _ run = task .count - run
+μ-loop task _ _ _ _ _ _ _ _ _ _ _ _ _ _ _ _ _ _ _ _ _ _ run = task .count - run
 
 loop-again : tie.Need-loop-again Inv-loop μ-loop
 loop-again c = (
