@@ -7,7 +7,7 @@ ghost use Rattle.commands.specs.Replay.{unwritten, unwrittenPower};
 use answers::answer::UNWRITTEN;
 use answers::answer::UNWRITTEN_WORD;
 
-// Lists of the longest length, from functions so that no goal writes their words out.
+// Room for the longest list of each kind, from functions as in run.rt.
 pub(crate) fn list_buffer() -> [i64; 8192]
     ensures { λ r. ⌜ length r ≡ longestList ⌝ }
 {

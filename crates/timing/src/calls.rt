@@ -1,7 +1,6 @@
 // The calls that are timed: each is given the same ledger and the same lent lists every time.
 ghost use Prim.Native.Nat.{_≤_};
 use crate::arguments::Task;
-use crate::load::LINES;
 use crate::load::LOSSES;
 use crate::load::Load;
 use crate::load::READINGS;
@@ -15,8 +14,6 @@ use ledger::settle::SettlementOutcome;
 use ledger::settle::settle;
 use numbers::refusal::verdict_number;
 use numbers::sizes::MOST_DISTRIBUTORS;
-use numbers::sizes::PLACES;
-use series::table::WORDS;
 use supply::market::FixingNumbers;
 
 // How many calls were accepted, the last fixing and the ledger of the last settlement.
@@ -34,28 +31,16 @@ fn accepted(number: u64) -> u64
     if number == 0 { 1 } else { 0 }
 }
 
-// The fixing of the load.
-fn fix_load(
-    ledger: Ledger,
-    numbers: FixingNumbers,
-    series: &[u64; WORDS],
-    lines: &[u64; LINES],
-    sectors: &[u64; PLACES],
-    prices: &mut [i64; PRICES],
-    power: &mut [u64; MOST_DISTRIBUTORS],
-) -> FixingOutcome {
-    fix(ledger, numbers, series, lines, sectors, prices, power)
-}
-
-// The settlement of the load; the two lists have one lifetime, so that both are lent out of one struct.
+// The settlement of the load, for the fixing's month; the two lists have one lifetime, so that both are lent out of one
+// struct.
 fn settle_load<'a>(
     ledger: Ledger,
-    month: u64,
+    numbers: FixingNumbers,
     readings: &'a [u64; READINGS],
     losses: &'a [u64; LOSSES],
     transfers: &mut [i64; MOST_DISTRIBUTORS],
 ) -> SettlementOutcome {
-    settle(ledger, month, readings, losses, transfers)
+    settle(ledger, numbers.month, readings, losses, transfers)
 }
 
 // Makes one fixing that is not counted, for the ledger of the settlements, then the calls.
@@ -68,11 +53,10 @@ pub(crate) fn make_calls(
 ) -> Results {
     let opened = open(MOST_DISTRIBUTORS).ledger;
     let numbers = load.numbers;
-    let month = numbers.month;
     let series = load.series;
     let lines = load.lines;
     let sectors = load.sectors;
-    let mut fixing = fix_load(opened, numbers, &series, &lines, &sectors, prices, power);
+    let mut fixing = fix(opened, numbers, &series, &lines, &sectors, prices, power);
     let fixed = fixing.ledger;
     let mut settled = fixed;
     let mut fixings: u64 = 0;
@@ -80,12 +64,12 @@ pub(crate) fn make_calls(
     let mut run: u64 = 0;
     while run < task.count {
         if task.fixings {
-            fixing = fix_load(opened, numbers, &series, &lines, &sectors, prices, power);
+            fixing = fix(opened, numbers, &series, &lines, &sectors, prices, power);
             let answer = fixing.answer;
             fixings += accepted(fixing_number(answer));
         }
         if task.settlements {
-            let settlement = settle_load(fixed, month, &load.readings, &load.losses, transfers);
+            let settlement = settle_load(fixed, numbers, &load.readings, &load.losses, transfers);
             let verdict = settlement.verdict;
             settled = settlement.ledger;
             settlements += accepted(verdict_number(verdict));

@@ -144,28 +144,31 @@ fn mixed_power(line: u64, word: u64) -> u64
 }
 
 // A word of a line: six of its own, five for each of four terms, then four for power.
-fn even_line(line: u64, word: u64) -> u64
+fn line_word(mixed: bool, line: u64, word: u64) -> u64
     requires { ⌜ line < mostLines ⌝ }
 {
     if word < TERMS_START {
-        return even_head(line, word);
+        return if mixed {
+            mixed_head(line, word)
+        } else {
+            even_head(line, word)
+        };
     }
-    if word < POWER_START {
-        return even_term((word - TERMS_START) / 5, (word - TERMS_START) % 5);
+    if POWER_START <= word {
+        let part = word - POWER_START;
+        return if mixed {
+            mixed_power(line, part)
+        } else {
+            even_power(part)
+        };
     }
-    even_power(word - POWER_START)
-}
-
-fn mixed_line(line: u64, word: u64) -> u64
-    requires { ⌜ line < mostLines ⌝ }
-{
-    if word < TERMS_START {
-        return mixed_head(line, word);
+    let term = (word - TERMS_START) / 5;
+    let part = (word - TERMS_START) % 5;
+    if mixed {
+        mixed_term(line, term, part)
+    } else {
+        even_term(term, part)
     }
-    if word < POWER_START {
-        return mixed_term(line, (word - TERMS_START) / 5, (word - TERMS_START) % 5);
-    }
-    mixed_power(line, word - POWER_START)
 }
 
 fn mixed_series(place: u64) -> u64
@@ -202,7 +205,7 @@ fn even_word(list: List, place: u64) -> u64
 {
     match list {
         List::Series => 10000,
-        List::Lines => even_line(place / WORDS_OF_LINE, place % WORDS_OF_LINE),
+        List::Lines => line_word(false, place / WORDS_OF_LINE, place % WORDS_OF_LINE),
         List::Sectors => 10000,
         List::Readings => 1000,
         List::Losses => 10500,
@@ -214,7 +217,7 @@ fn mixed_word(list: List, place: u64) -> u64
 {
     match list {
         List::Series => mixed_series(place),
-        List::Lines => mixed_line(place / WORDS_OF_LINE, place % WORDS_OF_LINE),
+        List::Lines => line_word(true, place / WORDS_OF_LINE, place % WORDS_OF_LINE),
         List::Sectors => mixed_sector(place),
         List::Readings => mixed_reading(place),
         List::Losses => 10000 + 97 * place % 1501,
