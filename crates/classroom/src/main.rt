@@ -11,6 +11,7 @@ use series::table::CPI;
 use series::table::MONTHS;
 use series::table::WORDS;
 use supply::line::LINE_WORDS;
+use supply::line::POWER_START;
 use supply::market::FixingNumbers;
 use text::line::write_line;
 use text::row::write_rows;
@@ -32,10 +33,11 @@ fn set_line(lines: &mut [u64; LINES], distributor: usize, base: u64, energy: u64
     lines[at + 2] = 10000;
     lines[at + 3] = 10000;
     lines[at + 4] = energy;
-    lines[at + 26] = 10000;
-    lines[at + 27] = 1;
-    lines[at + 28] = 1;
-    lines[at + 29] = 10000;
+    let power = at + POWER_START;
+    lines[power] = 10000;
+    lines[power + 1] = 1;
+    lines[power + 2] = 1;
+    lines[power + 3] = 10000;
 }
 
 fn lines() -> [u64; LINES] {

@@ -11,15 +11,16 @@ pub const MOST_LINES: usize = 256;
 pub const MOST_TERMS: usize = 4;
 
 // The power term stands after a line's own, whatever their count.
-pub const POWER_TERM: usize = MOST_TERMS;
+pub(crate) const POWER_TERM: usize = MOST_TERMS;
 
 pub(crate) const TERM_PLACES: usize = POWER_TERM + 1;
 
-const TERMS_START: usize = 6;
+// Where a line's terms start, how long each is, and where its power words start.
+pub const TERMS_START: usize = 6;
 
-const TERM_WORDS: usize = 5;
+pub const TERM_WORDS: usize = 5;
 
-const POWER_START: usize = TERMS_START + MOST_TERMS * TERM_WORDS;
+pub const POWER_START: usize = TERMS_START + MOST_TERMS * TERM_WORDS;
 
 pub const LINE_WORDS: usize = POWER_START + 4;
 

@@ -9,6 +9,9 @@ use series::table::MONTHS;
 use series::table::WORDS;
 use supply::line::LINE_WORDS;
 use supply::line::MOST_LINES;
+use supply::line::POWER_START;
+use supply::line::TERM_WORDS;
+use supply::line::TERMS_START;
 use supply::market::FixingNumbers;
 
 // The lengths of the lists that have no name elsewhere: four readings a sector, two loss factors a distributor.
@@ -25,10 +28,11 @@ const WORDS_OF_LINE: u64 = LINE_WORDS as u64;
 
 const SERIES_MONTHS: u64 = MONTHS as u64;
 
-// Where the words of a line's terms start, and those of its power.
-const TERMS_START: u64 = 6;
+const OWN_WORDS: u64 = TERMS_START as u64;
 
-const POWER_START: u64 = WORDS_OF_LINE - 4;
+const WORDS_OF_TERM: u64 = TERM_WORDS as u64;
+
+const POWER_PLACE: u64 = POWER_START as u64;
 
 // The lists that the calls are lent, and the fixing's numbers.
 pub(crate) struct Load {
@@ -147,23 +151,23 @@ fn mixed_power(line: u64, word: u64) -> u64
 fn line_word(mixed: bool, line: u64, word: u64) -> u64
     requires { ⌜ line < mostLines ⌝ }
 {
-    if word < TERMS_START {
+    if word < OWN_WORDS {
         return if mixed {
             mixed_head(line, word)
         } else {
             even_head(line, word)
         };
     }
-    if POWER_START <= word {
-        let part = word - POWER_START;
+    if POWER_PLACE <= word {
+        let part = word - POWER_PLACE;
         return if mixed {
             mixed_power(line, part)
         } else {
             even_power(part)
         };
     }
-    let term = (word - TERMS_START) / 5;
-    let part = (word - TERMS_START) % 5;
+    let term = (word - OWN_WORDS) / WORDS_OF_TERM;
+    let part = (word - OWN_WORDS) % WORDS_OF_TERM;
     if mixed {
         mixed_term(line, term, part)
     } else {
