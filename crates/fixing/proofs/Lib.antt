@@ -11,5 +11,5 @@ pub mod SectorLaws
 pub mod InputLaws
 pub mod FixingLaws
 pub mod VerdictLaws
-pub mod ApartLaws
+pub mod IndependenceLaws
 pub mod Computed

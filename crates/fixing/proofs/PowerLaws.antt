@@ -20,7 +20,7 @@ use Rattle.supply.specs.Price.{powerPrice, powerList}
 use Rattle.fixing.specs.Average.{ownPart, ownSum, linesAmount, suppliedEnergy, averagePrice}
 use Rattle.fixing.specs.Power.{powerOf, powerAverages, million}
 use Rattle.fixing.specs.Input.{FixingInput, inputMean, inputPowerPrices, inputPower, inputPowerAverage}
-use Rattle.fixing.specs.Required.{PoweredLines, PartsWithin}
+use Rattle.fixing.specs.Required.{PowerPricedLines, PartsWithin}
 use Rattle.fixing.proofs.AverageLaws.{Held, amount-within, energy-most}
 
 -- what a line comes to at a part of its price, and what a pass keeps of it
@@ -37,15 +37,15 @@ abbrev pub PartsHeld : (ℕ → ℕ) → List PowerPrice → List ℕ → ℕ �
 PartsHeld part prices lines = Held (λ x. x) (λ x. x) (λ x. refl) (λ x. refl) lines (partOf part prices lines)
 
 -- a line's parts are small
-module _ (prices : List PowerPrice) (lines : List ℕ) (ok : PoweredLines prices lines) (j : ℕ) (p : j < lineCount lines)
-  where
-    pub millions-most : partOf millionsOf prices lines j ≤ 2000000000000
-    millions-most =
-        mul-le-mul {n₂ = 200000} (let most = ok .powered j p in omega arith)
-        (ok .own .checked .facts j p .energyMost)
+module _ (prices : List PowerPrice) (lines : List ℕ) (ok : PowerPricedLines prices lines) (j : ℕ)
+    (p : j < lineCount lines) where
+  pub millions-most : partOf millionsOf prices lines j ≤ 2000000000000
+  millions-most =
+      mul-le-mul {n₂ = 200000} (let most = ok .priced j p in omega arith)
+      (ok .own .checked .facts j p .energyMost)
 
-    pub rest-most : partOf restOf prices lines j ≤ 10000000000000
-    rest-most = mul-le-mul {n₂ = million} (omega arith) (ok .own .checked .facts j p .energyMost)
+  pub rest-most : partOf restOf prices lines j ≤ 10000000000000
+  rest-most = mul-le-mul {n₂ = million} (omega arith) (ok .own .checked .facts j p .energyMost)
 
 -- the parts make up the whole
 module _ (price : ℕ → ℕ) (lines : List ℕ) (i : ℕ) where
@@ -89,7 +89,7 @@ average-whole millions rest energy some =
     ∙ ap (λ x. halfUp x energy) same
 
 -- what a distributor's lines come to can be divided
-pub parts-within : (prices : List PowerPrice) (lines : List ℕ) → PoweredLines prices lines → (i : ℕ) →
+pub parts-within : (prices : List PowerPrice) (lines : List ℕ) → PowerPricedLines prices lines → (i : ℕ) →
     1 ≤ suppliedEnergy lines i →
     PartsWithin (linesAmount (λ j. millionsOf (powerOf prices j)) lines i)
     (linesAmount (λ j. restOf (powerOf prices j)) lines i) (suppliedEnergy lines i)
@@ -99,7 +99,7 @@ parts-within prices lines ok i some =
       most = energy-most lines (ok .own) i;
       millionsMost =
           amount-within (λ j. millionsOf (powerOf prices j)) lines 200000
-          (λ j p. let most = ok .powered j p in omega arith) i;
+          (λ j p. let most = ok .priced j p in omega arith) i;
       restMost = amount-within (λ j. restOf (powerOf prices j)) lines million (λ j p. omega arith) i;
     }
 

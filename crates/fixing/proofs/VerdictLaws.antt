@@ -39,7 +39,7 @@ use Rattle.fixing.specs.Input.{FixingInput, indexTable, inputMean, range
 use Rattle.fixing.specs.Input.{inputChecks, inputVerdict, inputReferences, inputPowerPrices, inputPower}
 use Rattle.fixing.specs.Input.{inputAverages, inputEnergies}
 use Rattle.fixing.specs.Fixing.{refusedFixing, acceptedFixing, fixingBy, workedFixing, fixingOf, InputPromise}
-use Rattle.fixing.specs.Required.{OwnLines, AcceptedLines, PoweredLines, RightLengths, CheckedInput}
+use Rattle.fixing.specs.Required.{OwnLines, AcceptedLines, PowerPricedLines, RightLengths, CheckedInput}
 use Rattle.fixing.specs.declared.fix.Fixing.{Fixing}
 use Rattle.fixing.proofs.InputLaws.{own-lines, accepted-range}
 
@@ -97,13 +97,13 @@ module _ (n : ℕ) (input : FixingInput) where
             (omega (arith, ok .lengths .lines))))
 
     -- and so can power prices
-    pub checked-powered : beyondLine input ≡ none → (power : List PowerPrice) → power ≡ inputPowerPrices input →
-        PoweredLines power (input .lines)
+    pub checked-power : beyondLine input ≡ none → (power : List PowerPrice) → power ≡ inputPowerPrices input →
+        PowerPricedLines power (input .lines)
     unfolding inputPowerPrices powerList
-    checked-powered h power e =
+    checked-power h power e =
         record {
           own = checked-own;
-          powered = λ j p.
+          priced = λ j p.
               rw (
                 e,
                 ap (λ x. x .0) (filled-at mostLines noPower
@@ -197,8 +197,8 @@ module _ (n : ℕ) (input : FixingInput) where
         priced-accepted =
             checked-accepted n input ok within (given .references) (ap (λ (p : LinePrices). p .references) prices-are)
 
-        pub priced-powered : PoweredLines (given .power) (input .lines)
-        priced-powered = checked-powered n input ok within (given .power) (ap (λ (p : LinePrices). p .power) prices-are)
+        pub priced-power : PowerPricedLines (given .power) (input .lines)
+        priced-power = checked-power n input ok within (given .power) (ap (λ (p : LinePrices). p .power) prices-are)
 
         pub priced-worked : (fixing : Fixing) →
             fixing ≡ acceptedFixing n (averageList n (given .references) (input .lines))

@@ -14,7 +14,7 @@ use Rattle.numbers.specs.declared.units.Energy.{Energy}
 use Rattle.numbers.specs.declared.units.UnsignedPesos.{UnsignedPesos}
 use Rattle.series.specs.Series.{wordCount, valuesInRange}
 use Rattle.supply.specs.Line.{mostLines, lineCount, lineOf}
-use Rattle.supply.specs.Required.{CheckedLines, mostPesoPower}
+use Rattle.supply.specs.Required.{CheckedLines, mostPowerInPesos}
 use Rattle.fixing.specs.Limit.{Distributors, InRange, limit}
 use Rattle.fixing.specs.Average.{everyoneSupplied}
 use Rattle.fixing.specs.Power.{million}
@@ -32,9 +32,9 @@ pub record PricedLines (prices : List PesoPrice) (lines : List ℕ) : Type 0 whe
   pub priced : (j : ℕ) → j < lineCount lines → getD prices j noPrice .0 ≤ mostPrice
 
 -- a power price for each line
-pub record PoweredLines (prices : List PowerPrice) (lines : List ℕ) : Type 0 where
+pub record PowerPricedLines (prices : List PowerPrice) (lines : List ℕ) : Type 0 where
   pub own : OwnLines lines
-  pub powered : (j : ℕ) → j < lineCount lines → getD prices j noPower .0 ≤ mostPesoPower
+  pub priced : (j : ℕ) → j < lineCount lines → getD prices j noPower .0 ≤ mostPowerInPesos
 
 -- an amount of power in two parts, each at prices of at most so much, and the energy that it is divided by
 pub record PartsWithin (millions rest energy : ℕ) : Type 0 where

@@ -10,7 +10,7 @@ ghost use Rattle.fixing.specs.Power.{powerAverages};
 ghost use Rattle.fixing.specs.Sector.{sectorsAllowed};
 ghost use Rattle.fixing.specs.Input.{inputOf};
 ghost use Rattle.fixing.specs.Fixing.{refusedFixing, acceptedFixing, InputPromise};
-ghost use Rattle.fixing.specs.Required.{AcceptedLines, PoweredLines, RightLengths};
+ghost use Rattle.fixing.specs.Required.{AcceptedLines, PowerPricedLines, RightLengths};
 use crate::average::averages;
 use crate::average::energies;
 use crate::average::every_energy;
@@ -83,7 +83,7 @@ fn accepted(
     energies: [Energy; MOST_DISTRIBUTORS],
     sectors: &[u64],
 ) -> Fixing
-    requires { ⌜ AcceptedLines n (priced .references) (now lines) ⌝ ∗ ⌜ PoweredLines (priced .power) (now lines) ⌝
+    requires { ⌜ AcceptedLines n (priced .references) (now lines) ⌝ ∗ ⌜ PowerPricedLines (priced .power) (now lines) ⌝
         ∗ ⌜ energies ≡ energyList (now lines) ⌝ ∗ ⌜ length (now sectors) ≡ n * sectorCount ⌝
         ∗ ⌜ sectorsAllowed n (now sectors) ≡ true ⌝ }
     ensures { λ r. ⌜ r ≡ acceptedFixing n (averageList n (priced .references) (now (lines .entry)))

@@ -9,7 +9,7 @@ ghost use Rattle.numbers.specs.Sizes.{mostDistributors};
 ghost use Rattle.numbers.specs.Units.{noPower};
 ghost use Rattle.fixing.specs.Average.{everyoneSupplied, energyList};
 ghost use Rattle.fixing.specs.Power.{million, powerAmounts, powerAverages};
-ghost use Rattle.fixing.specs.Required.{PoweredLines, PartsWithin};
+ghost use Rattle.fixing.specs.Required.{PowerPricedLines, PartsWithin};
 use numbers::rounding::half_up;
 use numbers::sizes::MOST_DISTRIBUTORS;
 use numbers::units::Energy;
@@ -27,7 +27,7 @@ struct PowerAmounts {
 
 // What the lines of each distributor come to at the power price of each line, in one pass.
 fn power_amounts(prices: [PowerPrice; MOST_LINES], lines: &[u64]) -> PowerAmounts
-    requires { ⌜ PoweredLines prices (now lines) ⌝ }
+    requires { ⌜ PowerPricedLines prices (now lines) ⌝ }
     ensures { λ r. ⌜ r ≡ powerAmounts prices (now (lines .entry)) ⌝ }
 {
     let count = line_count(lines);
@@ -71,7 +71,7 @@ pub(crate) fn power_averages(
     lines: &[u64],
     energies: [Energy; MOST_DISTRIBUTORS],
 ) -> [PowerPrice; MOST_DISTRIBUTORS]
-    requires { ⌜ n ≤ mostDistributors ⌝ ∗ ⌜ PoweredLines prices (now lines) ⌝
+    requires { ⌜ n ≤ mostDistributors ⌝ ∗ ⌜ PowerPricedLines prices (now lines) ⌝
         ∗ ⌜ energies ≡ energyList (now lines) ⌝ ∗ ⌜ everyoneSupplied n (now lines) ≡ true ⌝ }
     ensures { λ r. ⌜ r ≡ powerAverages n prices (now (lines .entry)) ⌝ }
 {

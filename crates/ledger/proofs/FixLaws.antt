@@ -88,7 +88,7 @@ module _ (ledger : Ledger) (call : FixingCall) where
         few = ap (roundsBelow (ledger .n)) given;
         booked = ap (λ (o : FixingOutcome). o .ledger) e ∙ rw v;
         listed = rw v;
-        powered = rw v;
+        powerListed = rw v;
       }
 
   module _ (first : FirstPass 3 (fixingChecks ledger call)) (fixing : Fixing)
@@ -133,5 +133,5 @@ module _ (ledger : Ledger) (call : FixingCall) where
               ap (λ (x : FixingOutcome). x .ledger) o
               ∙ ap (λ (f : Fixing). fixedLedger ledger (call .input .numbers .month) (f .sectors)) e ∙ rw v;
           listed = l ∙ ap (priceList (ledger .n)) e ∙ rw v;
-          powered = w ∙ ap (averagePowerList (ledger .n)) e ∙ rw v;
+          powerListed = w ∙ ap (averagePowerList (ledger .n)) e ∙ rw v;
         }

@@ -153,7 +153,7 @@ pub record FixingPromise (ledger : Ledger) (call : FixingCall) (given : FixingAn
   pub few : roundsBelow (ledger .n) given ≡ true
   pub booked : next ≡ fixingLedger ledger call
   pub listed : list ≡ fixingList ledger call
-  pub powered : power ≡ fixingPowerList ledger call
+  pub powerListed : power ≡ fixingPowerList ledger call
 
 -- what a fixing hands back, and that it was accepted
 pub record HandedBack : Type 0 where

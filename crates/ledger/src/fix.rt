@@ -331,7 +331,7 @@ pub fn interim(
 // "Prices, charges and ledger are untouched by any power input that passes" (document 02), of whatever `fix` and
 // `interim` hand back where they accept: two calls that agree in all but the lines' power words, and the lent lists as
 // found, have the same answer, ledger and price list. The function does nothing; its ensures is the statement.
-pub fn power_stands_apart()
+pub fn prices_independent_of_power()
     ensures { λ r. ⌜ ((ledger : Ledger) (one other : FixingCall) → SameButPower (one .input) (other .input) →
         (first second : HandedBack) → FixingAccepted ledger one first → FixingAccepted ledger other second →
         SameButPowerList first second) ⌝ }

@@ -43,7 +43,7 @@ use Rattle.supply.specs.Price.{answerAt, beyondAt, beyondIn, firstBeyond
 use Rattle.supply.specs.Price.{anyMoved, anyLineMoved, priceChecks, priceOr, referencePrice}
 use Rattle.supply.specs.Listed.{withinOrZero, indexedWord, indexedOrZero, indexedList, indexedReference}
 use Rattle.supply.specs.Listed.{powerOrZero, powerWords}
-use Rattle.supply.specs.Required.{TermFacts, LineFacts, mostPesoPower}
+use Rattle.supply.specs.Required.{TermFacts, LineFacts, mostPowerInPesos}
 use Rattle.supply.specs.declared.line.Term.{Term}
 use Rattle.supply.specs.declared.line.Line.{Line}
 use Rattle.supply.specs.declared.market.FixingNumbers.{FixingNumbers}
@@ -328,10 +328,10 @@ module _ (mean : Term → ℕ) (numbers : FixingNumbers) (lines inForce : List �
     word-power = power-allowed mean (lineOf lines j) (searched .2)
 
     -- and its power price is at most so much at every dollar
-    pub power-within : numbers .dollar ≤ 200000 → powerPrice mean numbers lines j .0 ≤ mostPesoPower
+    pub power-within : numbers .dollar ≤ 200000 → powerPrice mean numbers lines j .0 ≤ mostPowerInPesos
     unfolding powerPrice linePower powerPesoOf
     power-within most =
-        half-up-le (powerPurchase mean (lineOf lines j) * numbers .dollar) 100 (omega arith) mostPesoPower
+        half-up-le (powerPurchase mean (lineOf lines j) * numbers .dollar) 100 (omega arith) mostPowerInPesos
         (mul-le-mul {n₂ = mostPowerPrice} (power-bounds mean (lineOf lines j) (searched .2) .1) most)
 
   -- and the words tell whether any line moved

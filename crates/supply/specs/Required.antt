@@ -39,8 +39,8 @@ pub record CheckedLines (lines : List ℕ) : Type 0 where
   pub facts : (j : ℕ) → j < lineCount lines → LineFacts (lineOf lines j)
 
 -- what a power price in pesos is at most: 100,000,000 at a dollar of 200,000 hundredths of $
-abbrev pub mostPesoPower : ℕ
-mostPesoPower = 200000000000
+abbrev pub mostPowerInPesos : ℕ
+mostPowerInPesos = 200000000000
 
 pub record NumbersFacts (numbers : FixingNumbers) : Type 0 where
   pub dollarMost : numbers .dollar ≤ 200000

@@ -31,7 +31,7 @@ returns c =
             n .before .before .fixing-name .ensures,
             n .fixing-number .ensures,
             promise .listed,
-            promise .powered,
+            promise .powerListed,
             promise .answered,
           )
           refl;

@@ -12,7 +12,7 @@ use Rattle.fixing.specs.Input.{FixingInput, inputOf, ranged, supplied, i
 use Rattle.fixing.proofs.AverageLaws.{energies-tell}
 use Rattle.fixing.proofs.VerdictLaws.{no-line, ranged-own, checked-own, checked-numbers, checked-in-force}
 use Rattle.fixing.proofs.VerdictLaws.{checked-table}
-use Rattle.fixing.proofs.VerdictLaws.{worked-refused, priced-refused, priced-accepted, priced-powered}
+use Rattle.fixing.proofs.VerdictLaws.{worked-refused, priced-refused, priced-accepted, priced-power}
 use Rattle.fixing.proofs.VerdictLaws.{priced-worked}
 use borrow.Author.Needs.{needs}
 use Rattle.fixing.proofs.fix.fix_input.Statement.{statement}
@@ -141,7 +141,7 @@ accepted-requires c κs =
     let given = c .enum-told .given .1 in (
       priced-accepted _ (input s) ok _ (p .before .fill .ensures) _ (p .price-lines .ensures) given,
       (
-        priced-powered _ (input s) ok _ (p .before .fill .ensures) _ (p .price-lines .ensures) given,
+        priced-power _ (input s) ok _ (p .before .fill .ensures) _ (p .price-lines .ensures) given,
         (e .before .before .energies .ensures, (ok .lengths .factors, ok .sectored)),
       ),
     )

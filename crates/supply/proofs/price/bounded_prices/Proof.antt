@@ -62,9 +62,9 @@ module _ (c : tie.In-loop Inv-loop μ-loop) where
       ap (λ (r : PriceWords). getD (r .indexed) (l .loop .j) 0) (w .price-words .ensures)
       ∙ indexed-at mean (s .args .lines .now) (l .loop .j) below (s .pre .1 .1 .0 .few)
 
-  powered : eqb (getD (w .price-words .result .purchases) (l .loop .j) 0) 0 ≡ not
+  power-told : eqb (getD (w .price-words .result .purchases) (l .loop .j) 0) 0 ≡ not
       (powerAllowed mean (lineOf (s .args .lines .now) (l .loop .j)))
-  powered =
+  power-told =
       ap (λ (r : PriceWords). eqb (getD (r .purchases) (l .loop .j) 0) 0) (w .price-words .ensures)
       ∙ ap (λ x. eqb x 0) (power-at mean (s .args .lines .now) (l .loop .j) below (s .pre .1 .1 .0 .few))
       ∙ power-tells mean (lineOf (s .args .lines .now) (l .loop .j))
@@ -104,7 +104,7 @@ returns c =
     c .refused .ensures
     ∙ sym (refused-here i
     (power-beyond (mean i) (s i .args .numbers) (s i .args .lines .now) (s i .args .in-force .now) (l i .loop .j)
-    (not-true _ (sym (powered i) ∙ eq-eqb _ _ (c .before .if1 .taken)))))
+    (not-true _ (sym (power-told i) ∙ eq-eqb _ _ (c .before .if1 .taken)))))
 
 line-at-requires : tie.Need-line-at-requires Inv-loop μ-loop
 line-at-requires c κs = below (c .before)
@@ -140,7 +140,7 @@ loop-again c =
       omega (arith, below i),
       first-step (beyondIn (mean i) (a .numbers) (a .lines .now) (a .in-force .now)) j (l i .loop .inv .1)
           ∙ line-within (mean i) (a .numbers) (a .lines .now) (a .in-force .now) j _ told
-          (not-false _ (sym (powered i) ∙ ne-eqb _ _ (e .if1 .left))),
+          (not-false _ (sym (power-told i) ∙ ne-eqb _ _ (e .if1 .left))),
       ap₂ (λ xs x. set xs j x) (l i .loop .inv .2)
           (line-price (mean i) (a .numbers) (a .lines .now) (a .in-force .now) j _ told)
           ∙ filled-more mostLines noPrice (referencePrice (mean i) (a .numbers) (a .lines .now) (a .in-force .now)) j

@@ -1,5 +1,6 @@
--- Power stands apart (W-204 of document 02): inputs that agree in all but the lines' power words have the same averages
--- and energies, and so, where both pass, the same prices, charges and sector charges. Assumes nothing.
+-- What is worked from energy does not depend on power (W-204 of document 02): inputs that agree in all but the lines'
+-- power words have the same averages and energies, and so, where both pass, the same prices, charges and sector
+-- charges. Assumes nothing.
 use mathlib.Core.Path.{_≡_, ap, ap₂}
 use mathlib.Core.List.{List}
 use Prim.Native.Nat.{ℕ, _*_}

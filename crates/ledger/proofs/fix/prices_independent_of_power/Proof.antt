@@ -8,15 +8,15 @@ use Rattle.numbers.specs.declared.refusal.Verdict.the-variants.{Passed}
 use Rattle.numbers.proofs.CheckLaws.{passed-number, is-passed}
 use Rattle.supply.specs.declared.market.FixingNumbers.{FixingNumbers}
 use Rattle.fixing.specs.Fixing.{fixingOf}
-use Rattle.fixing.proofs.ApartLaws.{fixing-same}
+use Rattle.fixing.proofs.IndependenceLaws.{fixing-same}
 use Rattle.ledger.specs.Ledger.{fixedLedger}
 use Rattle.ledger.specs.Fix.{FixingCall, fixingVerdict, acceptedAnswer, fixingAnswer, fixingAnswered}
 use Rattle.ledger.specs.Fix.{fixingLedger, priceList, fixingList, HandedBack, FixingAccepted}
 use Rattle.ledger.specs.declared.ledger.Ledger.{Ledger}
 use Rattle.ledger.proofs.CallLaws.{fixing-passed}
 use Rattle.ledger.proofs.FixLaws.{answer-told}
-use Rattle.ledger.proofs.fix.power_stands_apart.Statement.{statement}
-use Rattle.ledger.proofs.fix.power_stands_apart.Tie as tie
+use Rattle.ledger.proofs.fix.prices_independent_of_power.Statement.{statement}
+use Rattle.ledger.proofs.fix.prices_independent_of_power.Tie as tie
 
 -- an accepted call
 module _ (ledger : Ledger) (call : FixingCall) (given : HandedBack) (h : FixingAccepted ledger call given) where
@@ -62,5 +62,5 @@ returns c ledger one other same first second p q =
           ∙ rw (alike .averages, alike .prices, alike .charges) (sym (listed ledger other second q));
     }
 
-pub power-stands-apart-spec : {M : Type 1} → statement M
-power-stands-apart-spec = tie.close (tie.spec returns)
+pub prices-independent-of-power-spec : {M : Type 1} → statement M
+prices-independent-of-power-spec = tie.close (tie.spec returns)
