@@ -13,3 +13,4 @@ pub mod FixingLaws
 pub mod VerdictLaws
 pub mod IndependenceLaws
 pub mod Computed
+mod PowerExample

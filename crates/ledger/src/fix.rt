@@ -154,7 +154,7 @@ fn write_prices(
     }
 }
 
-// The average power price of each distributor, in another.
+// The whole power list, in a loop that cannot fail either.
 fn write_power(averages: [PowerPrice; MOST_DISTRIBUTORS], power: &mut [u64])
     requires { ⌜ length (now power) ≤ mostDistributors ⌝ }
     ensures { λ r. ⌜ now (power .exit) ≡ listBelow (length (now (power .entry)))

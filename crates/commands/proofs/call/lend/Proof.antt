@@ -1,43 +1,29 @@
--- The invariant: the list keeps its length, and its first k words are as lent.
-use mathlib.Core.Path.{_≡_, refl}
-use Prim.Native.Nat.{_≤_, _-_}
+-- The invariant: the first k words are as lent.
+use mathlib.Core.Path.{refl}
+use Prim.Native.Nat.{_-_}
 use native.Mathlib.Omega.{arith}
 use lib.IntN.{negsuc}
-use lib.ListN.{length, take, length-set}
-use Rattle.numbers.specs.Bounded.{listBelow}
-use Rattle.numbers.proofs.ListLaws.{list-none, list-more, list-done}
+use lib.ListN.{length}
+use Rattle.numbers.proofs.ListLaws.{Written, written-none, written-more, written-all}
 use Rattle.commands.specs.Replay.{unwritten}
 use Rattle.commands.proofs.call.lend.Statement.{statement}
 use Rattle.commands.proofs.call.lend.Tie as tie
 
 abbrev Inv-loop : tie.InvT-loop
-Inv-loop list₀ k₀ list k =
-    (k ≤ length list) × (length list ≡ length list₀) × (take k list ≡ listBelow k (λ i. negsuc 0))
+Inv-loop list₀ k₀ list k = Written (λ i. negsuc 0) (length list₀) list k
 
 abbrev μ-loop : tie.MeasureT-loop
-μ-loop list₀ k₀ list k = length list - k
+μ-loop list₀ k₀ list k = length list₀ - k
 
 loop-holds : tie.Need-loop-holds Inv-loop μ-loop
-loop-holds c = (omega arith, refl, list-none (λ i. negsuc 0) (c .args .list .now))
-
-loop-less : tie.Need-loop-less Inv-loop μ-loop
-loop-less c = simp length-set (omega arith)
+loop-holds c = written-none _ _ _ refl
 
 loop-again : tie.Need-loop-again Inv-loop μ-loop
-loop-again c = let l = c .before in (
-  simp length-set (omega arith),
-  simp length-set (l .loop .inv .1),
-  list-more (λ i. negsuc 0) (l .loop .list) (l .loop .k) _ (omega arith) (l .loop .inv .2) refl,
-)
-
-same-length : tie.Need-same-length Inv-loop μ-loop
-same-length c = c .before .loop .inv .1
+loop-again c = written-more (c .before .loop .inv) (omega arith) refl
 
 returns : tie.Need-returns Inv-loop μ-loop
 unfolding unwritten
-returns c = let l = c .before in
-    let e : l .loop .k ≡ length (l .before .args .list .now) = omega (arith, l .loop .inv .1) in
-    list-done (λ i. negsuc 0) _ _ (l .loop .inv .1) (rw e at (l .loop .inv .2))
+returns c = written-all (c .before .loop .inv) (omega arith)
 
 pub lend-spec : {M : Type 1} → statement M
 lend-spec =
@@ -46,8 +32,7 @@ lend-spec =
     Inv-loop
     μ-loop
     loop-holds
-    (λ c. omega arith) (λ c. omega arith) (λ c. omega arith)
-    loop-less
+    (λ c. omega arith) (λ c. omega arith) (λ c. omega arith) (λ c. omega arith)
     loop-again
-    same-length
+    (λ c. omega arith)
     returns)

@@ -29,12 +29,30 @@ use Rattle.supply.proofs.price.bounded_prices.Statement.{statement}
 use Rattle.supply.proofs.price.bounded_prices.Tie as tie
 
 abbrev Inv-loop : tie.InvT-loop
-Inv-loop means numbers lines inForce count indexed purchases references₀ j₀ references j = (j ≤ lineCount lines)
+Inv-loop means numbers lines inForce count indexed purchases references₀ j₀ references j =
+    (j ≤ lineCount lines)
     × (firstBelow j (beyondIn (listedMean means) numbers lines inForce) ≡ none)
     × (references ≡ filledBelow mostLines noPrice j (referencePrice (listedMean means) numbers lines inForce))
 
 abbrev μ-loop : tie.MeasureT-loop
 μ-loop means numbers lines inForce count indexed purchases references₀ j₀ references j = count - j
+
+-- what stands before the loop: the words, and the call's arguments
+module _ (l : tie.At-loop Inv-loop μ-loop) where
+  abbrev words : tie.After-price-words Inv-loop μ-loop
+  words = l .before .before .before .before
+
+  abbrev start : tie.Start Inv-loop μ-loop
+  start = words .before .before .before .before
+
+  abbrev meanOf : Term → ℕ
+  meanOf = listedMean (start .args .means .now)
+
+  counted : words .before .line-count .result ≡ lineCount (start .args .lines .now)
+  counted = words .before .line-count .ensures
+
+  few : lineCount (start .args .lines .now) ≤ mostLines
+  few = start .pre .1 .1 .0 .few
 
 -- the line at hand, and the words of its indexed price and its power purchase price
 module _ (c : tie.In-loop Inv-loop μ-loop) where
@@ -42,19 +60,19 @@ module _ (c : tie.In-loop Inv-loop μ-loop) where
   l = c .before
 
   abbrev w : tie.After-price-words Inv-loop μ-loop
-  w = l .before .before .before .before
+  w = words l
 
   abbrev s : tie.Start Inv-loop μ-loop
-  s = w .before .before .before .before
+  s = start l
 
   abbrev mean : Term → ℕ
-  mean = listedMean (s .args .means .now)
+  mean = meanOf l
 
   below : l .loop .j < lineCount (s .args .lines .now)
-  below = omega (arith, w .before .line-count .ensures)
+  below = omega (arith, counted l)
 
   inside : l .loop .j < mostLines
-  inside = omega (arith, below, s .pre .1 .1 .0 .few)
+  inside = omega (arith, below, few l)
 
   word : getD (w .price-words .result .indexed) (l .loop .j) 0 ≡ indexedOrZero mean
       (lineOf (s .args .lines .now) (l .loop .j))
@@ -152,50 +170,39 @@ module _ (c : tie.After-loop Inv-loop μ-loop) where
   abbrev end : tie.At-loop Inv-loop μ-loop
   end = c .before
 
-  abbrev words : tie.After-price-words Inv-loop μ-loop
-  words = end .before .before .before .before
+  abbrev from : tie.Start Inv-loop μ-loop
+  from = start end
 
-  abbrev start : tie.Start Inv-loop μ-loop
-  start = words .before .before .before .before
+  last : end .loop .j ≡ lineCount (from .args .lines .now)
+  last = omega (arith, counted end)
 
-  abbrev meanOf : Term → ℕ
-  meanOf = listedMean (start .args .means .now)
-
-  counted : words .before .line-count .result ≡ lineCount (start .args .lines .now)
-  counted = words .before .line-count .ensures
-
-  last : end .loop .j ≡ lineCount (start .args .lines .now)
-  last = omega (arith, counted)
-
-  few : lineCount (start .args .lines .now) ≤ mostLines
-  few = start .pre .1 .1 .0 .few
-
-  none-beyond : firstBeyond meanOf (start .args .numbers) (start .args .lines .now) (start .args .in-force .now) ≡ none
+  none-beyond : firstBeyond (meanOf end) (from .args .numbers) (from .args .lines .now) (from .args .in-force .now)
+      ≡ none
   unfolding firstBeyond
   none-beyond =
-      ap (λ k. firstBelow k (beyondIn meanOf (start .args .numbers) (start .args .lines .now)
-      (start .args .in-force .now))) (sym last)
+      ap (λ k. firstBelow k (beyondIn (meanOf end) (from .args .numbers) (from .args .lines .now)
+      (from .args .in-force .now))) (sym last)
       ∙ end .loop .inv .1
 
-  listed : end .loop .references ≡ referenceList meanOf (start .args .numbers) (start .args .lines .now)
-      (start .args .in-force .now)
+  listed : end .loop .references ≡ referenceList (meanOf end) (from .args .numbers) (from .args .lines .now)
+      (from .args .in-force .now)
   unfolding referenceList
   listed =
       end .loop .inv .2
-      ∙ ap (λ k. filledBelow mostLines noPrice k (referencePrice meanOf (start .args .numbers) (start .args .lines .now)
-      (start .args .in-force .now))) last
+      ∙ ap (λ k. filledBelow mostLines noPrice k (referencePrice (meanOf end) (from .args .numbers)
+      (from .args .lines .now) (from .args .in-force .now))) last
 
 any-moved-requires : tie.Need-any-moved-requires Inv-loop μ-loop
 unfolding indexedOrZero
 any-moved-requires c κs =
     let e = c .before in
-    let a = start e .args in (
-      start e .pre .1 .1 .1,
+    let a = from e .args in (
+      from e .pre .1 .1 .1,
       record {
-        few = omega (arith, counted e, few e);
+        few = omega (arith, counted (end e), few (end e));
         most = λ j p.
-            let q : j < lineCount (a .lines .now) = omega (arith, counted e) in
-            rw (words e .price-words .ensures, indexed-at (meanOf e) (a .lines .now) j q (few e))
+            let q : j < lineCount (a .lines .now) = omega (arith, counted (end e)) in
+            rw (words (end e) .price-words .ensures, indexed-at (meanOf (end e)) (a .lines .now) j q (few (end e)))
             (indexed-most 1000000 _ _);
       },
     )
@@ -203,14 +210,14 @@ any-moved-requires c κs =
 -- what the words tell
 told : (c : tie.After-any-moved Inv-loop μ-loop) →
     let e = c .before .before in
-    c .any-moved .result ≡ anyLineMoved (meanOf e) (start e .args .lines .now) (start e .args .in-force .now)
+    c .any-moved .result ≡ anyLineMoved (meanOf (end e)) (from e .args .lines .now) (from e .args .in-force .now)
 told c =
     let e = c .before .before in
-    let a = start e .args in
+    let a = from e .args in
     c .any-moved .ensures
     ∙ ap₂ (λ (r : PriceWords) count. anyMoved (a .in-force .now) count (λ j. getD (r .indexed) j 0))
-    (words e .price-words .ensures) (counted e)
-    ∙ words-moved (meanOf e) (a .numbers) (a .lines .now) (a .in-force .now) (none-beyond e) (few e)
+    (words (end e) .price-words .ensures) (counted (end e))
+    ∙ words-moved (meanOf (end e)) (a .numbers) (a .lines .now) (a .in-force .now) (none-beyond e) (few (end e))
 
 returns-3 : tie.Need-returns-3 Inv-loop μ-loop
 unfolding boundedPrices
@@ -222,29 +229,29 @@ returns-3 c =
 power-prices-requires : tie.Need-power-prices-requires Inv-loop μ-loop
 power-prices-requires c κs =
     let e = c .before .before .before in
-    let a = start e .args in (
+    let a = from e .args in (
       record {
-        few = omega (arith, counted e, few e);
+        few = omega (arith, counted (end e), few (end e));
         most = λ j p.
-            let q : j < lineCount (a .lines .now) = omega (arith, counted e) in
-            rw (words e .price-words .ensures, power-at (meanOf e) (a .lines .now) j q (few e))
-            (power-most (meanOf e) (lineOf (a .lines .now) j));
+            let q : j < lineCount (a .lines .now) = omega (arith, counted (end e)) in
+            rw (words (end e) .price-words .ensures, power-at (meanOf (end e)) (a .lines .now) j q (few (end e)))
+            (power-most (meanOf (end e)) (lineOf (a .lines .now) j));
       },
-      start e .pre .1 .0 .dollarMost,
+      from e .pre .1 .0 .dollarMost,
     )
 
 -- the power prices as they are turned
 turned : (c : tie.After-power-prices Inv-loop μ-loop) →
     let e = c .before .before .before .before in
-    c .power-prices .result ≡ powerList (meanOf e) (start e .args .numbers) (start e .args .lines .now)
+    c .power-prices .result ≡ powerList (meanOf (end e)) (from e .args .numbers) (from e .args .lines .now)
 turned c =
     let e = c .before .before .before .before in
-    let a = start e .args in
+    let a = from e .args in
     c .power-prices .ensures
     ∙ ap₂ (λ (r : PriceWords) count. filledBelow mostLines noPower count
     (λ j. record { 0 = powerPesoOf (getD (r .purchases) j 0) (a .numbers .dollar) }))
-    (words e .price-words .ensures) (counted e)
-    ∙ words-power (meanOf e) (a .numbers) (a .lines .now) (a .in-force .now) (none-beyond e) (few e)
+    (words (end e) .price-words .ensures) (counted (end e))
+    ∙ words-power (meanOf (end e)) (a .numbers) (a .lines .now) (a .in-force .now) (none-beyond e) (few (end e))
 
 returns-4 : tie.Need-returns-4 Inv-loop μ-loop
 unfolding boundedPrices
