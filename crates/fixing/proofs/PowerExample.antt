@@ -1,10 +1,10 @@
 -- An example of power prices worked by hand, which holds the definitions by computation: one distributor of two lines,
--- CPI 10,500 in the month before, the dollar 850.00 $.
+-- CPI 10,500 in the month before, the dollar 850.00 $. Assumes nothing.
 --
--- Line 0, power base price 9,001 over 10,000: ratio 1,050,000; indexed 9,451.05, so 9,451; by 11,000 over 10,000 purchase
--- 10,396.1, so 10,396; at 850 $ 8,836,600. Line 1, 7,777 over 9,999: ratio 1,050,105; indexed 8,166.7, so 8,167; by
--- 10,000 over 8,000 purchase 10,208.75, so 10,209; at 850 $ 8,677,650. Energies 1 and 2: 26,191,900 / 3, so 8,730,633.
--- Assumes nothing.
+-- Line 0, power base price 9,001 over 10,000: ratio 1,050,000; indexed 9,451.05, so 9,451; by 11,000 over 10,000
+-- purchase 10,396.1, so 10,396; at 850 $ 8,836,600. Line 1, 7,777 over 9,999: ratio 1,050,105; indexed 8,166.7, so
+-- 8,167; by 10,000 over 8,000 purchase 10,208.75, so 10,209; at 850 $ 8,677,650. Energies 1 and 2: 26,191,900 / 3, so
+-- 8,730,633.
 use mathlib.Core.Path.{_≡_, refl}
 use mathlib.Core.List.{List, [], _∷_, _++_}
 use Prim.Native.Nat.{ℕ}
