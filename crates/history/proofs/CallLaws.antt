@@ -1,25 +1,29 @@
 -- One call put to the ledger that follows from a plain ledger: the checks go the same way on both. Assumes nothing.
-use mathlib.Core.Path.{_≡_, refl, _∙_, ap}
-use mathlib.Core.Bool.{Bool, true, false, cond}
+use mathlib.Core.Path.{_≡_, refl, _∙_, ap, ap₂}
+use mathlib.Core.Bool.{Bool, true, false, cond, not}
 use mathlib.Core.List.{List, [], _∷_}
 use mathlib.Core.Option.{Option, none, some}
-use Prim.Native.Nat.{ℕ, _≤_, _<_}
+use Prim.Native.Nat.{ℕ, _+_, _≤_, _<_}
 use native.Mathlib.Omega.{arith}
-use lib.Dec.{eqb}
-use lib.IntN.{ℤ, _+ℤ_}
+use lib.Dec.{ltb, eqb}
+use lib.IntN.{ℤ, pos, _+ℤ_}
+use borrow.Author.Tests.{lt-ltb, le-ltb}
+use Rattle.numbers.specs.Bounded.{filledBelow}
 use Rattle.numbers.specs.Refusal.{Answered, verdictAnswered, isPassed}
 use Rattle.numbers.specs.Checks.{Met, Check, metUnless, verdictOf, answeredOr, answeredBy}
 use Rattle.numbers.specs.declared.refusal.Refusal.{Refusal}
 use Rattle.numbers.specs.declared.refusal.Refusal.the-variants.{Unsound, WrongLength, OutOfTurn, NoFixing, OutOfRange}
 use Rattle.numbers.specs.declared.refusal.Refusal.the-variants.{ValueTooLarge, WrongSector, NoLine, WrongReading}
-use Rattle.numbers.specs.declared.refusal.Refusal.the-variants.{PositionBeyond, NoLineMoved}
+use Rattle.numbers.specs.declared.refusal.Refusal.the-variants.{PositionBeyond, NoLineMoved, LedgerFull}
 use Rattle.numbers.specs.Sizes.{mostDistributors}
 use Rattle.numbers.proofs.CheckLaws.{AllTold, verdict-told, passed-number}
+use Rattle.numbers.proofs.ListLaws.{filled-at, filled-past, filled-same, filled-next}
+use Rattle.numbers.proofs.TestLaws.{any-same, any-wide}
 use Rattle.series.specs.Series.{valuesInRange}
 use Rattle.supply.specs.Months.{Place, missingAt, monthCheck}
 use Rattle.supply.specs.Price.{outOfBoundsAt, boundsCheck, priceChecks, tableChecks}
 use Rattle.fixing.specs.Prices.{returnedValues}
-use Rattle.fixing.specs.Sector.{sectorsAllowed}
+use Rattle.fixing.specs.Sector.{sectorsAllowed, noCharges}
 use Rattle.fixing.specs.Input.{ranged, supplied, missingPlace, beyondLine, someMoved, inputChecks}
 use Rattle.fixing.specs.Input.{inputDistributors}
 use Rattle.fixing.specs.Fixing.{acceptedFixing, fixingOf}
@@ -28,24 +32,28 @@ use Rattle.fixing.proofs.VerdictLaws.{passed-fixing}
 use Rattle.settlement.specs.Amount.{billingInRange}
 use Rattle.settlement.specs.Settlement.{positionOf, positionsInRange, newBalance}
 use Rattle.settlement.specs.Month.{moneyAt, moneyBelow, positionList, settledMonth}
-use Rattle.settlement.proofs.MonthLaws.{money-at, money-same}
-use Rattle.ledger.specs.Ledger.{anySettled, nextMonth, billedUnder, fixedLedger, settledLedger}
+use Rattle.settlement.proofs.MonthLaws.{money-at, money-next, money-same}
+use Rattle.ledger.specs.Ledger.{countAt, anySettled, nextMonth, billedUnder, fixedLedger, raisedCounts}
+use Rattle.ledger.specs.Ledger.{settledLedger, joinedLedger}
 use Rattle.ledger.specs.Sound.{sound}
 use Rattle.ledger.specs.Turn.{fixingTurn, settlementTurn}
 use Rattle.ledger.specs.Fix.{FixingCall, callLengths, fixingChecks, fixingVerdict, fixingAnswer, fixingAnswered}
 use Rattle.ledger.specs.Fix.{fixingLedger}
 use Rattle.ledger.specs.Settle.{SettlementCall, billingLengths, settlementChecks, settlementVerdict, settlementLedger}
 use Rattle.ledger.specs.Settle.{positionsOf}
+use Rattle.ledger.specs.Join.{joinChecks, joinVerdict, joinLedger}
+use Rattle.ledger.specs.declared.ledger.Ledger.{Ledger}
 use Rattle.ledger.proofs.SoundFacts.{sound-facts}
 use Rattle.ledger.proofs.MoneyLaws.{range-same, balance-same}
-use Rattle.ledger.proofs.CallLaws.{fixing-passed}
+use Rattle.ledger.proofs.CallLaws.{fixing-passed, join-passed}
 use Rattle.ledger.proofs.FixLaws.{fixing-told, answer-told}
 use Rattle.ledger.proofs.SettleLaws.{settlement-told}
-use Rattle.history.specs.Run.{fixing, settlement}
-use Rattle.history.specs.Plain.{Plain, isHeld, heldMonth, plainSettled, plainNext, plainUnder, image, cause}
-use Rattle.history.specs.Plain.{causeAtTerm, causeAtLine, firstCause, fixingCauses, plainFixing, plainAmount}
+use Rattle.ledger.proofs.JoinLaws.{join-told}
+use Rattle.history.specs.Run.{fixing, settlement, join}
+use Rattle.history.specs.Plain.{Plain, isHeld, heldMonth, heldForce, plainSettled, plainNext, plainUnder, image}
+use Rattle.history.specs.Plain.{cause, causeAtTerm, causeAtLine, firstCause, fixingCauses, plainFixing, plainAmount}
 use Rattle.history.specs.Plain.{plainPosition, settlementCauses, plainSettlement, plainAnswer, plainAccepts}
-use Rattle.history.specs.Plain.{plainChange, plainStep}
+use Rattle.history.specs.Plain.{joinCauses, plainJoin, withOneMore, plainChange, plainStep}
 
 -- the same number and values, accepted by the ledger exactly where the number is 0
 pub record Same (answered : Answered) (passed : Bool) (plain : Answered) : Type 0 where
@@ -101,17 +109,37 @@ line-same : (line : Option ℕ) → told 11 (outOfBoundsAt line) ≡ causeAtLine
 line-same none = refl
 line-same (some line) = refl
 
-fixing-alike : (plain : Plain) (call : FixingCall) → Alike (fixingChecks (image plain) call) (fixingCauses plain call)
-unfolding image anySettled nextMonth plainSettled plainNext fixingChecks inputChecks tableChecks monthCheck priceChecks
-    boundsCheck fixingCauses Alike
-fixing-alike plain call =
+-- the ledger that follows is sound
+module _ (plain : Plain) (h : sound (image plain) ≡ true) where
+  few : plain .count ≤ mostDistributors
+  unfolding image
+  few = sound-facts (image plain) h .few
+
+  -- a month is settled in both or in neither: past the distributors there are, no month is counted
+  settled-same : anySettled (image plain) ≡ plainSettled plain
+  unfolding image anySettled plainSettled
+  settled-same =
+      let counts = filledBelow mostDistributors 0 (plain .count) (plain .months) in
+      any-wide (plain .count) mostDistributors (λ i. not (eqb (countAt counts i) 0)) few
+      (λ i p q. ap (λ k. not (eqb k 0)) (filled-past mostDistributors 0 (plain .months) (plain .count) i p q))
+      ∙ any-same (plain .count) (λ i. not (eqb (countAt counts i) 0)) (λ i. not (eqb (plain .months i) 0))
+      (λ i p. ap (λ k. not (eqb k 0))
+      (filled-at mostDistributors 0 (plain .months) (plain .count) i p (omega (arith, few))))
+
+fixing-alike : (plain : Plain) (call : FixingCall) → sound (image plain) ≡ true →
+    Alike (fixingChecks (image plain) call) (fixingCauses plain call)
+unfolding image nextMonth plainNext fixingChecks inputChecks tableChecks monthCheck priceChecks boundsCheck fixingCauses
+    Alike
+fixing-alike plain call h =
     let n = plain .count in
     let input = call .input in (
       test-same 2 Unsound (sound (image plain)),
       (
         test-same 3 WrongLength (callLengths n call),
         (
-          test-same 4 OutOfTurn (fixingTurn (plainSettled plain) (plainNext plain) (input .numbers .month)),
+          ap (λ b. told 4 (metUnless (fixingTurn b (plainNext plain) (input .numbers .month)) OutOfTurn))
+              (settled-same plain h) ∙ test-same 4 OutOfTurn
+              (fixingTurn (plainSettled plain) (plainNext plain) (input .numbers .month)),
           (
             test-same 6 OutOfRange (ranged n input),
             (
@@ -132,22 +160,22 @@ fixing-alike plain call =
       ),
     )
 
-pub fixing-same : (plain : Plain) (call : FixingCall) →
+pub fixing-same : (plain : Plain) (call : FixingCall) → sound (image plain) ≡ true →
     Same (fixingAnswered (fixingAnswer (image plain) call)) (isPassed (fixingVerdict (image plain) call))
     (plainFixing plain call)
 unfolding image plainFixing returnedValues fixingVerdict
-fixing-same plain call =
+fixing-same plain call h =
     let values = returnedValues (inputDistributors (plain .count) (call .input)) in
     let same = call-same (fixingChecks (image plain) call) (fixingCauses plain call) values
-    (fixing-told (image plain) call) (fixing-alike plain call) in
+    (fixing-told (image plain) call) (fixing-alike plain call h) in
     record { answer = answer-told (image plain) call ∙ same .answer; accepts = same .accepts }
 
-pub fixing-step : (plain : Plain) (call : FixingCall) →
+pub fixing-step : (plain : Plain) (call : FixingCall) → sound (image plain) ≡ true →
     fixingLedger (image plain) call ≡ image (plainStep plain (fixing call))
 unfolding image fixingLedger fixedLedger plainStep plainAccepts plainAnswer plainChange inputDistributors acceptedFixing
-fixing-step plain call =
+fixing-step plain call h =
     go (isPassed (fixingVerdict (image plain) call)) refl
-    ∙ ap (λ b. image (cond b (plainChange plain (fixing call)) plain)) (fixing-same plain call .accepts)
+    ∙ ap (λ b. image (cond b (plainChange plain (fixing call)) plain)) (fixing-same plain call h .accepts)
   where
     go : (b : Bool) → isPassed (fixingVerdict (image plain) call) ≡ b →
         cond b (fixedLedger (image plain) (call .input .numbers .month)
@@ -160,24 +188,22 @@ fixing-step plain call =
 
 -- the positions are the same below n
 module _ (plain : Plain) (call : SettlementCall) (h : sound (image plain) ≡ true) where
-  few : plain .count ≤ mostDistributors
-  unfolding image
-  few = sound-facts (image plain) h .few
-
   position-same : (i : ℕ) → i < plain .count → moneyAt (positionsOf (image plain) call) i ≡ plainPosition plain call i
   unfolding image billedUnder positionsOf positionList positionOf plainPosition plainAmount plainUnder
   position-same i p =
       let held : ℕ → ℤ = moneyAt (moneyBelow (plain .count) (plain .balance)) in
-      money-at (positionOf held (plainAmount plain call)) (plain .count) i p (omega (arith, few))
+      money-at (positionOf held (plainAmount plain call)) (plain .count) i p (omega (arith, few plain h))
       ∙ ap (λ (z : ℤ). z +ℤ plainAmount plain call i)
-      (money-at (plain .balance) (plain .count) i p (omega (arith, few)))
+      (money-at (plain .balance) (plain .count) i p (omega (arith, few plain h)))
 
   pub settlement-same : Same (verdictAnswered [] (settlementVerdict (image plain) call))
       (isPassed (settlementVerdict (image plain) call)) (plainSettlement plain call)
-  unfolding image anySettled nextMonth billedUnder plainSettled plainNext plainUnder settlementVerdict settlementChecks
-      settlementCauses plainSettlement Alike
+  unfolding image nextMonth billedUnder plainNext plainUnder settlementVerdict settlementChecks settlementCauses
+      plainSettlement Alike
   settlement-same =
       let n = plain .count in
+      let turn : Bool → Bool = λ settled. settlementTurn settled (plainNext plain) (isHeld (plain .held))
+      (heldMonth (plain .held)) (call .month) in
       let within = range-same n (moneyAt (positionsOf (image plain) call)) (plainPosition plain call) position-same in
       call-same (settlementChecks (image plain) call) (settlementCauses plain call) []
       (settlement-told (image plain) call) (
@@ -185,8 +211,8 @@ module _ (plain : Plain) (call : SettlementCall) (h : sound (image plain) ≡ tr
         (
           test-same 3 WrongLength (billingLengths n call),
           (
-            test-same 4 OutOfTurn (settlementTurn (plainSettled plain) (plainNext plain) (isHeld (plain .held))
-                (heldMonth (plain .held)) (call .month)),
+            ap (λ b. told 4 (metUnless (turn b) OutOfTurn)) (settled-same plain h) ∙ test-same 4 OutOfTurn
+                (turn (plainSettled plain)),
             (
               test-same 5 NoFixing (isHeld (plain .held)),
               (
@@ -204,7 +230,7 @@ module _ (plain : Plain) (call : SettlementCall) (h : sound (image plain) ≡ tr
       )
 
   pub settlement-step : settlementLedger (image plain) call ≡ image (plainStep plain (settlement call))
-  unfolding image settlementLedger settledLedger settledMonth plainStep plainAccepts plainAnswer plainChange
+  unfolding image settlementLedger settledLedger raisedCounts settledMonth plainStep plainAccepts plainAnswer plainChange
   settlement-step =
       go (isPassed (settlementVerdict (image plain) call))
       ∙ ap (λ b. image (cond b (plainChange plain (settlement call)) plain)) (settlement-same .accepts)
@@ -214,9 +240,67 @@ module _ (plain : Plain) (call : SettlementCall) (h : sound (image plain) ≡ tr
           (settledMonth (plain .count) (positionsOf (image plain) call) .balances)) (image plain) ≡ image
           (cond b (plainChange plain (settlement call)) plain)
       go true =
-          ap (settledLedger (image plain) (call .month))
+          ap₂ {C = Ledger} (λ b c. record {
+            n = plain .count;
+            last = call .month;
+            fixed = isHeld (plain .held);
+            month = heldMonth (plain .held);
+            force = heldForce (plain .count) (plain .held);
+            balances = b;
+            counts = c;
+          })
           (money-same (newBalance (plain .count) (moneyAt (positionsOf (image plain) call))) (plain .count)
           (newBalance (plain .count) (plainPosition plain call))
           (balance-same (plain .count) (moneyAt (positionsOf (image plain) call)) (plainPosition plain call)
           position-same))
+          (filled-same mostDistributors 0 (plain .count) _ (λ i. plain .months i + 1)
+          (λ i p. ap (λ k. k + 1)
+          (filled-at mostDistributors 0 (plain .months) (plain .count) i p (omega (arith, few plain h)))))
       go false = refl
+
+-- a join
+module _ (plain : Plain) where
+  pub join-same : Same (verdictAnswered [] (joinVerdict (image plain))) (isPassed (joinVerdict (image plain)))
+      (plainJoin plain)
+  unfolding image joinVerdict joinChecks joinCauses plainJoin Alike
+  join-same =
+      call-same (joinChecks (image plain)) (joinCauses plain) [] (join-told (image plain)) (
+        test-same 2 Unsound (sound (image plain)),
+        (test-same 15 LedgerFull (ltb (plain .count) mostDistributors), tt),
+      )
+
+  -- what one more has who joins
+  one-more : {A : Type 0} (f : ℕ → A) (new : A) → new ≡ withOneMore (plain .count) f new (plain .count)
+  one-more f new = rw (le-ltb (plain .count) (plain .count) (omega arith))
+
+  those-before : {A : Type 0} (f : ℕ → A) (new : A) (i : ℕ) → i < plain .count →
+      f i ≡ withOneMore (plain .count) f new i
+  those-before f new i p = rw (lt-ltb i (plain .count) p)
+
+  pub join-step : joinLedger (image plain) ≡ image (plainStep plain join)
+  unfolding image joinLedger joinedLedger plainStep plainAccepts plainAnswer plainChange
+  join-step =
+      go (isPassed (joinVerdict (image plain))) refl
+      ∙ ap (λ b. image (cond b (plainChange plain join) plain)) (join-same .accepts)
+    where
+      go : (b : Bool) → isPassed (joinVerdict (image plain)) ≡ b →
+          cond b (joinedLedger (image plain)) (image plain) ≡ image (cond b (plainChange plain join) plain)
+      go true e =
+          let p : plain .count < mostDistributors = join-passed (image plain) e in
+          let balance = withOneMore (plain .count) (plain .balance) (pos 0) in
+          ap₂ {C = Ledger} (λ b c. record {
+            n = plain .count + 1;
+            last = plain .last;
+            fixed = false;
+            month = 0;
+            force = noCharges;
+            balances = b;
+            counts = c;
+          })
+          (money-next balance (plain .count) (moneyBelow (plain .count) (plain .balance)) (pos 0) p
+          (money-same (plain .balance) (plain .count) balance (those-before (plain .balance) (pos 0)))
+          (one-more (plain .balance) (pos 0)))
+          (filled-next mostDistributors 0 (plain .count) (withOneMore (plain .count) (plain .months) 0) _ 0 p
+          (filled-same mostDistributors 0 (plain .count) (plain .months) _ (those-before (plain .months) 0))
+          (one-more (plain .months) 0))
+      go false e = refl

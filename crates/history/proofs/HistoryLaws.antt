@@ -24,26 +24,30 @@ use Rattle.ledger.specs.Settle.{SettlementCall}
 use Rattle.ledger.specs.declared.ledger.Ledger.{Ledger}
 use Rattle.ledger.proofs.SoundFacts.{sound-facts}
 use Rattle.ledger.proofs.MoneyLaws.{money-sum}
-use Rattle.ledger.proofs.KeptLaws.{opened-sound, fixing-keeps, settlement-keeps, settlement-adds}
-use Rattle.history.specs.Run.{Call, fixing, settlement, opened, step, answer, after, answers}
+use Rattle.ledger.proofs.KeptLaws.{opened-sound, fixing-keeps, settlement-keeps, settlement-adds, join-keeps}
+use Rattle.ledger.proofs.KeptLaws.{join-balances}
+use Rattle.history.specs.Run.{Call, fixing, settlement, join, opened, step, answer, after, answers}
 use Rattle.history.specs.Plain.{Plain, plainOpened, image, plainAnswer, plainUnder, plainAmount, plainAccepts}
 use Rattle.history.specs.Plain.{plainChange, plainStep, plainAfter, plainAnswers, callCollects, plainCollected}
-use Rattle.history.specs.History.{WrittenPrices, WrittenPower, History}
+use Rattle.history.specs.History.{WrittenPrices, WrittenPower, countAfter, History}
 use Rattle.history.proofs.CallLaws.{fixing-same, fixing-step, settlement-same, settlement-step}
+use Rattle.history.proofs.CallLaws.{join-same, join-step}
 use Rattle.history.proofs.WrittenLaws.{written, power-written}
 
 -- one call: the ledger's step is the image of the plain one, and the answer is the same
 pub step-same : (plain : Plain) (call : Call) → sound (image plain) ≡ true →
     step (image plain) call ≡ image (plainStep plain call)
 unfolding step
-step-same plain (fixing call) h = fixing-step plain call
+step-same plain (fixing call) h = fixing-step plain call h
 step-same plain (settlement call) h = settlement-step plain call h
+step-same plain join h = join-step plain
 
 pub answer-same : (plain : Plain) (call : Call) → sound (image plain) ≡ true →
     answer (image plain) call ≡ plainAnswer plain call
 unfolding answer plainAnswer
-answer-same plain (fixing call) h = fixing-same plain call .answer
+answer-same plain (fixing call) h = fixing-same plain call h .answer
 answer-same plain (settlement call) h = settlement-same plain call h .answer
+answer-same plain join h = join-same plain .answer
 
 -- the balances' total
 abbrev total : Ledger → ℤ
@@ -53,22 +57,13 @@ step-keeps : (ledger : Ledger) (call : Call) → sound ledger ≡ true → sound
 unfolding step
 step-keeps ledger (fixing call) h = fixing-keeps ledger call h
 step-keeps ledger (settlement call) h = settlement-keeps ledger call h
+step-keeps ledger join h = join-keeps ledger h
 
 module _ (plain : Plain) where
   step-sound : (call : Call) → sound (image plain) ≡ true → sound (image (plainStep plain call)) ≡ true
   step-sound call h = rw (step-same plain call h) at (step-keeps (image plain) call h)
 
-  step-count : (call : Call) → plainStep plain call .count ≡ plain .count
-  unfolding plainStep plainChange
-  step-count call = go call (plainAccepts plain call)
-    where
-      go : (c : Call) (b : Bool) → cond b (plainChange plain c) plain .count ≡ plain .count
-      go (fixing c) true = refl
-      go (fixing c) false = refl
-      go (settlement c) true = refl
-      go (settlement c) false = refl
-
-  -- a fixing moves no balance, an accepted settlement moves them by the collected amounts
+  -- a fixing and a join move no balance, an accepted settlement moves them by the collected amounts
   fixing-adds : (call : FixingCall) (b : Bool) →
       total (image (cond b (plainChange plain (fixing call)) plain)) ≡ total (image plain) +ℤ cond b (pos 0) (pos 0)
   unfolding image plainChange
@@ -87,12 +82,25 @@ module _ (plain : Plain) where
       ap (λ c. total (image (cond c (plainChange plain (settlement call)) plain))) e ∙ sym
       (+ℤ-idr (total (image plain)))
 
+  join-adds : sound (image plain) ≡ true → (b : Bool) →
+      total (image (plainStep plain join)) ≡ total (image plain) +ℤ cond b (pos 0) (pos 0)
+  join-adds h b =
+      ap total (sym (join-step plain))
+      ∙ ap (λ l. signedSumBelow mostDistributors (moneyAt l)) (join-balances (image plain) h)
+      ∙ sym (+ℤ-idr (total (image plain)))
+      ∙ nothing b
+    where
+      nothing : (c : Bool) → total (image plain) +ℤ pos 0 ≡ total (image plain) +ℤ cond c (pos 0) (pos 0)
+      nothing true = refl
+      nothing false = refl
+
   step-adds : (call : Call) → sound (image plain) ≡ true →
       total (image (plainStep plain call)) ≡ total (image plain) +ℤ cond (plainAccepts plain call)
       (callCollects plain call) (pos 0)
   unfolding plainStep callCollects
   step-adds (fixing call) h = fixing-adds call (plainAccepts plain (fixing call))
   step-adds (settlement call) h = settled-adds call h (plainAccepts plain (settlement call)) refl
+  step-adds join h = join-adds h (plainAccepts plain join)
 
 -- what a list of calls keeps, from any plain ledger whose image is sound
 record Carried (plain : Plain) (calls : List Call) : Type 0 where
@@ -100,12 +108,11 @@ record Carried (plain : Plain) (calls : List Call) : Type 0 where
   answered : answers (image plain) calls ≡ plainAnswers plain calls
   adds : total (image (plainAfter plain calls)) ≡ total (image plain) +ℤ plainCollected plain calls
   whole : sound (image (plainAfter plain calls)) ≡ true
-  counted : plainAfter plain calls .count ≡ plain .count
 
 carry : (calls : List Call) (plain : Plain) → sound (image plain) ≡ true → Carried plain calls
 unfolding after answers plainAfter plainAnswers plainCollected
 carry [] plain h =
-    record { same = refl; answered = refl; adds = sym (+ℤ-idr (total (image plain))); whole = h; counted = refl }
+    record { same = refl; answered = refl; adds = sym (+ℤ-idr (total (image plain))); whole = h }
 carry (call ∷ calls) plain h =
     let next = carry calls (plainStep plain call) (step-sound plain call h) in
     let gain : ℤ = cond (plainAccepts plain call) (callCollects plain call) (pos 0) in
@@ -119,7 +126,6 @@ carry (call ∷ calls) plain h =
           ∙ ap (λ (z : ℤ). z +ℤ plainCollected (plainStep plain call) calls) (step-adds plain call h)
           ∙ +ℤ-assoc (total (image plain)) gain (plainCollected (plainStep plain call) calls);
       whole = next .whole;
-      counted = next .counted ∙ step-count plain call;
     }
 
 -- the opened ledger is the image of the plain one
@@ -137,8 +143,9 @@ module _ (n : ℕ) (p : 1 ≤ n) (q : n ≤ mostDistributors) where
   unfolding emptyLedger noBalances image plainOpened
   opened-same =
       opened-is
-      ∙ ap {B = Ledger} (λ b. record
-      { n = n; months = 0; last = 0; fixed = false; month = 0; force = noCharges; balances = b }) none-same
+      ∙ ap₂ {C = Ledger} (λ b c. record
+      { n = n; last = 0; fixed = false; month = 0; force = noCharges; balances = b; counts = c }) none-same
+      (filled-empty mostDistributors 0 n (λ i. 0) (λ i r. refl))
 
   opened-total : total (opened n) ≡ pos 0
   unfolding emptyLedger noBalances signedSumBelow
@@ -153,9 +160,9 @@ module _ (n : ℕ) (p : 1 ≤ n) (q : n ≤ mostDistributors) where
   run-sound : (calls : List Call) → sound (after (opened n) calls) ≡ true
   run-sound calls = rw (run-same calls) (start calls .whole)
 
-  run-count : (calls : List Call) → after (opened n) calls .n ≡ n
-  unfolding image plainOpened
-  run-count calls = ap (λ (b : Ledger). b .n) (run-same calls) ∙ start calls .counted
+  run-count : (calls : List Call) → after (opened n) calls .n ≡ countAfter n calls
+  unfolding image
+  run-count calls = ap (λ (b : Ledger). b .n) (run-same calls)
 
 pub history : (n : ℕ) → 1 ≤ n → n ≤ mostDistributors → (calls : List Call) → History n calls
 history n p q calls =

@@ -1,5 +1,6 @@
--- Demand 3 of document 01 as one statement about a whole list of calls, interim fixings among them ("Lists may now
--- contain interim fixings", W-201 of document 02), with the power prices that fixings write (W-204). Assumes nothing.
+-- Demand 3 of document 01 as one statement about a whole list of calls, interim fixings and joins among them ("Lists may
+-- now contain interim fixings", W-201 of document 02; "Lists may now contain joins", W-205), with the power prices that
+-- fixings write (W-204). Assumes nothing.
 use mathlib.Core.Path.{_≡_}
 use mathlib.Core.Bool.{true}
 use mathlib.Core.List.{List, _∷_, _++_}
@@ -43,7 +44,12 @@ pub record WrittenPower (n : ℕ) (input : FixingInput) (written : List ℕ) : T
   pub words : length written ≡ n
   pub average : (i : ℕ) → i < n → getD written i 0 ≡ inputPowerAverage input i
 
--- after every list of calls from an opened ledger of n distributors:
+-- how many distributors there are after a list of calls on a ledger opened with n: each join that was accepted added
+-- one
+abbrev pub countAfter : ℕ → List Call → ℕ
+countAfter n calls = plainAfter (plainOpened n) calls .count
+
+-- after every list of calls from a ledger that was opened with n distributors:
 pub record History (n : ℕ) (calls : List Call) : Type 0 where
   -- the ledger equals the plain ledger part by part
   pub same : after (opened n) calls ≡ image (plainAfter (plainOpened n) calls)
@@ -57,8 +63,9 @@ pub record History (n : ℕ) (calls : List Call) : Type 0 where
   -- the ledger is sound, so that no call in such a list meets 2
   pub whole : sound (after (opened n) calls) ≡ true
   -- each accepted fixing in the list, regular or interim, wrote 01's prices over the prices that its lines take, with a
-  -- smallest largest charge, and 02's power prices
+  -- smallest largest charge, and 02's power prices, of the distributors that there were then
   pub fixings : (before rest : List Call) (call : FixingCall) → calls ≡ before ++ (fixing call ∷ rest) →
       isPassed (fixingVerdict (after (opened n) before) call) ≡ true →
-      WrittenPrices n (inputDistributors n (call .input)) (fixingList (after (opened n) before) call)
-      × WrittenPower n (call .input) (fixingPowerList (after (opened n) before) call)
+      WrittenPrices (countAfter n before) (inputDistributors (countAfter n before) (call .input))
+      (fixingList (after (opened n) before) call)
+      × WrittenPower (countAfter n before) (call .input) (fixingPowerList (after (opened n) before) call)

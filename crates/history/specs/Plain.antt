@@ -1,14 +1,17 @@
 -- The "plain ledger" (a term of document 01), defined apart from the ledger: it holds the latest accepted fixing's
 -- arguments, not charges, and its checks and steps are written over its own parts. Only the check of soundness goes
--- through its image, the ledger that follows from it. Assumes nothing.
+-- through its image, the ledger that follows from it. Joins are "done on the plain ledger in the same way" (W-205 of
+-- document 02). Assumes nothing.
 use mathlib.Core.Bool.{Bool, true, false, cond, not}
 use mathlib.Core.List.{List, [], _∷_}
 use mathlib.Core.Option.{Option, none, some}
 use Prim.Native.Nat.{ℕ, _+_}
-use lib.Dec.{eqb}
+use lib.Dec.{ltb, eqb}
 use lib.IntN.{ℤ, pos, _+ℤ_}
+use Rattle.numbers.specs.Bounded.{anyBelow, filledBelow}
 use Rattle.numbers.specs.Refusal.{Answered, accepted, withoutValues}
 use Rattle.numbers.specs.Signed.{signedSumBelow}
+use Rattle.numbers.specs.Sizes.{mostDistributors}
 use Rattle.series.specs.Series.{valuesInRange}
 use Rattle.supply.specs.Months.{Place}
 use Rattle.fixing.specs.Limit.{limit, surcharge, rounds, residue, charge}
@@ -23,19 +26,20 @@ use Rattle.ledger.specs.Turn.{fixingTurn, settlementTurn}
 use Rattle.ledger.specs.Fix.{FixingCall, callLengths}
 use Rattle.ledger.specs.Settle.{SettlementCall, billingLengths}
 use Rattle.ledger.specs.declared.ledger.Ledger.{Ledger}
-use Rattle.history.specs.Run.{Call, fixing, settlement}
+use Rattle.history.specs.Run.{Call, fixing, settlement, join}
 
--- "It holds n, the count of settled months, the last month, the latest accepted fixing's arguments and n balances"
+-- "It holds n, the count of settled months" of each distributor (02), "the last month, the latest accepted fixing's
+-- arguments and n balances"
 pub record Plain : Type 0 where
   pub count : ℕ
-  pub months : ℕ
+  pub months : ℕ → ℕ
   pub last : ℕ
   pub held : Option FixingCall
   pub balance : ℕ → ℤ
 
 -- "at first n, zeros and no fixing"
 unfoldable pub plainOpened : ℕ → Plain
-plainOpened n = record { count = n; months = 0; last = 0; held = none; balance = λ i. pos 0 }
+plainOpened n = record { count = n; months = λ i. 0; last = 0; held = none; balance = λ i. pos 0 }
 
 -- what follows from the arguments held: whether there is a fixing, its month, its presences and sector charges
 abbrev pub isHeld : Option FixingCall → Bool
@@ -52,7 +56,7 @@ heldForce n (some call) = sectorCharges n (charge (inputDistributors n (call .in
 
 -- whether any month is settled, the month that comes next, and what a month is billed under: the fixing held
 unfoldable pub plainSettled : Plain → Bool
-plainSettled plain = not (eqb (plain .months) 0)
+plainSettled plain = anyBelow (plain .count) (λ i. not (eqb (plain .months i) 0))
 
 unfoldable pub plainNext : Plain → ℕ
 plainNext plain = plain .last + 1
@@ -65,12 +69,12 @@ unfoldable pub image : Plain → Ledger
 image plain =
     record {
       n = plain .count;
-      months = plain .months;
       last = plain .last;
       fixed = isHeld (plain .held);
       month = heldMonth (plain .held);
       force = heldForce (plain .count) (plain .held);
       balances = moneyBelow (plain .count) (plain .balance);
+      counts = filledBelow mostDistributors 0 (plain .count) (plain .months);
     }
 
 -- a cause by its number, met where a test fails
@@ -138,16 +142,30 @@ settlementCauses plain call =
 unfoldable pub plainSettlement : Plain → SettlementCall → Answered
 plainSettlement plain call = firstCause (settlementCauses plain call) []
 
+-- a join put to the checks
+unfoldable pub joinCauses : Plain → List (Option Answered)
+joinCauses plain = cause 2 (sound (image plain)) ∷ cause 15 (ltb (plain .count) mostDistributors) ∷ []
+
+unfoldable pub plainJoin : Plain → Answered
+plainJoin plain = firstCause (joinCauses plain) []
+
 unfoldable pub plainAnswer : Plain → Call → Answered
 plainAnswer plain (fixing call) = plainFixing plain call
 plainAnswer plain (settlement call) = plainSettlement plain call
+plainAnswer plain join = plainJoin plain
 
 -- "One that meets a cause is refused and changes nothing; any other is accepted"
 unfoldable pub plainAccepts : Plain → Call → Bool
 plainAccepts plain call = eqb (plainAnswer plain call .number) 0
 
+-- what the n distributors have, and what one more has who joins them
+abbrev pub withOneMore : {A : Type 0} → ℕ → (ℕ → A) → A → ℕ → A
+withOneMore n f new i = cond (ltb i n) (f i) new
+
 -- "An accepted fixing replaces the one held", and so does an interim one, "the prices in force being among its
--- arguments"; "An accepted settlement .. moves the balances .., sets the last month and raises the count"
+-- arguments"; "An accepted settlement .. moves the balances .., sets the last month and raises" all counts; a join
+-- "adds one at the end with balance 0", a count "zero on joining", and "the latest fixing [means] one made since the
+-- last join"
 unfoldable pub plainChange : Plain → Call → Plain
 plainChange plain (fixing call) =
     record {
@@ -160,10 +178,18 @@ plainChange plain (fixing call) =
 plainChange plain (settlement call) =
     record {
       count = plain .count;
-      months = plain .months + 1;
+      months = λ i. plain .months i + 1;
       last = call .month;
       held = plain .held;
       balance = newBalance (plain .count) (plainPosition plain call);
+    }
+plainChange plain join =
+    record {
+      count = plain .count + 1;
+      months = withOneMore (plain .count) (plain .months) 0;
+      last = plain .last;
+      held = none;
+      balance = withOneMore (plain .count) (plain .balance) (pos 0);
     }
 
 unfoldable pub plainStep : Plain → Call → Plain
@@ -181,6 +207,7 @@ plainAnswers plain (call ∷ calls) = plainAnswer plain call ∷ plainAnswers (p
 unfoldable pub callCollects : Plain → Call → ℤ
 callCollects plain (fixing call) = pos 0
 callCollects plain (settlement call) = signedSumBelow (plain .count) (plainAmount plain call)
+callCollects plain join = pos 0
 
 unfoldable pub plainCollected : Plain → List Call → ℤ
 plainCollected plain [] = pos 0

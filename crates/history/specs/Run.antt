@@ -6,12 +6,14 @@ use Rattle.numbers.specs.Refusal.{Answered, verdictAnswered}
 use Rattle.ledger.specs.Ledger.{openingLedger}
 use Rattle.ledger.specs.Fix.{FixingCall, fixingAnswer, fixingAnswered, fixingLedger}
 use Rattle.ledger.specs.Settle.{SettlementCall, settlementVerdict, settlementLedger}
+use Rattle.ledger.specs.Join.{joinVerdict, joinLedger}
 use Rattle.ledger.specs.declared.ledger.Ledger.{Ledger}
 
--- a fixing, regular or interim, or a settlement, with any arguments
+-- a fixing, regular or interim, or a settlement, with any arguments, or a join
 pub data Call : Type 0 where
   fixing : FixingCall → Call
   settlement : SettlementCall → Call
+  join : Call
 
 -- the ledger that an opening with n hands back
 unfoldable pub opened : ℕ → Ledger
@@ -20,11 +22,13 @@ opened n = openingLedger n
 unfoldable pub step : Ledger → Call → Ledger
 step ledger (fixing call) = fixingLedger ledger call
 step ledger (settlement call) = settlementLedger ledger call
+step ledger join = joinLedger ledger
 
 -- the number and values of a call's answer
 unfoldable pub answer : Ledger → Call → Answered
 answer ledger (fixing call) = fixingAnswered (fixingAnswer ledger call)
 answer ledger (settlement call) = verdictAnswered [] (settlementVerdict ledger call)
+answer ledger join = verdictAnswered [] (joinVerdict ledger)
 
 -- the ledger after a list of calls, and their answers
 unfoldable pub after : Ledger → List Call → Ledger

@@ -15,7 +15,7 @@ use Rattle.ledger.specs.declared.ledger.Ledger.{Ledger}
 use Rattle.ledger.specs.declared.ledger.Outcome.{Outcome}
 
 module _ (ledger : Ledger) where
-  join-told : AllTold (joinChecks ledger)
+  pub join-told : AllTold (joinChecks ledger)
   unfolding AllTold joinChecks
   join-told = (
     check-told 2 (sound ledger) Unsound refl,

@@ -356,3 +356,13 @@ join-keeps ledger h = go (isPassed (joinVerdict ledger)) refl
     go : (b : Bool) → isPassed (joinVerdict ledger) ≡ b → sound (cond b (joinedLedger ledger) ledger) ≡ true
     go true e = accepted (join-passed ledger e)
     go false e = h
+
+-- a join moves no balance
+pub join-balances : (ledger : Ledger) → sound ledger ≡ true → joinLedger ledger .balances ≡ ledger .balances
+unfolding joinLedger joinedLedger
+join-balances ledger h = go (isPassed (joinVerdict ledger)) refl
+  where
+    go : (b : Bool) → isPassed (joinVerdict ledger) ≡ b → cond b (joinedLedger ledger) ledger .balances ≡ ledger
+        .balances
+    go true e = balances-held ledger h (join-passed ledger e)
+    go false e = refl

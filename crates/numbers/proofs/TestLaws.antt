@@ -1,8 +1,9 @@
 -- Laws of the tests of all and of any index below a bound. Assumes nothing.
 use mathlib.Core.Path.{_≡_, refl, sym, _∙_, ap, ap₂}
 use mathlib.Core.Bool.{Bool, true, false, not, _&&_, _||_, and-false}
-use Prim.Native.Nat.{ℕ, zero, suc, _+_, _<_, _≤_}
+use Prim.Native.Nat.{ℕ, zero, suc, _+_, _-_, _<_, _≤_}
 use native.Mathlib.Numerals.{add-one}
+use native.Mathlib.Nat.{zero-add, suc-add}
 use native.Mathlib.Omega.{arith}
 use Rattle.numbers.specs.Bounded.{allBelow, anyBelow}
 use Rattle.numbers.proofs.BoolLaws.{and-left, and-right, or-left, or-right, by-last}
@@ -83,6 +84,10 @@ or-true : (a : Bool) → (a || true) ≡ true
 or-true true = refl
 or-true false = refl
 
+or-false : (a : Bool) → (a || false) ≡ a
+or-false true = refl
+or-false false = refl
+
 pub any-holds : (k : ℕ) (t : ℕ → Bool) (j : ℕ) → j < k → t j ≡ true → anyBelow k t ≡ true
 unfolding anyBelow
 any-holds zero t j p h = absurd (omega arith)
@@ -103,6 +108,19 @@ pub any-same : (k : ℕ) (s t : ℕ → Bool) → ((j : ℕ) → j < k → s j �
 unfolding anyBelow
 any-same zero s t h = refl
 any-same (suc k) s t h = ap₂ _||_ (any-same k s t (λ j p. h j (omega arith))) (h k (omega arith))
+
+-- indices that fail add nothing
+any-up : (n k : ℕ) (t : ℕ → Bool) → ((i : ℕ) → n ≤ i → i < k + n → t i ≡ false) → anyBelow (k + n) t ≡ anyBelow n t
+unfolding anyBelow
+any-up n zero t h = rw zero-add
+any-up n (suc k) t h =
+    rw (suc-add, any-up n k t (λ i p q. h i p (omega arith)), h (k + n) (omega arith) (omega arith))
+    (or-false (anyBelow n t))
+
+pub any-wide : (n m : ℕ) (t : ℕ → Bool) → n ≤ m → ((i : ℕ) → n ≤ i → i < m → t i ≡ false) → anyBelow m t ≡ anyBelow n t
+any-wide n m t p h =
+    let e : m - n + n ≡ m = omega arith in
+    rw e at (any-up n (m - n) t (λ i q r. h i q (omega arith)))
 
 -- an index passes, unless each fails
 any-unless : (k : ℕ) (t : ℕ → Bool) → anyBelow k t ≡ not (allBelow k (λ i. not (t i)))
