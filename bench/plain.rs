@@ -76,13 +76,14 @@ fn half_away(numerator: i64, denominator: u64) -> i64 {
 #[derive(Debug, Clone, PartialEq, Eq)]
 struct Ledger {
     distributors: usize,
-    months_settled: u64,
     last_month: u64,
     has_fixing: bool,
     fixing_month: u64,
     present: [bool; MAX_PLACES],
     charges: [i64; MAX_PLACES],
     balances: [i64; MAX_DISTRIBUTORS],
+    /// The settled months of each distributor.
+    counts: [u64; MAX_DISTRIBUTORS],
 }
 
 impl Ledger {
@@ -92,14 +93,18 @@ impl Ledger {
         }
         Ok(Ledger {
             distributors,
-            months_settled: 0,
             last_month: 0,
             has_fixing: false,
             fixing_month: 0,
             present: [false; MAX_PLACES],
             charges: [0; MAX_PLACES],
             balances: [0; MAX_DISTRIBUTORS],
+            counts: [0; MAX_DISTRIBUTORS],
         })
+    }
+
+    fn has_settled_month(&self) -> bool {
+        self.counts.iter().any(|&count| count != 0)
     }
 
     fn is_sound(&self) -> bool {
@@ -107,8 +112,8 @@ impl Ledger {
         if !(1..=MAX_DISTRIBUTORS).contains(&n) {
             return false;
         }
-        // Charges past n are zero too, because their sectors are absent.
-        if self.present[SECTORS * n..].contains(&true) || self.balances[n..].iter().any(|&b| b != 0) {
+        // Charges past n are zero too, because their sectors are absent, and balances, because their counts are zero.
+        if self.present[SECTORS * n..].contains(&true) || self.counts[n..].iter().any(|&count| count != 0) {
             return false;
         }
         let charge_is_sound = |(&present, charge): (&bool, &i64)| {
@@ -127,11 +132,13 @@ impl Ledger {
         if !self.has_fixing && (self.fixing_month != 0 || self.present.contains(&true)) {
             return false;
         }
-        if self.months_settled == 0 {
-            return self.last_month == 0 && self.balances.iter().all(|&b| b == 0);
+        if self.balances.iter().zip(&self.counts).any(|(&balance, &count)| count == 0 && balance != 0) {
+            return false;
         }
-        self.has_fixing
-            && self.months_settled <= self.last_month + 1
+        if !self.has_settled_month() {
+            return self.last_month == 0;
+        }
+        self.counts.iter().all(|&count| count <= self.last_month + 1)
             && self.fixing_month <= self.last_month + 1
             && self.balances.iter().all(|b| BALANCE_RANGE.contains(b))
             && !(self.balances.iter().any(|&b| b > 0) && self.balances.iter().any(|&b| b < 0))
@@ -382,7 +389,7 @@ fn fix(ledger: &Ledger, input: &FixingInput, prices: &mut [i64], power: &mut [u6
     {
         return Err(Refusal::WrongLength);
     }
-    if month > LAST_MONTH || (ledger.months_settled > 0 && month != ledger.last_month + 1) {
+    if month > LAST_MONTH || (ledger.has_settled_month() && month != ledger.last_month + 1) {
         return Err(Refusal::OutOfTurn);
     }
     if !DOLLAR_RANGE.contains(&input.dollar)
@@ -499,7 +506,7 @@ fn settle(ledger: &Ledger, input: &SettlementInput, transfers: &mut [i64]) -> Re
     if input.readings.len() != 4 * SECTORS * n || input.loss_factors.len() != 2 * n || transfers.len() != n {
         return Err(Refusal::WrongLength);
     }
-    let out_of_turn = if ledger.months_settled > 0 {
+    let out_of_turn = if ledger.has_settled_month() {
         month != ledger.last_month + 1
     } else {
         ledger.has_fixing && month != ledger.fixing_month
@@ -549,7 +556,9 @@ fn settle(ledger: &Ledger, input: &SettlementInput, transfers: &mut [i64]) -> Re
         };
         ledger.balances[i] = position + transfers[i];
     }
-    ledger.months_settled += 1;
+    for count in &mut ledger.counts[..n] {
+        *count += 1;
+    }
     ledger.last_month = month;
     Ok(ledger)
 }
@@ -746,6 +755,7 @@ mod tests {
         let second = settle(&first, &month_of(31, [0, 1_000, 1_000]), &mut transfers).unwrap();
         assert_eq!(transfers, [1_302, -121, -1_181]);
         assert_eq!(second.balances[..3], [0, 1_217, 11_841]);
+        assert_eq!(second.counts[..4], [2, 2, 2, 0]);
         let again = settle(&second, &month_of(31, [0; 3]), &mut transfers);
         assert_eq!(again, Err(Refusal::OutOfTurn));
         assert_eq!(fix(&second, &input, &mut prices, &mut power).err(), Some(Refusal::OutOfTurn));
@@ -849,11 +859,33 @@ mod tests {
         short.loss_factors.pop();
         assert_eq!(refusal(&fixed, &short), Some(Refusal::WrongLength));
         let mut full = fixed.clone();
-        (full.months_settled, full.last_month) = (1, 30);
+        full.last_month = 30;
+        full.counts[..3].fill(1);
         full.balances[2] = 1_000_000_000_000_000;
         assert_eq!(refusal(&full, &month_of(31, [0, 0, 1_000])), Some(Refusal::Position));
         full.balances[1] = -1;
         assert_eq!(refusal(&full, &month_of(31, [0; 3])), Some(Refusal::UnsoundLedger));
         assert_eq!(transfers, [-7; 3]);
+    }
+
+    #[test]
+    fn counts_decide_what_is_settled() {
+        let mut settled = Ledger::open(3).unwrap();
+        (settled.last_month, settled.counts[2], settled.balances[2]) = (30, 31, 7);
+        let refusal = |ledger: &Ledger, month| settle(ledger, &month_of(month, [0; 3]), &mut [0; 3]).err();
+        assert_eq!(refusal(&settled, 31), Some(Refusal::NoFixing));
+        assert_eq!(refusal(&settled, 30), Some(Refusal::OutOfTurn));
+        let unsound = |change: fn(&mut Ledger)| {
+            let mut ledger = settled.clone();
+            change(&mut ledger);
+            !ledger.is_sound()
+        };
+        assert!(unsound(|ledger| ledger.counts[2] = 0));
+        assert!(unsound(|ledger| ledger.counts[2] = 32));
+        assert!(unsound(|ledger| ledger.counts[3] = 1));
+        assert!(unsound(|ledger| ledger.balances[1] = 7));
+        assert!(unsound(|ledger| ledger.balances[3] = 7));
+        assert!(unsound(|ledger| (ledger.counts, ledger.balances) = ([0; 40], [0; 40])));
+        assert!(!unsound(|ledger| (ledger.counts[1], ledger.balances[1]) = (1, 7)));
     }
 }

@@ -1,6 +1,6 @@
 #!/usr/bin/env python3
 """An independent model of document 01, as document 02 changes it, written from their text with unbounded integers:
-opening, fixing, interim fixing, settlement.
+opening, joining, fixing, interim fixing, settlement.
 
     tools/recompute.py < JOURNAL
 
@@ -22,17 +22,22 @@ def half_away(a, b):
 
 
 class Ledger:
-    """n, months settled, last month, fixing present, its month, presence and charge of each sector, balances."""
+    """n, last month, fixing present, its month, presence and charge of each sector, balance and count of settled months of
+    each distributor."""
 
     def __init__(self, n=0):
-        self.n, self.months, self.last, self.fixed, self.month = n, 0, 0, False, 0
-        self.present, self.charge, self.balance = [False] * 320, [0] * 320, [0] * 40
+        self.n, self.last, self.fixed, self.month = n, 0, False, 0
+        self.present, self.charge, self.balance, self.count = [False] * 320, [0] * 320, [0] * 40, [0] * 40
 
     def copy(self):
         c = Ledger(self.n)
-        c.months, c.last, c.fixed, c.month = self.months, self.last, self.fixed, self.month
-        c.present, c.charge, c.balance = list(self.present), list(self.charge), list(self.balance)
+        c.last, c.fixed, c.month = self.last, self.fixed, self.month
+        c.present, c.charge, c.balance, c.count = list(self.present), list(self.charge), list(self.balance), list(self.count)
         return c
+
+    def settled(self):
+        """W-205: "a month is settled once any count isn't zero"."""
+        return any(self.count)
 
 
 def open_ledger(n):
@@ -43,7 +48,7 @@ def sound(b):
     if not 1 <= b.n <= 40:
         return False
     # "entries past n .. are zero"
-    if any(b.present[8 * b.n:]) or any(b.charge[8 * b.n:]) or any(b.balance[b.n:]):
+    if any(b.present[8 * b.n:]) or any(b.charge[8 * b.n:]) or any(b.balance[b.n:]) or any(b.count[b.n:]):
         return False
     # "charges of absent sectors"
     if any(c != 0 and not p for p, c in zip(b.present, b.charge)):
@@ -51,23 +56,34 @@ def sound(b):
     # "everything unset [is] zero"
     if not b.fixed and (b.month != 0 or any(b.present) or any(b.charge)):
         return False
-    if b.months == 0 and b.last != 0:
+    if not b.settled() and b.last != 0:
         return False
     # "month numbers are at most 1,199"
     if b.last > 1199 or b.month > 1199:
         return False
-    # "once a month is settled, the count of months and the fixing's month are at most last+1"
-    if b.months > 0 and (b.months > b.last + 1 or b.month > b.last + 1):
+    # "once a month is settled, .. the fixing's month [is] at most last+1"
+    if b.settled() and b.month > b.last + 1:
         return False
-    # "till then balances are zero"
-    if b.months == 0 and any(b.balance):
+    # W-205: "each [count] is at most last+1"
+    if any(c > b.last + 1 for c in b.count):
         return False
-    # "nothing is settled without a fixing"
-    if b.months > 0 and not b.fixed:
+    # W-205: "a balance with count zero is zero"
+    if any(v != 0 and c == 0 for v, c in zip(b.balance, b.count)):
         return False
     if any(abs(c) > 10_500_000 for c in b.charge) or any(abs(v) > 10 ** 15 for v in b.balance):
         return False
     return not (any(v > 0 for v in b.balance) and any(v < 0 for v in b.balance))
+
+
+def join(book):
+    if not sound(book):
+        return 2, book
+    if book.n == 40:
+        return 15, book
+    # "adds one at the end with balance 0, and no fixing is then in force"; its count is "zero on joining"
+    new = Ledger(book.n + 1)
+    new.last, new.balance, new.count = book.last, list(book.balance), list(book.count)
+    return 0, new
 
 
 def term_wrong(lag, window, value):
@@ -220,7 +236,7 @@ def fix(book, month, dollar, factor, first, series, lines, sectors, in_force, pr
         return 3, (), *keep
     if in_force is not None and len(in_force) != len(lines) // 30:
         return 3, (), *keep
-    if month > 1199 or (book.months and month != book.last + 1):
+    if month > 1199 or (book.settled() and month != book.last + 1):
         return 4, (), *keep
     rows = [lines[30 * j:30 * j + 30] for j in range(len(lines) // 30)]
     if not 1 <= dollar <= 200_000 or not 5000 <= factor <= 20000 or first > 1199:
@@ -294,7 +310,7 @@ def settle(book, month, readings, losses, out):
         return 3, *keep
     if month > 1199:
         return 4, *keep
-    if book.months:
+    if book.settled():
         if month != book.last + 1:
             return 4, *keep
     elif book.fixed and month != book.month:
@@ -320,8 +336,9 @@ def settle(book, month, readings, losses, out):
     t = min(sum(owing), sum(owed))
     transfers = [b - a for a, b in zip(shares(owing, t), shares(owed, t))]
     new = book.copy()
-    new.balance = [v + w for v, w in zip(position, transfers)] + [0] * (40 - n)
-    new.months, new.last = book.months + 1, month
+    # "a settlement raises all"
+    new.balance[:n], new.count[:n] = [v + w for v, w in zip(position, transfers)], [c + 1 for c in book.count[:n]]
+    new.last = month
     return 0, new, transfers
 
 
@@ -405,26 +422,30 @@ def open_command(journal, book):
     return book, ["open accepted" if number == 0 else f"open refused {number}"]
 
 
+def join_command(journal, book):
+    number, book = join(book)
+    return book, ["join accepted" if number == 0 else f"join refused {number}"]
+
+
 def save_command(journal, book):
-    n = book.n
-    places = n if n <= 40 and not (any(book.present[8 * n:]) or any(book.charge[8 * n:]) or any(book.balance[n:])) else 40
-    lists = (("present", map(int, book.present[:8 * places])), ("charges", book.charge[:8 * places]), ("balances", book.balance[:places]))
-    rows = [" ".join([name, str(len(words)), *map(str, words)]) for name, words in ((a, list(b)) for a, b in lists)]
-    return book, [f"load {n} {book.months} {book.last} {int(book.fixed)} {book.month}"] + rows
+    lists = (("present", list(map(int, book.present)), 8), ("charges", book.charge, 8), ("balances", book.balance, 1), ("counts", book.count, 1))
+    n = 40 if book.n > 40 or any(any(words[each * book.n:]) for _, words, each in lists) else book.n
+    rows = [" ".join([name, str(each * n), *map(str, words[:each * n])]) for name, words, each in lists]
+    return book, [f"load {book.n} {book.last} {int(book.fixed)} {book.month}"] + rows
 
 
 def load_command(journal, book):
     book = Ledger(journal.number())
-    book.months, book.last = journal.number(), journal.number()
-    book.fixed, book.month = journal.flag(), journal.number()
-    for held, name, read in ((book.present, b"present", journal.flag), (book.charge, b"charges", journal.signed), (book.balance, b"balances", journal.signed)):
+    book.last, book.fixed, book.month = journal.number(), journal.flag(), journal.number()
+    for held, name, read in ((book.present, b"present", journal.flag), (book.charge, b"charges", journal.signed),
+                             (book.balance, b"balances", journal.signed), (book.count, b"counts", journal.number)):
         given = journal.list(name, read, len(held))
         held[:len(given)] = given
     return book, ["load accepted"]
 
 
-COMMANDS = {b"open": open_command, b"fix": fix_command, b"interim": interim_command, b"settle": settle_command, b"save": save_command,
-            b"load": load_command}
+COMMANDS = {b"open": open_command, b"join": join_command, b"fix": fix_command, b"interim": interim_command, b"settle": settle_command,
+            b"save": save_command, b"load": load_command}
 
 
 def replay(text):
