@@ -10,3 +10,4 @@ pub mod CallLaws
 pub mod JoinLaws
 pub mod KeptLaws
 pub mod Computed
+pub mod JoinExample
