@@ -1,4 +1,4 @@
-// The given journal of W-204, then a tie in each rounding that can have one, bounds met alone, neighbouring causes met
+// The given journal of W-205, then a tie in each rounding that can have one, bounds met alone, neighbouring causes met
 // at once, words that are all different, interim fixings and forty distributors: the journal beside this program,
 // replayed.
 use commands::input::journal_buffer;
