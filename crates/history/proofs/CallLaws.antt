@@ -51,9 +51,9 @@ use Rattle.ledger.proofs.SettleLaws.{settlement-told}
 use Rattle.ledger.proofs.JoinLaws.{join-told}
 use Rattle.history.specs.Run.{fixing, settlement, join}
 use Rattle.history.specs.Plain.{Plain, isHeld, heldMonth, heldForce, plainSettled, plainNext, plainUnder, image}
-use Rattle.history.specs.Plain.{cause, causeAtTerm, causeAtLine, firstCause, fixingCauses, plainFixing, plainAmount}
-use Rattle.history.specs.Plain.{plainPosition, settlementCauses, plainSettlement, plainAnswer, plainAccepts}
-use Rattle.history.specs.Plain.{joinCauses, plainJoin, withOneMore, plainChange, plainStep}
+use Rattle.history.specs.Plain.{cause, causeAtTerm, causeAtLine, firstCause, fixingCauses, plainFixing}
+use Rattle.history.specs.Plain.{plainAmount, plainPosition, settlementCauses, plainSettlement, plainAnswer}
+use Rattle.history.specs.Plain.{joinCauses, plainJoin, plainAccepts, withOneMore, plainChange, plainStep}
 
 -- the same number and values, accepted by the ledger exactly where the number is 0
 pub record Same (answered : Answered) (passed : Bool) (plain : Answered) : Type 0 where
@@ -230,7 +230,8 @@ module _ (plain : Plain) (call : SettlementCall) (h : sound (image plain) ≡ tr
       )
 
   pub settlement-step : settlementLedger (image plain) call ≡ image (plainStep plain (settlement call))
-  unfolding image settlementLedger settledLedger raisedCounts settledMonth plainStep plainAccepts plainAnswer plainChange
+  unfolding image settlementLedger settledLedger raisedCounts settledMonth plainStep plainAccepts plainAnswer
+      plainChange
   settlement-step =
       go (isPassed (settlementVerdict (image plain) call))
       ∙ ap (λ b. image (cond b (plainChange plain (settlement call)) plain)) (settlement-same .accepts)

@@ -1,6 +1,6 @@
--- Demand 3 of document 01 as one statement about a whole list of calls, interim fixings and joins among them ("Lists may
--- now contain interim fixings", W-201 of document 02; "Lists may now contain joins", W-205), with the power prices that
--- fixings write (W-204). Assumes nothing.
+-- Demand 3 of document 01 as one statement about a whole list of calls, interim fixings and joins among them ("Lists
+-- may now contain interim fixings", W-201 of document 02; "Lists may now contain joins", W-205), with the power prices
+-- that fixings write (W-204). Assumes nothing.
 use mathlib.Core.Path.{_≡_}
 use mathlib.Core.Bool.{true}
 use mathlib.Core.List.{List, _∷_, _++_}

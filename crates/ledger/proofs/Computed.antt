@@ -8,21 +8,22 @@ use Rattle.ledger.specs.Example.{firstBilling, secondBilling, firstLedge
 use Rattle.ledger.specs.Fix.{linesWhole, fixingLengths, inForceLength, fixingChecks, fixingVerdict}
 use Rattle.ledger.specs.Fix.{acceptedAnswer, fixingAnswer, fixingLedger, priceWord, priceList, fixingList}
 use Rattle.ledger.specs.Ledger.{noBalances, emptyLedger, anySettled, nextMonth, billedUnder, fixedLedger}
-use Rattle.ledger.specs.Ledger.{raisedCounts, settledLedger, joinedLedger, openingChecks, openingVerdict, openingLedger}
+use Rattle.ledger.specs.Ledger.{raisedCounts, settledLedger, joinedLedger, openingChecks, openingVerdict}
+use Rattle.ledger.specs.Ledger.{openingLedger}
 use Rattle.ledger.specs.Settle.{settlementLengths, positionsOf, settlementChecks, settlementVerdict}
 use Rattle.ledger.specs.Settle.{settlementLedger, settlementList}
 use Rattle.ledger.specs.Join.{joinChecks, joinVerdict, joinLedger}
 use Rattle.ledger.specs.Sound.{placesHeld, placeTest, placeSound, forceSound, unsetZero, monthsSound}
-use Rattle.ledger.specs.Sound.{mostCountOf, countTest, countsSound, mostBalanceOf, balanceTest, balanceSound, eachBalance, balancesSound, sound}
+use Rattle.ledger.specs.Sound.{mostCountOf, countTest, countsSound, mostBalanceOf, balanceTest, balanceSound}
+use Rattle.ledger.specs.Sound.{eachBalance, balancesSound, sound}
 use Rattle.ledger.specs.Turn.{fixingTurn, settlementTurn}
 
 unfoldable pub ledgerComputed : ℕ
 unfolding fixingComputed settlementComputed plainLine plainSeries plainNumbers plainCall printCall printLedger
-    firstBilling
-    secondBilling firstLedger linesWhole fixingLengths inForceLength fixingChecks fixingVerdict acceptedAnswer
-    fixingAnswer fixingLedger priceWord priceList fixingList noBalances emptyLedger anySettled nextMonth billedUnder
-    fixedLedger raisedCounts settledLedger joinedLedger openingChecks openingVerdict openingLedger settlementLengths positionsOf
-    settlementChecks settlementVerdict settlementLedger settlementList joinChecks joinVerdict joinLedger placesHeld placeTest placeSound forceSound
-    unsetZero monthsSound mostCountOf countTest countsSound mostBalanceOf balanceTest balanceSound eachBalance balancesSound sound fixingTurn
-    settlementTurn
+    firstBilling secondBilling firstLedger linesWhole fixingLengths inForceLength fixingChecks fixingVerdict
+    acceptedAnswer fixingAnswer fixingLedger priceWord priceList fixingList noBalances emptyLedger anySettled nextMonth
+    billedUnder fixedLedger raisedCounts settledLedger joinedLedger openingChecks openingVerdict openingLedger
+    settlementLengths positionsOf settlementChecks settlementVerdict settlementLedger settlementList joinChecks
+    joinVerdict joinLedger placesHeld placeTest placeSound forceSound unsetZero monthsSound mostCountOf countTest
+    countsSound mostBalanceOf balanceTest balanceSound eachBalance balancesSound sound fixingTurn settlementTurn
 ledgerComputed = 0

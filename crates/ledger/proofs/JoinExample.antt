@@ -1,12 +1,12 @@
 -- An example of a join worked by hand, which holds the definitions by computation: after class example 9, with month 1
--- settled for three distributors, a fourth joins. Month 2 is next and has no fixing; then one covers all four, and month
--- 2 is settled with nothing billed. Assumes nothing.
+-- settled for three distributors, a fourth joins. Month 2 is next and has no fixing; then one covers all four, and
+-- month 2 is settled with nothing billed. Assumes nothing.
 use mathlib.Core.Path.{_≡_, refl}
 use mathlib.Core.Bool.{false}
-use mathlib.Core.List.{List, [], _∷_, _++_}
+use mathlib.Core.List.{[], _∷_, _++_}
 use Prim.Native.Nat.{ℕ}
 use lib.ListN.{take, replicate}
-use lib.IntN.{ℤ, pos, negsuc}
+use lib.IntN.{pos, negsuc}
 use Rattle.numbers.specs.Bounded.{listBelow}
 use Rattle.numbers.specs.Refusal.{verdictAnswered}
 use Rattle.settlement.specs.Month.{moneyAt}
@@ -24,8 +24,8 @@ joined = joinLedger firstLedger
 
 abbrev coveringCall : FixingCall
 coveringCall =
-    fixingCallOf false (record { month = 2; dollar = 100000; «reference_factor» = 10000; «first_month» = 1 }) plainSeries
-    (plainLine 0 100000 10 ++ (plainLine 1 83000 10 ++ (plainLine 2 60000 11 ++ plainLine 3 60000 11)))
+    fixingCallOf false (record { month = 2; dollar = 100000; «reference_factor» = 10000; «first_month» = 1 })
+    plainSeries (plainLine 0 100000 10 ++ (plainLine 1 83000 10 ++ (plainLine 2 60000 11 ++ plainLine 3 60000 11)))
     (inSectorZero 0 10000 10000 10000 ++ (10000 ∷ replicate 7 0)) [] (replicate 12 (pos 0)) (replicate 4 0)
 
 abbrev covered : Ledger
@@ -38,29 +38,32 @@ nothingBilled month = settlementCallOf month (replicate 128 0) (replicate 8 1000
 abbrev settledNumber : Ledger → ℕ → ℕ
 settledNumber ledger month = verdictAnswered [] (settlementVerdict ledger (nothingBilled month)) .number
 
--- the numbers: join, settlement of month 3 and of month 2, fixing, settlement of month 2
-example-join-numbers : verdictAnswered [] (joinVerdict firstLedger) .number
-    ∷ settledNumber joined 3
-    ∷ settledNumber joined 2
-    ∷ fixingAnswered (fixingAnswer joined coveringCall) .number
-    ∷ settledNumber covered 2
-    ∷ [] ≡ 0 ∷ 4 ∷ 5 ∷ 0 ∷ 0 ∷ []
+-- the join is accepted; then month 3 is out of turn, and month 2 has no fixing, until one covers all
+example-joined : verdictAnswered [] (joinVerdict firstLedger) .number ≡ 0
 unfolding ledgerComputed
-example-join-numbers = refl
+example-joined = refl
 
--- the counts after the join and after month 2, and the balances after the join
-example-join-counts : take 5 (joined .counts) ++ take 5 (settlementLedger covered (nothingBilled 2) .counts) ≡ 1 ∷ 1 ∷ 1
-    ∷ 0
-    ∷ 0
-    ∷ 2
-    ∷ 2
-    ∷ 2
-    ∷ 1
-    ∷ 0
-    ∷ []
+example-out-of-turn : settledNumber joined 3 ≡ 4
 unfolding ledgerComputed
-example-join-counts = refl
+example-out-of-turn = refl
 
-example-join-balances : listBelow 5 (moneyAt (joined .balances)) ≡ negsuc 1301 ∷ pos 0 ∷ pos 0 ∷ pos 0 ∷ pos 0 ∷ []
+example-no-fixing : settledNumber joined 2 ≡ 5
 unfolding ledgerComputed
-example-join-balances = refl
+example-no-fixing = refl
+
+example-covered : fixingAnswered (fixingAnswer joined coveringCall) .number ≡ 0
+unfolding ledgerComputed
+example-covered = refl
+
+-- counts and balances after the join, and counts after month 2
+example-joined-counts : take 5 (joined .counts) ≡ 1 ∷ 1 ∷ 1 ∷ 0 ∷ 0 ∷ []
+unfolding ledgerComputed
+example-joined-counts = refl
+
+example-joined-balances : listBelow 5 (moneyAt (joined .balances)) ≡ negsuc 1301 ∷ pos 0 ∷ pos 0 ∷ pos 0 ∷ pos 0 ∷ []
+unfolding ledgerComputed
+example-joined-balances = refl
+
+example-raised-counts : take 5 (settlementLedger covered (nothingBilled 2) .counts) ≡ 2 ∷ 2 ∷ 2 ∷ 1 ∷ 0 ∷ []
+unfolding ledgerComputed
+example-raised-counts = refl

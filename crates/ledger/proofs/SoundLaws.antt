@@ -56,7 +56,8 @@ pub month-settled : (ledger : Ledger) (month : ℕ) (balances : List Pesos) → 
 unfolding anySettled settledLedger
 month-settled ledger month balances p =
     any-holds mostDistributors (isCounted (settledLedger ledger month balances)) 0 (omega arith)
-    (rw (raised-at (ledger .n) (ledger .counts) 0 (omega arith) p) (ap not (ne-eqb (countAt (ledger .counts) 0 + 1) 0 (λ e. omega arith))))
+    (rw (raised-at (ledger .n) (ledger .counts) 0 (omega arith) p)
+    (ap not (ne-eqb (countAt (ledger .counts) 0 + 1) 0 (λ e. omega arith))))
 
 -- what the code uses of a sound ledger
 module _ (ledger : Ledger) (h : sound ledger ≡ true) where

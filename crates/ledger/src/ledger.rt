@@ -1,5 +1,5 @@
-// The ledger by value, what is asked of it by name (whether a month is settled, which month comes next, and what a month
-// is billed under), and how a call hands it back.
+// The ledger by value, what is asked of it by name (whether a month is settled, which month comes next, and what a
+// month is billed under), and how a call hands it back.
 ghost use mathlib.Core.Path.{_≡_};
 ghost use Prim.Native.Nat.{_≤_};
 ghost use Rattle.numbers.specs.declared.refusal.Verdict.the-variants.{Refused};

@@ -25,8 +25,8 @@ add-raised c = omega (arith, c .before .before .pre .within (c .before .loop .i)
 loop-again : tie.Need-loop-again Inv-loop μ-loop
 loop-again c = let l = c .before in (
   omega arith,
-  filled-next mostDistributors 0 (l .loop .i) _ (l .loop .raised) _ (omega (arith, l .before .pre .few)) (l .loop .inv .1)
-      refl,
+  filled-next mostDistributors 0 (l .loop .i) _ (l .loop .raised) _ (omega (arith, l .before .pre .few))
+      (l .loop .inv .1) refl,
 )
 
 returns : tie.Need-returns Inv-loop μ-loop

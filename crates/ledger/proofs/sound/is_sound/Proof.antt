@@ -38,7 +38,8 @@ unfolding sound
 returns-2 c = rw (told-false (told (c .before)) (c .if2 .taken), and-false)
 
 places-held-requires : tie.Need-places-held-requires
-places-held-requires c κs = between-high 1 mostDistributors _ (counted (c .before .before .before .before .before .before))
+places-held-requires c κs =
+    between-high 1 mostDistributors _ (counted (c .before .before .before .before .before .before))
 
 counts-sound-requires : tie.Need-counts-sound-requires
 counts-sound-requires c κs =
