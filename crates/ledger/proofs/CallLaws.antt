@@ -1,16 +1,16 @@
 -- What an accepted call passed: each check of its list. Assumes nothing.
 use mathlib.Core.Path.{_≡_, sym, _∙_}
 use mathlib.Core.Bool.{true, _&&_}
-use Prim.Native.Nat.{ℕ, _*_, _%_, _≤_}
+use Prim.Native.Nat.{ℕ, _*_, _%_, _≤_, _<_}
 use lib.Dec.{eqb}
 use lib.ListN.{length}
-use borrow.Author.Tests.{eqb-true}
+use borrow.Author.Tests.{eqb-true, ltb-true}
 use Rattle.numbers.specs.Refusal.{isPassed}
 use Rattle.numbers.specs.Checks.{verdictOf}
 use Rattle.numbers.specs.Units.{between}
 use Rattle.numbers.specs.Sizes.{mostDistributors, sectorCount}
 use Rattle.numbers.specs.declared.refusal.Refusal.the-variants.{Unsound, WrongLength, OutOfTurn, NoFixing, WrongReading}
-use Rattle.numbers.specs.declared.refusal.Refusal.the-variants.{PositionBeyond}
+use Rattle.numbers.specs.declared.refusal.Refusal.the-variants.{PositionBeyond, LedgerFull}
 use Rattle.numbers.specs.declared.refusal.Verdict.the-variants.{Passed}
 use Rattle.numbers.proofs.BoolLaws.{and-left, and-right, and-five}
 use Rattle.numbers.proofs.CheckLaws.{FirstPass, passed-test, verdict-from, all-passed, is-passed}
@@ -30,6 +30,7 @@ use Rattle.ledger.specs.Turn.{fixingTurn}
 use Rattle.ledger.specs.Fix.{FixingCall, linesWhole, fixingLengths, inForceLength, callLengths, fixingChecks}
 use Rattle.ledger.specs.Fix.{fixingVerdict}
 use Rattle.ledger.specs.Settle.{SettlementCall, settlementChecks, settlementVerdict, positionsOf}
+use Rattle.ledger.specs.Join.{joinChecks, joinVerdict}
 use Rattle.ledger.specs.Required.{Due}
 use Rattle.ledger.specs.declared.ledger.Ledger.{Ledger}
 
@@ -117,3 +118,10 @@ settlement-passed ledger call h =
       billed = passed-test WrongReading _ (later .1 .0);
       within = passed-test PositionBeyond _ (later .1 .1 .0);
     }
+
+-- a join: there is room for one more
+pub join-passed : (ledger : Ledger) → isPassed (joinVerdict ledger) ≡ true → ledger .n < mostDistributors
+unfolding joinVerdict joinChecks FirstPass
+join-passed ledger h =
+    ltb-true (ledger .n) mostDistributors
+    (passed-test LedgerFull _ (all-passed (joinChecks ledger) (is-passed (joinVerdict ledger) h) .1 .0))

@@ -8,11 +8,11 @@ use Rattle.ledger.specs.Example.{firstBilling, secondBilling, firstLedge
 use Rattle.ledger.specs.Fix.{linesWhole, fixingLengths, inForceLength, fixingChecks, fixingVerdict}
 use Rattle.ledger.specs.Fix.{acceptedAnswer, fixingAnswer, fixingLedger, priceWord, priceList, fixingList}
 use Rattle.ledger.specs.Ledger.{noBalances, emptyLedger, anySettled, nextMonth, billedUnder, fixedLedger}
-use Rattle.ledger.specs.Ledger.{settledLedger, openingChecks, openingVerdict, openingLedger}
+use Rattle.ledger.specs.Ledger.{raisedCounts, settledLedger, openingChecks, openingVerdict, openingLedger}
 use Rattle.ledger.specs.Settle.{settlementLengths, positionsOf, settlementChecks, settlementVerdict}
 use Rattle.ledger.specs.Settle.{settlementLedger, settlementList}
 use Rattle.ledger.specs.Sound.{placesHeld, placeTest, placeSound, forceSound, unsetZero, monthsSound}
-use Rattle.ledger.specs.Sound.{mostBalanceOf, balanceTest, balanceSound, eachBalance, balancesSound, sound}
+use Rattle.ledger.specs.Sound.{mostCountOf, countTest, countsSound, mostBalanceOf, balanceTest, balanceSound, eachBalance, balancesSound, sound}
 use Rattle.ledger.specs.Turn.{fixingTurn, settlementTurn}
 
 unfoldable pub ledgerComputed : ℕ
@@ -20,8 +20,8 @@ unfolding fixingComputed settlementComputed plainLine plainSeries plainNumbers p
     firstBilling
     secondBilling firstLedger linesWhole fixingLengths inForceLength fixingChecks fixingVerdict acceptedAnswer
     fixingAnswer fixingLedger priceWord priceList fixingList noBalances emptyLedger anySettled nextMonth billedUnder
-    fixedLedger settledLedger openingChecks openingVerdict openingLedger settlementLengths positionsOf
+    fixedLedger raisedCounts settledLedger openingChecks openingVerdict openingLedger settlementLengths positionsOf
     settlementChecks settlementVerdict settlementLedger settlementList placesHeld placeTest placeSound forceSound
-    unsetZero monthsSound mostBalanceOf balanceTest balanceSound eachBalance balancesSound sound fixingTurn
+    unsetZero monthsSound mostCountOf countTest countsSound mostBalanceOf balanceTest balanceSound eachBalance balancesSound sound fixingTurn
     settlementTurn
 ledgerComputed = 0

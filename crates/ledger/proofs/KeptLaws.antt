@@ -1,5 +1,5 @@
--- Soundness is kept: an opened ledger is sound, and every fixing and every settlement, accepted or refused, hands back
--- a sound ledger where it was given one. Theorems about the definitions alone. Assumes nothing.
+-- Soundness is kept: an opened ledger is sound, and every fixing, every settlement and every join, accepted or refused,
+-- hands back a sound ledger where it was given one. Theorems about the definitions alone. Assumes nothing.
 use mathlib.Core.Path.{_≡_, refl, sym, _∙_, ap}
 use mathlib.Core.Bool.{Bool, true, false, cond, not, _||_, true≢false}
 use mathlib.Core.List.{List}
@@ -8,6 +8,7 @@ use native.Mathlib.Omega.{arith}
 use native.Mathlib.Nat.{mul-zero}
 use native.Mathlib.Decide.{decLt}
 use lib.Dec.{leb, eqb}
+use lib.ListN.{getD-replicate}
 use lib.IntN.{ℤ, pos, natAbs, _+ℤ_, _*ℤ_}
 use borrow.Author.Tests.{leb-true, eqb-true, not-false}
 use Rattle.numbers.specs.Bounded.{anyBelow}
@@ -34,18 +35,20 @@ use Rattle.settlement.specs.Settlement.{positionOf, newBalance, oneSign}
 use Rattle.settlement.specs.Month.{moneyAt, moneyBelow, positionList, settledMonth}
 use Rattle.settlement.proofs.SettlementLaws.{balances-sign, balances-total}
 use Rattle.settlement.proofs.MonthLaws.{money-at, positions-within, balances-within}
-use Rattle.ledger.specs.Ledger.{anySettled, nextMonth, billedUnder, noBalances, emptyLedger, fixedLedger}
-use Rattle.ledger.specs.Ledger.{settledLedger}
+use Rattle.ledger.specs.Ledger.{countAt, anySettled, nextMonth, billedUnder, noBalances, emptyLedger}
+use Rattle.ledger.specs.Ledger.{fixedLedger, raisedCounts, settledLedger, joinedLedger}
 use Rattle.ledger.specs.Sound.{presentIn, chargeIn, placesHeld, sound}
 use Rattle.ledger.specs.Turn.{fixingTurn, settlementTurn}
 use Rattle.ledger.specs.Fix.{FixingCall, fixingVerdict, fixingLedger}
 use Rattle.ledger.specs.Settle.{SettlementCall, settlementVerdict, settlementLedger, positionsOf}
+use Rattle.ledger.specs.Join.{joinVerdict, joinLedger}
 use Rattle.ledger.specs.declared.ledger.Ledger.{Ledger}
-use Rattle.ledger.proofs.SoundFacts.{PlaceFacts, BalanceFacts, sound-facts, sound-test}
-use Rattle.ledger.proofs.SoundLaws.{none-settled, opened-settled, month-settled}
+use Rattle.ledger.proofs.SoundFacts.{PlaceFacts, CountFacts, BalanceFacts, sound-facts, sound-test}
+use Rattle.ledger.proofs.SoundLaws.{raised-at, raised-past, none-settled, opened-settled, month-settled}
+use Rattle.ledger.proofs.SoundLaws.{balance-past, counts-held, balances-held}
 use Rattle.ledger.proofs.MoneyLaws.{money-past, money-sum, money-sign}
 use Rattle.ledger.proofs.CallLaws.{FixingPassed, fixing-passed, passed-range, SettlementPassed}
-use Rattle.ledger.proofs.CallLaws.{settlement-passed}
+use Rattle.ledger.proofs.CallLaws.{settlement-passed, join-passed}
 
 -- the places of charged sectors: those of the first k hold presence and charge, the others nothing
 module _ (k : ℕ) (charge : ℕ → ℤ) (sectors : List ℕ) (j : ℕ) (p : j < sectorPlaces) where
@@ -72,8 +75,11 @@ module _ (k : ℕ) (charge : ℕ → ℤ) (sectors : List ℕ) (j : ℕ) (p : j 
 empty-place : (held : ℕ) (present : Bool) (z : ℤ) (k : ℕ) → present ≡ false → z ≡ pos 0 → PlaceFacts held present z k
 empty-place held present z k e h = record { past = λ p. e; absent = λ p. h; within = rw h (omega arith) }
 
-empty-balance : (n : ℕ) (settled : Bool) (z : ℤ) (i : ℕ) → z ≡ pos 0 → BalanceFacts n settled z i
-empty-balance n settled z i h = record { past = λ p. h; till = λ p. h; within = rw h (omega arith) }
+no-count : (n last count i : ℕ) → count ≡ 0 → CountFacts n last count i
+no-count n last count i h = record { past = λ p. h; few = omega (arith, h) }
+
+no-balance : (count : ℕ) (z : ℤ) → z ≡ pos 0 → BalanceFacts count z
+no-balance count z h = record { uncounted = λ p. h; within = rw h (omega arith) }
 
 nothing-at : (k : ℕ) → k < sectorPlaces → (presentIn noCharges k ≡ false) × (chargeIn noCharges k ≡ pos 0)
 unfolding noCharges
@@ -96,11 +102,10 @@ opened-sound n p q =
           record {
             lastMost = omega arith;
             monthMost = omega arith;
-            few = λ r. absurd (true≢false (sym r ∙ opened-settled n));
             due = λ r. absurd (true≢false (sym r ∙ opened-settled n));
-            inForce = λ r. absurd (true≢false (sym r ∙ opened-settled n));
           };
-      balance = λ i r. empty-balance n _ _ i (money-past (λ j. pos 0) 0 i (omega arith) r);
+      count = λ i r. no-count n 0 _ i (getD-replicate {A = ℕ} mostDistributors i 0 0 r);
+      balance = λ i r. no-balance _ _ (money-past (λ j. pos 0) 0 i (omega arith) r);
       signs = money-sign 0 (omega arith) (λ j. pos 0) (none-sign (λ j. pos 0));
     })
 
@@ -189,15 +194,14 @@ fixing-keeps ledger call h = go (isPassed (fixingVerdict ledger call)) refl
               record {
                 lastMost = g .month .lastMost;
                 monthMost = fixing-most (anySettled ledger) (nextMonth ledger) (call .input .numbers .month) (f .turn);
-                few = g .month .few;
                 due =
                     λ p. omega (
                       arith,
                       fixing-next (anySettled ledger) (nextMonth ledger) (call .input .numbers .month)
                           (f .turn) p,
                     );
-                inForce = λ p. refl;
               };
+          count = g .count;
           balance = g .balance;
           signs = g .signs;
         }))
@@ -227,7 +231,7 @@ settlement-adds ledger call h e =
     ∙ signed-sum-add (ledger .n) (moneyAt (ledger .balances)) amount
     ∙ ap (λ (z : ℤ). z +ℤ signedSumBelow (ledger .n) amount)
     (sym (sum-wide (ledger .n) mostDistributors (moneyAt (ledger .balances)) (g .few)
-    (λ i p q. g .balance i q .past p))))
+    (balance-past ledger h))))
 
 -- what a settled month's turn says
 module _ (settled : Bool) (next : ℕ) (fixed : Bool) (fixingMonth month : ℕ)
@@ -269,20 +273,37 @@ settlement-keeps ledger call h = go (isPassed (settlementVerdict ledger call)) r
         let first = turn-first (anySettled ledger) (nextMonth ledger) (ledger .fixed) (ledger .month) (call .month)
         (f .due .turn) in
         -- the first settled month is the fixing's own, a later one the month after the last
-        let next : (b : Bool) → anySettled ledger ≡ b → (ledger .months ≤ call .month) ×
+        let next : (b : Bool) → anySettled ledger ≡ b →
+        ((i : ℕ) → i < mostDistributors → countAt (ledger .counts) i ≤ call .month) ×
         (ledger .month ≤ call .month + 1) =
         elim [
-          | true ↦ λ e. (omega (arith, later e, g .month .few e), omega (arith, later e, g .month .due e))
+          | true ↦ λ e. (λ i p. omega (arith, later e, g .count i p .few), omega (arith, later e, g .month .due e))
           | false ↦
-              λ e. (omega (arith, none-settled ledger e), omega (arith, first e (f .due .inForce)))
+              λ e. (λ i p. omega (arith, none-settled ledger e i p), omega (arith, first e (f .due .inForce)))
         ] in
-        let held : (i : ℕ) → i < mostDistributors → Dec (i < ledger .n) → BalanceFacts (ledger .n) true
-        (moneyAt (moneyBelow (ledger .n) balance) i) i =
+        let raised : ℕ → ℕ = countAt (raisedCounts (ledger .n) (ledger .counts)) in
+        let counted : (i : ℕ) → i < mostDistributors → Dec (i < ledger .n) →
+        CountFacts (ledger .n) (call .month) (raised i) i =
         λ i p. elim [
-          | yes q ↦ record
-              { past = λ r. absurd (omega arith); till = λ r. absurd (true≢false r); within = small .within i q }
-          | no q ↦
-              empty-balance (ledger .n) true _ i (money-past balance (ledger .n) i (omega arith) p)
+          | yes q ↦ record {
+            past = λ r. absurd (omega arith);
+            few =
+                omega (
+                  arith,
+                  raised-at (ledger .n) (ledger .counts) i p q,
+                  next (anySettled ledger) refl .0 i p,
+                );
+          }
+          | no q ↦ no-count (ledger .n) _ _ i (raised-past (ledger .n) (ledger .counts) i p (omega arith))
+        ] in
+        let held : (i : ℕ) → i < mostDistributors → Dec (i < ledger .n) →
+        BalanceFacts (raised i) (moneyAt (moneyBelow (ledger .n) balance) i) =
+        λ i p. elim [
+          | yes q ↦ record {
+            uncounted = λ e. absurd (omega (arith, raised-at (ledger .n) (ledger .counts) i p q, e));
+            within = small .within i q;
+          }
+          | no q ↦ no-balance _ _ (money-past balance (ledger .n) i (omega arith) p)
         ] in
         sound-test (settledLedger ledger (call .month) (moneyBelow (ledger .n) balance))
         (record {
@@ -292,19 +313,16 @@ settlement-keeps ledger call h = go (isPassed (settlementVerdict ledger call)) r
           unset =
               record {
                 unfixed = g .unset .unfixed;
-                unsettled = λ e. absurd (true≢false (sym (month-settled ledger _ _) ∙ e));
+                unsettled = λ e. absurd (true≢false (sym (month-settled ledger _ _ (g .some)) ∙ e));
               };
           month =
               record {
                 lastMost = most;
                 monthMost = g .month .monthMost;
-                few = λ p. omega (arith, next (anySettled ledger) refl);
-                due = λ p. omega (arith, next (anySettled ledger) refl);
-                inForce = λ p. f .due .inForce;
+                due = λ p. next (anySettled ledger) refl .1;
               };
-          balance =
-              λ i p. rw (month-settled ledger (call .month) (moneyBelow (ledger .n) balance))
-              (held i p (decLt i (ledger .n)));
+          count = λ i p. counted i p (decLt i (ledger .n));
+          balance = λ i p. held i p (decLt i (ledger .n));
           signs =
               money-sign (ledger .n) (g .few) balance (balances-sign (ledger .n) (moneyAt (positionsOf ledger call)));
         })
@@ -313,4 +331,28 @@ settlement-keeps ledger call h = go (isPassed (settlementVerdict ledger call)) r
         sound (cond b (settledLedger ledger (call .month)
         (settledMonth (ledger .n) (positionsOf ledger call) .balances)) ledger) ≡ true
     go true e = accepted (settlement-passed ledger call e)
+    go false e = h
+
+pub join-keeps : (ledger : Ledger) → sound ledger ≡ true → sound (joinLedger ledger) ≡ true
+unfolding joinLedger joinedLedger anySettled
+join-keeps ledger h = go (isPassed (joinVerdict ledger)) refl
+  where
+    accepted : ledger .n < mostDistributors → sound (joinedLedger ledger) ≡ true
+    accepted p =
+        let g = sound-facts ledger h in
+        rw (balances-held ledger h p, counts-held ledger h p)
+        (sound-test _
+        (record {
+          some = omega arith;
+          few = omega (arith, p);
+          place = λ k r. empty-place (placesHeld (ledger .n + 1) false) _ _ k (nothing-at k r .0) (nothing-at k r .1);
+          unset = record { unfixed = λ e. refl; unsettled = g .unset .unsettled };
+          month = record { lastMost = g .month .lastMost; monthMost = omega arith; due = λ e. omega arith };
+          count = λ i r. record { past = λ q. g .count i r .past (omega arith); few = g .count i r .few };
+          balance = g .balance;
+          signs = g .signs;
+        }))
+
+    go : (b : Bool) → isPassed (joinVerdict ledger) ≡ b → sound (cond b (joinedLedger ledger) ledger) ≡ true
+    go true e = accepted (join-passed ledger e)
     go false e = h

@@ -7,5 +7,6 @@ pub mod SettleLaws
 pub mod SoundFacts
 pub mod MoneyLaws
 pub mod CallLaws
+pub mod JoinLaws
 pub mod KeptLaws
 pub mod Computed

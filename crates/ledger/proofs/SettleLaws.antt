@@ -31,7 +31,7 @@ use Rattle.ledger.specs.Settle.{SettlementCall, settlementLengths, billi
 use Rattle.ledger.specs.Settle.{settlementVerdict, settlementLedger, settlementList, SettlementPromise}
 use Rattle.ledger.specs.Required.{Due}
 use Rattle.ledger.specs.declared.ledger.Ledger.{Ledger}
-use Rattle.ledger.specs.declared.settle.SettlementOutcome.{SettlementOutcome}
+use Rattle.ledger.specs.declared.ledger.Outcome.{Outcome}
 use Rattle.ledger.proofs.SoundLaws.{sound-few, sound-charges}
 
 module _ (ledger : Ledger) (call : SettlementCall) where
@@ -59,15 +59,15 @@ module _ (ledger : Ledger) (call : SettlementCall) where
 
   -- what is promised of a refusal: ledger and list as they were
   pub month-refused : (refusal : Refusal) → verdictOf (settlementChecks ledger call) ≡ Refused refusal →
-      (r : SettlementOutcome) → r ≡ record { verdict = Refused refusal; ledger = ledger } →
+      (r : Outcome) → r ≡ record { verdict = Refused refusal; ledger = ledger } →
       SettlementPromise ledger call (r .verdict) (r .ledger) (call .transfers)
   unfolding settlementLedger settlementList settlementVerdict
   month-refused refusal v r e =
       record {
         judged =
             judged (settlementChecks ledger call) settlement-told (r .verdict)
-            (ap (λ (o : SettlementOutcome). o .verdict) e ∙ sym v);
-        booked = ap (λ (o : SettlementOutcome). o .ledger) e ∙ rw v;
+            (ap (λ (o : Outcome). o .verdict) e ∙ sym v);
+        booked = ap (λ (o : Outcome). o .ledger) e ∙ rw v;
         listed = rw v;
       }
 

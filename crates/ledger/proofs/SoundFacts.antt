@@ -9,7 +9,7 @@ use borrow.Author.Tests.{ltb-false, leb-true, eqb-true, not-false, le-ltb, le-le
 use Rattle.numbers.specs.Signed.{withinSize}
 use Rattle.numbers.specs.Units.{between}
 use Rattle.numbers.specs.Sizes.{mostDistributors, sectorPlaces}
-use Rattle.numbers.proofs.BoolLaws.{and-left, and-right, and-three, and-five, and-both, or-else, or-of}
+use Rattle.numbers.proofs.BoolLaws.{and-left, and-right, and-three, and-six, and-both, or-else, or-of}
 use Rattle.numbers.proofs.TestLaws.{all-at, all-of}
 use Rattle.numbers.proofs.SignedLaws.{within-none}
 use Rattle.numbers.proofs.UnitLaws.{between-low, between-high, between-yes}
@@ -17,10 +17,10 @@ use Rattle.series.specs.Series.{lastMonth}
 use Rattle.settlement.specs.Amount.{mostCharge}
 use Rattle.settlement.specs.Settlement.{mostPosition, oneSign}
 use Rattle.settlement.specs.Month.{moneyAt}
-use Rattle.ledger.specs.Ledger.{anySettled}
+use Rattle.ledger.specs.Ledger.{countAt, anySettled}
 use Rattle.ledger.specs.Sound.{presentIn, chargeIn, placesHeld, placeTest, placeSound, forceSound, unsetZero}
-use Rattle.ledger.specs.Sound.{monthsSound, mostBalanceOf, balanceTest, balanceSound, eachBalance, balancesSound}
-use Rattle.ledger.specs.Sound.{sound}
+use Rattle.ledger.specs.Sound.{monthsSound, mostCountOf, countTest, countsSound, mostBalanceOf, balanceTest}
+use Rattle.ledger.specs.Sound.{balanceSound, eachBalance, balancesSound, sound}
 use Rattle.ledger.specs.declared.ledger.Ledger.{Ledger}
 
 -- a bound that is 0 where a test fails
@@ -102,76 +102,72 @@ module _ (settled : Bool) (last : ℕ) (fixed : Bool) (month : ℕ) where
       (or-of settled (eqb last 0) (λ e. eq-eqb last 0 (f .unsettled e)))
 
 -- the months
-pub record MonthFacts (settled : Bool) (months last : ℕ) (fixed : Bool) (month : ℕ) : Type 0 where
+pub record MonthFacts (settled : Bool) (last month : ℕ) : Type 0 where
   pub lastMost : last ≤ lastMonth
   pub monthMost : month ≤ lastMonth
-  pub few : settled ≡ true → months ≤ last + 1
   pub due : settled ≡ true → month ≤ last + 1
-  pub inForce : settled ≡ true → fixed ≡ true
 
-module _ (settled : Bool) (months last : ℕ) (fixed : Bool) (month : ℕ) where
-  abbrev late : Bool
-  late = leb months (last + 1) && leb month (last + 1) && fixed
-
-  pub month-facts : monthsSound settled months last fixed month ≡ true → MonthFacts settled months last fixed month
+module _ (settled : Bool) (last month : ℕ) where
+  pub month-facts : monthsSound settled last month ≡ true → MonthFacts settled last month
   unfolding monthsSound
   month-facts h =
-      let p = and-three (leb last lastMonth) (leb month lastMonth) (not settled || late) h in
-      let held : settled ≡ true → (leb months (last + 1) ≡ true) × (leb month (last + 1) ≡ true) × (fixed ≡ true) =
-      λ e. and-three (leb months (last + 1)) (leb month (last + 1)) fixed
-      (or-else (not settled) late (p .2) (ap not e)) in
+      let p = and-three (leb last lastMonth) (leb month lastMonth) (not settled || leb month (last + 1)) h in
       record {
         lastMost = leb-true last lastMonth (p .0);
         monthMost = leb-true month lastMonth (p .1);
-        few = λ e. leb-true months (last + 1) (held e .0);
-        due = λ e. leb-true month (last + 1) (held e .1);
-        inForce = λ e. held e .2;
+        due = λ e. leb-true month (last + 1) (or-else (not settled) (leb month (last + 1)) (p .2) (ap not e));
       }
 
-  pub month-test : MonthFacts settled months last fixed month → monthsSound settled months last fixed month ≡ true
+  pub month-test : MonthFacts settled last month → monthsSound settled last month ≡ true
   unfolding monthsSound
   month-test f =
-      and-both (leb last lastMonth && leb month lastMonth) (not settled || late)
+      and-both (leb last lastMonth && leb month lastMonth) (not settled || leb month (last + 1))
       (and-both (leb last lastMonth) (leb month lastMonth) (le-leb last lastMonth (f .lastMost))
       (le-leb month lastMonth (f .monthMost)))
-      (or-of (not settled) late (λ e. go (not-false settled e)))
+      (or-of (not settled) (leb month (last + 1)) (λ e. le-leb month (last + 1) (f .due (not-false settled e))))
+
+-- one count
+pub record CountFacts (n last count i : ℕ) : Type 0 where
+  pub past : n ≤ i → count ≡ 0
+  pub few : count ≤ last + 1
+
+module _ (n last count i : ℕ) where
+  pub count-facts : countTest n last count i ≡ true → CountFacts n last count i
+  unfolding countTest mostCountOf
+  count-facts h =
+      let most = leb-true count (cond (ltb i n) (last + 1) 0) h in
+      record {
+        past = λ p. omega (arith, rw (le-ltb i n p) at most);
+        few = omega (arith, most, pick-most (ltb i n) (last + 1));
+      }
+
+  pub count-test : CountFacts n last count i → countTest n last count i ≡ true
+  unfolding countTest mostCountOf
+  count-test f = go (ltb i n) refl
     where
-      go : settled ≡ true → late ≡ true
-      go e =
-          and-both (leb months (last + 1) && leb month (last + 1)) fixed
-          (and-both (leb months (last + 1)) (leb month (last + 1)) (le-leb months (last + 1) (f .few e))
-          (le-leb month (last + 1) (f .due e)))
-          (f .inForce e)
+      go : (b : Bool) → ltb i n ≡ b → leb count (cond b (last + 1) 0) ≡ true
+      go true e = le-leb count (last + 1) (f .few)
+      go false e = le-leb count 0 (omega (arith, f .past (ltb-false i n e)))
 
 -- one balance
-pub record BalanceFacts (n : ℕ) (settled : Bool) (balance : ℤ) (i : ℕ) : Type 0 where
-  pub past : n ≤ i → balance ≡ pos 0
-  pub till : settled ≡ false → balance ≡ pos 0
+pub record BalanceFacts (count : ℕ) (balance : ℤ) : Type 0 where
+  pub uncounted : count ≡ 0 → balance ≡ pos 0
   pub within : natAbs balance ≤ mostPosition
 
-module _ (n : ℕ) (settled : Bool) (balance : ℤ) (i : ℕ) where
-  pub balance-facts : balanceTest n settled balance i ≡ true → BalanceFacts n settled balance i
+module _ (count : ℕ) (balance : ℤ) where
+  pub balance-facts : balanceTest count balance ≡ true → BalanceFacts count balance
   unfolding balanceTest mostBalanceOf
   balance-facts h =
-      let zero : (ltb i n && settled) ≡ false → balance ≡ pos 0 =
-      λ e. within-zero (ltb i n && settled) mostPosition balance e h in
       record {
-        past = λ p. zero (rw (le-ltb i n p));
-        till = λ e. zero (shut (ltb i n) settled e);
-        within = within-most (ltb i n && settled) mostPosition balance h;
+        uncounted = λ e. within-zero (not (eqb count 0)) mostPosition balance (ap not (eq-eqb count 0 e)) h;
+        within = within-most (not (eqb count 0)) mostPosition balance h;
       }
-    where
-      shut : (a b : Bool) → b ≡ false → (a && b) ≡ false
-      shut true b e = e
-      shut false b e = refl
 
-  pub balance-test : BalanceFacts n settled balance i → balanceTest n settled balance i ≡ true
+  pub balance-test : BalanceFacts count balance → balanceTest count balance ≡ true
   unfolding balanceTest mostBalanceOf
-  balance-test f = within-of (ltb i n && settled) mostPosition balance (f .within) (zero (ltb i n) refl)
-    where
-      zero : (b : Bool) → ltb i n ≡ b → (b && settled) ≡ false → balance ≡ pos 0
-      zero true e h = f .till h
-      zero false e h = f .past (ltb-false i n e)
+  balance-test f =
+      within-of (not (eqb count 0)) mostPosition balance (f .within)
+      (λ e. f .uncounted (eqb-true count 0 (not-false (eqb count 0) e)))
 
 -- a sound ledger
 pub record SoundFacts (ledger : Ledger) : Type 0 where
@@ -180,9 +176,10 @@ pub record SoundFacts (ledger : Ledger) : Type 0 where
   pub place : (k : ℕ) → k < sectorPlaces →
       PlaceFacts (placesHeld (ledger .n) (ledger .fixed)) (presentIn (ledger .force) k) (chargeIn (ledger .force) k) k
   pub unset : UnsetFacts (anySettled ledger) (ledger .last) (ledger .fixed) (ledger .month)
-  pub month : MonthFacts (anySettled ledger) (ledger .months) (ledger .last) (ledger .fixed) (ledger .month)
+  pub month : MonthFacts (anySettled ledger) (ledger .last) (ledger .month)
+  pub count : (i : ℕ) → i < mostDistributors → CountFacts (ledger .n) (ledger .last) (countAt (ledger .counts) i) i
   pub balance : (i : ℕ) → i < mostDistributors →
-      BalanceFacts (ledger .n) (anySettled ledger) (moneyAt (ledger .balances) i) i
+      BalanceFacts (countAt (ledger .counts) i) (moneyAt (ledger .balances) i)
   pub signs : oneSign mostDistributors (moneyAt (ledger .balances)) ≡ true
 
 module _ (ledger : Ledger) where
@@ -202,18 +199,21 @@ module _ (ledger : Ledger) where
   unset = unsetZero settled (ledger .last) (ledger .fixed) (ledger .month)
 
   abbrev dates : Bool
-  dates = monthsSound settled (ledger .months) (ledger .last) (ledger .fixed) (ledger .month)
+  dates = monthsSound settled (ledger .last) (ledger .month)
+
+  abbrev counted : Bool
+  counted = countsSound (ledger .n) (ledger .last) (ledger .counts)
 
   abbrev money : Bool
-  money = eachBalance (ledger .n) settled (ledger .balances)
+  money = eachBalance (ledger .counts) (ledger .balances)
 
   abbrev signs : Bool
   signs = oneSign mostDistributors (moneyAt (ledger .balances))
 
   pub sound-facts : sound ledger ≡ true → SoundFacts ledger
-  unfolding sound forceSound placeSound balancesSound eachBalance balanceSound
+  unfolding sound forceSound placeSound countsSound balancesSound eachBalance balanceSound
   sound-facts h =
-      let p = and-five range places unset dates (money && signs) h in
+      let p = and-six range places unset dates counted (money && signs) h in
       record {
         some = between-low 1 mostDistributors (ledger .n) (p .0);
         few = between-high 1 mostDistributors (ledger .n) (p .0);
@@ -221,16 +221,20 @@ module _ (ledger : Ledger) where
             place-facts held (chargeIn (ledger .force) k) k (presentIn (ledger .force) k)
             (all-at sectorPlaces (placeSound held (ledger .force)) (p .1) k q);
         unset = unset-facts settled (ledger .last) (ledger .fixed) (ledger .month) (p .2);
-        month = month-facts settled (ledger .months) (ledger .last) (ledger .fixed) (ledger .month) (p .3);
-        balance = λ i q.
-            balance-facts (ledger .n) settled (moneyAt (ledger .balances) i) i
-            (all-at mostDistributors (balanceSound (ledger .n) settled (ledger .balances)) (and-left money signs (p .4))
+        month = month-facts settled (ledger .last) (ledger .month) (p .3);
+        count = λ i q.
+            count-facts (ledger .n) (ledger .last) (countAt (ledger .counts) i) i
+            (all-at mostDistributors (λ j. countTest (ledger .n) (ledger .last) (countAt (ledger .counts) j) j) (p .4)
             i q);
-        signs = and-right money signs (p .4);
+        balance = λ i q.
+            balance-facts (countAt (ledger .counts) i) (moneyAt (ledger .balances) i)
+            (all-at mostDistributors (balanceSound (ledger .counts) (ledger .balances)) (and-left money signs (p .5))
+            i q);
+        signs = and-right money signs (p .5);
       }
 
   pub sound-test : SoundFacts ledger → sound ledger ≡ true
-  unfolding sound forceSound placeSound balancesSound eachBalance balanceSound
+  unfolding sound forceSound placeSound countsSound balancesSound eachBalance balanceSound
   sound-test f =
       let one = and-both range places (between-yes 1 mostDistributors (ledger .n) (f .some) (f .few))
       (all-of sectorPlaces (placeSound held (ledger .force))
@@ -238,9 +242,12 @@ module _ (ledger : Ledger) where
       let two = and-both (range && places) unset one
       (unset-test settled (ledger .last) (ledger .fixed) (ledger .month) (f .unset)) in
       let three = and-both (range && places && unset) dates two
-      (month-test settled (ledger .months) (ledger .last) (ledger .fixed) (ledger .month) (f .month)) in
-      and-both (range && places && unset && dates) (money && signs) three
+      (month-test settled (ledger .last) (ledger .month) (f .month)) in
+      let four = and-both (range && places && unset && dates) counted three
+      (all-of mostDistributors (λ j. countTest (ledger .n) (ledger .last) (countAt (ledger .counts) j) j)
+      (λ i q. count-test (ledger .n) (ledger .last) (countAt (ledger .counts) i) i (f .count i q))) in
+      and-both (range && places && unset && dates && counted) (money && signs) four
       (and-both money signs
-      (all-of mostDistributors (balanceSound (ledger .n) settled (ledger .balances))
-      (λ i q. balance-test (ledger .n) settled (moneyAt (ledger .balances) i) i (f .balance i q)))
+      (all-of mostDistributors (balanceSound (ledger .counts) (ledger .balances))
+      (λ i q. balance-test (countAt (ledger .counts) i) (moneyAt (ledger .balances) i) (f .balance i q)))
       (f .signs))

@@ -1,35 +1,62 @@
 -- Laws of the names that speak of settled months, and what the code uses of a sound ledger. Assumes nothing.
-use mathlib.Core.Path.{_≡_, refl, ap}
+use mathlib.Core.Path.{_≡_, ap}
 use mathlib.Core.Bool.{Bool, true, false, not}
 use mathlib.Core.List.{List}
 use Prim.Native.Nat.{ℕ, _+_, _*_, _≤_, _<_}
 use native.Mathlib.Omega.{arith}
 use lib.Dec.{eqb}
-use lib.IntN.{natAbs}
+use lib.ListN.{set, getD-replicate}
+use lib.IntN.{natAbs, pos}
 use borrow.Author.Tests.{eqb-true, ne-eqb, not-false}
 use Rattle.numbers.specs.Sizes.{mostDistributors, sectorCount}
+use Rattle.numbers.specs.Units.{noMoney}
 use Rattle.numbers.specs.declared.units.Pesos.{Pesos}
+use Rattle.numbers.proofs.TestLaws.{any-none, any-never, any-holds}
+use Rattle.numbers.proofs.ListLaws.{set-held, filled-at, filled-past}
 use Rattle.series.specs.Series.{lastMonth}
 use Rattle.settlement.specs.Amount.{mostCharge, chargeAt}
+use Rattle.settlement.specs.Month.{moneyAt}
 use Rattle.settlement.specs.Required.{MoneyWithin}
-use Rattle.ledger.specs.Ledger.{anySettled, billedUnder, emptyLedger, settledLedger}
+use Rattle.ledger.specs.Ledger.{countAt, anySettled, billedUnder, emptyLedger, raisedCounts, settledLedger}
+use Rattle.ledger.specs.Required.{CountsWithin}
 use Rattle.ledger.specs.Sound.{sound}
 use Rattle.ledger.specs.declared.ledger.Ledger.{Ledger}
 use Rattle.ledger.proofs.SoundFacts.{sound-facts}
 
--- the names that speak of settled months: none yet, one more
-pub none-settled : (ledger : Ledger) → anySettled ledger ≡ false → ledger .months ≡ 0
+-- raised counts
+module _ (n : ℕ) (counts : List ℕ) (i : ℕ) (p : i < mostDistributors) where
+  pub raised-at : i < n → countAt (raisedCounts n counts) i ≡ countAt counts i + 1
+  unfolding raisedCounts
+  raised-at q = filled-at mostDistributors 0 (λ j. countAt counts j + 1) n i q p
+
+  pub raised-past : n ≤ i → countAt (raisedCounts n counts) i ≡ 0
+  unfolding raisedCounts
+  raised-past q = filled-past mostDistributors 0 (λ j. countAt counts j + 1) n i q p
+
+-- one distributor's count, as the name that speaks of settled months looks at it
+abbrev isCounted : Ledger → ℕ → Bool
+isCounted ledger i = not (eqb (countAt (ledger .counts) i) 0)
+
+-- none settled yet, one more settled
+pub none-settled : (ledger : Ledger) → anySettled ledger ≡ false → (i : ℕ) → i < mostDistributors →
+    countAt (ledger .counts) i ≡ 0
 unfolding anySettled
-none-settled ledger h = eqb-true (ledger .months) 0 (not-false (eqb (ledger .months) 0) h)
+none-settled ledger h i p =
+    eqb-true _ 0
+    (not-false (eqb (countAt (ledger .counts) i) 0) (any-none mostDistributors (isCounted ledger) h i p))
 
 pub opened-settled : (n : ℕ) → anySettled (emptyLedger n) ≡ false
 unfolding anySettled emptyLedger
-opened-settled n = refl
+opened-settled n =
+    any-never mostDistributors (isCounted (emptyLedger n))
+    (λ i p. rw (getD-replicate {A = ℕ} mostDistributors i 0 0 p))
 
-pub month-settled : (ledger : Ledger) (month : ℕ) (balances : List Pesos) →
+pub month-settled : (ledger : Ledger) (month : ℕ) (balances : List Pesos) → 1 ≤ ledger .n →
     anySettled (settledLedger ledger month balances) ≡ true
 unfolding anySettled settledLedger
-month-settled ledger month balances = ap not (ne-eqb (ledger .months + 1) 0 (λ e. omega arith))
+month-settled ledger month balances p =
+    any-holds mostDistributors (isCounted (settledLedger ledger month balances)) 0 (omega arith)
+    (rw (raised-at (ledger .n) (ledger .counts) 0 (omega arith) p) (ap not (ne-eqb (countAt (ledger .counts) 0 + 1) 0 (λ e. omega arith))))
 
 -- what the code uses of a sound ledger
 module _ (ledger : Ledger) (h : sound ledger ≡ true) where
@@ -42,12 +69,20 @@ module _ (ledger : Ledger) (h : sound ledger ≡ true) where
   pub sound-last : ledger .last ≤ lastMonth
   sound-last = sound-facts ledger h .month .lastMost
 
-  pub sound-months : ledger .months ≤ 1200
-  sound-months = go (anySettled ledger) refl
-    where
-      go : (b : Bool) → anySettled ledger ≡ b → ledger .months ≤ 1200
-      go true e = omega (arith, sound-last, sound-facts ledger h .month .few e)
-      go false e = omega (arith, none-settled ledger e)
+  pub sound-counts : CountsWithin (ledger .n) (ledger .counts)
+  sound-counts =
+      record {
+        few = sound-few;
+        within = λ i p. omega (arith, sound-last, sound-facts ledger h .count i (omega (arith, sound-few)) .few);
+      }
+
+  -- entries past n are zero
+  module _ (i : ℕ) (p : ledger .n ≤ i) (q : i < mostDistributors) where
+    pub count-past : countAt (ledger .counts) i ≡ 0
+    count-past = sound-facts ledger h .count i q .past p
+
+    pub balance-past : moneyAt (ledger .balances) i ≡ pos 0
+    balance-past = sound-facts ledger h .balance i q .uncounted count-past
 
   pub sound-charges : (i s : ℕ) → i < ledger .n → s < sectorCount →
       natAbs (chargeAt (billedUnder ledger .charges) i s) ≤ mostCharge
@@ -57,3 +92,13 @@ module _ (ledger : Ledger) (h : sound ledger ≡ true) where
   pub sound-balances : MoneyWithin (ledger .n) (ledger .balances)
   sound-balances =
       record { few = sound-few; within = λ i p. sound-facts ledger h .balance i (omega (arith, sound-few)) .within }
+
+  -- the place of one who joins is empty already
+  module _ (p : ledger .n < mostDistributors) where
+    pub counts-held : set (ledger .counts) (ledger .n) 0 ≡ ledger .counts
+    counts-held = set-held (ledger .counts) (ledger .n) 0 (count-past (ledger .n) (omega arith) p)
+
+    pub balances-held : set (ledger .balances) (ledger .n) noMoney ≡ ledger .balances
+    balances-held =
+        set-held (ledger .balances) (ledger .n) noMoney
+        (ap {B = Pesos} (λ z. record { 0 = z }) (balance-past (ledger .n) (omega arith) p))

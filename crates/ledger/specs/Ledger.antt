@@ -1,15 +1,18 @@
--- The ledger of document 01 ("Taken and handed back by value"): how it opens, and how an accepted fixing and a settled
--- month change it. Assumes nothing.
+-- The ledger of document 01 ("Taken and handed back by value"), with a count of settled months for each distributor
+-- (W-205 of document 02): how it opens, and how an accepted fixing, a settled month and a join change it. Assumes
+-- nothing.
 use mathlib.Core.Path.{_≡_}
 use mathlib.Core.Bool.{Bool, true, false, cond, not}
 use mathlib.Core.List.{List, [], _∷_}
 use Prim.Native.Nat.{ℕ, _+_}
 use lib.Dec.{eqb}
+use lib.ListN.{getD, set, replicate}
 use lib.IntN.{pos}
+use Rattle.numbers.specs.Bounded.{anyBelow, filledBelow}
 use Rattle.numbers.specs.Refusal.{isPassed}
 use Rattle.numbers.specs.Checks.{Check, check, verdictOf, Judged}
 use Rattle.numbers.specs.Sizes.{mostDistributors}
-use Rattle.numbers.specs.Units.{between}
+use Rattle.numbers.specs.Units.{between, noMoney}
 use Rattle.numbers.specs.declared.refusal.Refusal.the-variants.{WrongCount}
 use Rattle.numbers.specs.declared.refusal.Verdict.{Verdict}
 use Rattle.numbers.specs.declared.units.Pesos.{Pesos}
@@ -18,18 +21,33 @@ use Rattle.fixing.specs.declared.sector.SectorCharges.{SectorCharges}
 use Rattle.settlement.specs.Month.{moneyBelow}
 use Rattle.ledger.specs.declared.ledger.Ledger.{Ledger}
 
--- no balances
+-- no balances, and no months counted
 unfoldable pub noBalances : List Pesos
 noBalances = moneyBelow 0 (λ i. pos 0)
+
+abbrev pub noCounts : List ℕ
+noCounts = replicate mostDistributors 0
 
 -- a ledger of n distributors with nothing else set; of none, the all-zero ledger
 unfoldable pub emptyLedger : ℕ → Ledger
 emptyLedger n =
-    record { n = n; months = 0; last = 0; fixed = false; month = 0; force = noCharges; balances = noBalances }
+    record {
+      n = n;
+      last = 0;
+      fixed = false;
+      month = 0;
+      force = noCharges;
+      balances = noBalances;
+      counts = noCounts;
+    }
 
--- whether any month is settled, and the month that comes next
+-- one distributor's count of settled months
+abbrev pub countAt : List ℕ → ℕ → ℕ
+countAt counts i = getD counts i 0
+
+-- "a month is settled once any count isn't zero", and the month that comes next
 unfoldable pub anySettled : Ledger → Bool
-anySettled ledger = not (eqb (ledger .months) 0)
+anySettled ledger = anyBelow mostDistributors (λ i. not (eqb (countAt (ledger .counts) i) 0))
 
 unfoldable pub nextMonth : Ledger → ℕ
 nextMonth ledger = ledger .last + 1
@@ -43,25 +61,42 @@ unfoldable pub fixedLedger : Ledger → ℕ → SectorCharges → Ledger
 fixedLedger ledger month force =
     record {
       n = ledger .n;
-      months = ledger .months;
       last = ledger .last;
       fixed = true;
       month = month;
       force = force;
       balances = ledger .balances;
+      counts = ledger .counts;
     }
 
--- "A settled month raises the count by one", is the last month, and moves the balances
+-- "a settlement raises all" the counts of n distributors
+unfoldable pub raisedCounts : ℕ → List ℕ → List ℕ
+raisedCounts n counts = filledBelow mostDistributors 0 n (λ i. countAt counts i + 1)
+
+-- a settled month raises the counts, is the last month, and moves the balances
 unfoldable pub settledLedger : Ledger → ℕ → List Pesos → Ledger
 settledLedger ledger month balances =
     record {
       n = ledger .n;
-      months = ledger .months + 1;
       last = month;
       fixed = ledger .fixed;
       month = ledger .month;
       force = ledger .force;
       balances = balances;
+      counts = raisedCounts (ledger .n) (ledger .counts);
+    }
+
+-- "A join call adds one at the end with balance 0, and no fixing is then in force"; its count is "zero on joining"
+unfoldable pub joinedLedger : Ledger → Ledger
+joinedLedger ledger =
+    record {
+      n = ledger .n + 1;
+      last = ledger .last;
+      fixed = false;
+      month = 0;
+      force = noCharges;
+      balances = set (ledger .balances) (ledger .n) noMoney;
+      counts = set (ledger .counts) (ledger .n) 0;
     }
 
 -- the check of an opening: "opening, n not 1 to 40"

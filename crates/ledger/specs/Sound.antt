@@ -1,5 +1,5 @@
--- "Sound" (a term of document 01, "The ledger"): one test, clause by clause, of every bit pattern a ledger may have.
--- Nothing else is soundness. Assumes nothing.
+-- "Sound" (a term of document 01, "The ledger", as W-205 of document 02 restates it): one test, clause by clause, of
+-- every bit pattern a ledger may have. Nothing else is soundness. Assumes nothing.
 use mathlib.Core.Bool.{Bool, false, cond, not, _&&_, _||_}
 use mathlib.Core.List.{List}
 use Prim.Native.Nat.{ℕ, _+_, _*_}
@@ -16,7 +16,7 @@ use Rattle.fixing.specs.declared.sector.SectorCharges.{SectorCharges}
 use Rattle.settlement.specs.Amount.{mostCharge}
 use Rattle.settlement.specs.Settlement.{mostPosition, oneSign}
 use Rattle.settlement.specs.Month.{moneyAt}
-use Rattle.ledger.specs.Ledger.{anySettled}
+use Rattle.ledger.specs.Ledger.{countAt, anySettled}
 use Rattle.ledger.specs.declared.ledger.Ledger.{Ledger}
 
 abbrev pub presentIn : SectorCharges → ℕ → Bool
@@ -45,30 +45,37 @@ forceSound held force = allBelow sectorPlaces (placeSound held force)
 unfoldable pub unsetZero : Bool → ℕ → Bool → ℕ → Bool
 unsetZero settled last fixed month = (fixed || eqb month 0) && (settled || eqb last 0)
 
--- "month numbers are at most 1,199"; "once a month is settled, the count of months and the fixing's month are at most
--- last+1"; "nothing is settled without a fixing"
-unfoldable pub monthsSound : Bool → ℕ → ℕ → Bool → ℕ → Bool
-monthsSound settled months last fixed month =
-    leb last lastMonth
-    && leb month lastMonth
-    && (not settled || (leb months (last + 1) && leb month (last + 1) && fixed))
+-- "month numbers are at most 1,199"; "once a month is settled, .. the fixing's month [is] at most last+1"
+unfoldable pub monthsSound : Bool → ℕ → ℕ → Bool
+monthsSound settled last month =
+    leb last lastMonth && leb month lastMonth && (not settled || leb month (last + 1))
 
--- one balance: "balances within ±10^15"; zero past n, and "till then [a month is settled] balances are zero"
+-- one count: "each is at most last+1"; zero past n
+unfoldable pub mostCountOf : Bool → ℕ → ℕ
+mostCountOf held last = cond held (last + 1) 0
+
+unfoldable pub countTest : ℕ → ℕ → ℕ → ℕ → Bool
+countTest n last count i = leb count (mostCountOf (ltb i n) last)
+
+unfoldable pub countsSound : ℕ → ℕ → List ℕ → Bool
+countsSound n last counts = allBelow mostDistributors (λ i. countTest n last (countAt counts i) i)
+
+-- one balance: "balances within ±10^15"; "a balance with count zero is zero", and so it is past n, where the counts are
 unfoldable pub mostBalanceOf : Bool → ℕ
-mostBalanceOf held = cond held mostPosition 0
+mostBalanceOf counted = cond counted mostPosition 0
 
-unfoldable pub balanceTest : ℕ → Bool → ℤ → ℕ → Bool
-balanceTest n settled balance i = withinSize (mostBalanceOf (ltb i n && settled)) balance
+unfoldable pub balanceTest : ℕ → ℤ → Bool
+balanceTest count balance = withinSize (mostBalanceOf (not (eqb count 0))) balance
 
-unfoldable pub balanceSound : ℕ → Bool → List Pesos → ℕ → Bool
-balanceSound n settled balances i = balanceTest n settled (moneyAt balances i) i
+unfoldable pub balanceSound : List ℕ → List Pesos → ℕ → Bool
+balanceSound counts balances i = balanceTest (countAt counts i) (moneyAt balances i)
 
-unfoldable pub eachBalance : ℕ → Bool → List Pesos → Bool
-eachBalance n settled balances = allBelow mostDistributors (balanceSound n settled balances)
+unfoldable pub eachBalance : List ℕ → List Pesos → Bool
+eachBalance counts balances = allBelow mostDistributors (balanceSound counts balances)
 
 -- and "never of both signs"
-unfoldable pub balancesSound : ℕ → Bool → List Pesos → Bool
-balancesSound n settled balances = eachBalance n settled balances && oneSign mostDistributors (moneyAt balances)
+unfoldable pub balancesSound : List ℕ → List Pesos → Bool
+balancesSound counts balances = eachBalance counts balances && oneSign mostDistributors (moneyAt balances)
 
 -- "Sound: n is in its range; .."
 unfoldable pub sound : Ledger → Bool
@@ -76,5 +83,6 @@ sound ledger =
     between 1 mostDistributors (ledger .n)
     && forceSound (placesHeld (ledger .n) (ledger .fixed)) (ledger .force)
     && unsetZero (anySettled ledger) (ledger .last) (ledger .fixed) (ledger .month)
-    && monthsSound (anySettled ledger) (ledger .months) (ledger .last) (ledger .fixed) (ledger .month)
-    && balancesSound (ledger .n) (anySettled ledger) (ledger .balances)
+    && monthsSound (anySettled ledger) (ledger .last) (ledger .month)
+    && countsSound (ledger .n) (ledger .last) (ledger .counts)
+    && balancesSound (ledger .counts) (ledger .balances)

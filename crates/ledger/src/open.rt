@@ -2,17 +2,13 @@
 ghost use mathlib.Core.Path.{_≡_};
 ghost use Rattle.ledger.specs.Ledger.{emptyLedger, OpeningPromise};
 use crate::ledger::Ledger;
+use crate::ledger::Outcome;
 use fixing::sector::no_charges;
 use numbers::refusal::Refusal;
 use numbers::refusal::Verdict;
 use numbers::sizes::MOST_DISTRIBUTORS;
 use numbers::units::Pesos;
 use numbers::units::is_between;
-
-pub struct Opening {
-    pub verdict: Verdict,
-    pub ledger: Ledger,
-}
 
 // A ledger of n distributors with nothing else set.
 fn empty(n: usize) -> Ledger
@@ -22,28 +18,28 @@ fn empty(n: usize) -> Ledger
     let none = Pesos(0);
     Ledger {
         n,
-        months: 0,
         last: 0,
         fixed: false,
         month: 0,
         force,
         balances: [none; MOST_DISTRIBUTORS],
+        counts: [0; MOST_DISTRIBUTORS],
     }
 }
 
 // A new ledger of 1 to 40 distributors; any other count is refused with the all-zero ledger.
-pub fn open(n: usize) -> Opening
+pub fn open(n: usize) -> Outcome
     ensures { λ r. ⌜ OpeningPromise n (r .verdict) (r .ledger) ⌝ }
 {
     if is_between(1, MOST_DISTRIBUTORS as u64, n as u64) {
         let ledger = empty(n);
-        return Opening {
+        return Outcome {
             verdict: Verdict::Passed,
             ledger,
         };
     }
     let ledger = empty(0);
-    Opening {
+    Outcome {
         verdict: Verdict::Refused(Refusal::WrongCount),
         ledger,
     }

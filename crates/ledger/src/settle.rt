@@ -3,21 +3,23 @@
 ghost use mathlib.Core.Bool.{true};
 ghost use mathlib.Core.List.{List};
 ghost use mathlib.Core.Path.{_≡_};
-ghost use Prim.Native.Nat.{ℕ, _≤_, _<_, _^_};
+ghost use Prim.Native.Nat.{ℕ, _≤_, _<_};
 ghost use lib.IntN.{ℤ};
 ghost use lib.ListN.{length};
 ghost use Rattle.numbers.specs.Bounded.{listBelow};
-ghost use Rattle.numbers.specs.declared.refusal.Verdict.the-variants.{Passed, Refused};
+ghost use Rattle.numbers.specs.declared.refusal.Verdict.the-variants.{Passed};
 ghost use Rattle.numbers.specs.Sizes.{mostDistributors};
 ghost use Rattle.settlement.specs.Month.{moneyAt};
 ghost use Rattle.settlement.specs.Settlement.{onSmallerSide};
-ghost use Rattle.ledger.specs.Ledger.{settledLedger};
+ghost use Rattle.ledger.specs.Ledger.{raisedCounts, settledLedger};
 ghost use Rattle.ledger.specs.Turn.{settlementTurn};
 ghost use Rattle.ledger.specs.Settle.{SettlementCall, settlementCallOf, settlementLengths, positionsOf};
 ghost use Rattle.ledger.specs.Settle.{SettlementPromise, SettledInFull};
 ghost use Rattle.ledger.specs.declared.ledger.Ledger.{Ledger};
-ghost use Rattle.ledger.specs.Required.{Due};
+ghost use Rattle.ledger.specs.Required.{CountsWithin, Due};
 use crate::ledger::Ledger;
+use crate::ledger::Outcome;
+use crate::ledger::refused;
 use crate::sound::is_sound;
 use numbers::refusal::Refusal;
 use numbers::refusal::Verdict;
@@ -29,21 +31,31 @@ use settlement::month::positions;
 use settlement::month::positions_in_range;
 use settlement::month::settle_positions;
 
-// The verdict, and the ledger handed back.
-pub struct SettlementOutcome {
-    pub verdict: Verdict,
-    pub ledger: Ledger,
+// The counts of n distributors, each raised by one.
+fn raise_counts(n: usize, counts: [u64; MOST_DISTRIBUTORS]) -> [u64; MOST_DISTRIBUTORS]
+    requires { ⌜ CountsWithin n counts ⌝ }
+    ensures { λ r. ⌜ r ≡ raisedCounts n counts ⌝ }
+{
+    let mut raised = [0u64; MOST_DISTRIBUTORS];
+    let mut i: usize = 0;
+    while i < n {
+        raised[i] = counts[i] + 1;
+        i += 1;
+    }
+    raised
 }
 
 impl Ledger {
     // The ledger with one month more settled.
     fn book_month(mut self, month: u64, balances: [Pesos; MOST_DISTRIBUTORS]) -> Self
-        requires { ⌜ self .months < 2 ^ 63 ⌝ }
+        requires { ⌜ CountsWithin (self .n) (self .counts) ⌝ }
         ensures { λ r. ⌜ r ≡ settledLedger self month balances ⌝ }
     {
-        self.months = self.months + 1;
+        let counts = self.counts;
+        let raised = raise_counts(self.n, counts);
         self.last = month;
         self.balances = balances;
+        self.counts = raised;
         self
     }
 }
@@ -81,16 +93,6 @@ fn write_transfers(n: usize, amounts: [Pesos; MOST_DISTRIBUTORS], transfers: &mu
     }
 }
 
-// A refusal hands the ledger back as it was.
-fn refused(refusal: Refusal, ledger: Ledger) -> SettlementOutcome
-    ensures { λ r. ⌜ r ≡ record { verdict = Refused refusal; ledger = ledger } ⌝ }
-{
-    SettlementOutcome {
-        verdict: Verdict::Refused(refusal),
-        ledger,
-    }
-}
-
 // The settlement of a sound ledger with a fixing in force, in a month that is due: causes 12 and 13, then the month.
 fn settle_month(
     ledger: Ledger,
@@ -98,7 +100,7 @@ fn settle_month(
     readings: &[u64],
     losses: &[u64],
     transfers: &mut [i64],
-) -> SettlementOutcome
+) -> Outcome
     requires { ⌜ Due ledger (settlementCallOf month (now readings) (now losses) (now transfers)) ⌝ }
     ensures { λ r. ⌜ SettlementPromise ledger
         (settlementCallOf month (now (readings .entry)) (now (losses .entry)) (now (transfers .entry))) (r .verdict)
@@ -121,7 +123,7 @@ fn settle_month(
     let balances = settled.balances;
     write_transfers(n, amounts, transfers);
     let ledger = ledger.book_month(month, balances);
-    SettlementOutcome {
+    Outcome {
         verdict: Verdict::Passed,
         ledger,
     }
@@ -135,7 +137,7 @@ pub fn settle(
     readings: &[u64],
     losses: &[u64],
     transfers: &mut [i64],
-) -> SettlementOutcome
+) -> Outcome
     ensures { λ r. ⌜ SettlementPromise ledger
         (settlementCallOf month (now (readings .entry)) (now (losses .entry)) (now (transfers .entry))) (r .verdict)
         (r .ledger) (now (transfers .exit)) ⌝ }

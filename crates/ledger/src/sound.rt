@@ -3,10 +3,11 @@
 ghost use mathlib.Core.Path.{_≡_};
 ghost use Prim.Native.Nat.{_≤_};
 ghost use Rattle.numbers.specs.Sizes.{mostDistributors};
+ghost use Rattle.series.specs.Series.{lastMonth};
 ghost use Rattle.settlement.specs.Settlement.{oneSign};
 ghost use Rattle.settlement.specs.Month.{moneyAt};
 ghost use Rattle.ledger.specs.Sound.{placesHeld, placeTest, forceSound, unsetZero, monthsSound};
-ghost use Rattle.ledger.specs.Sound.{mostBalanceOf, balanceTest, eachBalance, sound};
+ghost use Rattle.ledger.specs.Sound.{mostCountOf, countsSound, mostBalanceOf, balanceTest, eachBalance, sound};
 use crate::ledger::Ledger;
 use fixing::sector::SectorCharges;
 use numbers::signed::within_size;
@@ -63,39 +64,65 @@ fn unset_zero(settled: bool, last: u64, fixed: bool, month: u64) -> bool
     (fixed | (month == 0)) & (settled | (last == 0))
 }
 
-// Month numbers and the count of months are in their ranges, and nothing is settled without a fixing.
-fn months_sound(settled: bool, months: u64, last: u64, fixed: bool, month: u64) -> bool
-    ensures { λ r. ⌜ r ≡ monthsSound settled months last fixed month ⌝ }
+// Month numbers are in their ranges.
+fn months_sound(settled: bool, last: u64, month: u64) -> bool
+    ensures { λ r. ⌜ r ≡ monthsSound settled last month ⌝ }
 {
     if last > LAST_MONTH {
         return false;
     }
-    let due = (months <= last + 1) & (month <= last + 1) & fixed;
-    (month <= LAST_MONTH) & (!settled | due)
+    (month <= LAST_MONTH) & (!settled | (month <= last + 1))
 }
 
-// The greatest size of a balance: none past n, and none till a month is settled.
-fn most_balance(held: bool) -> u64
-    ensures { λ r. ⌜ r ≡ mostBalanceOf held ⌝ }
+// The greatest count: none past n.
+fn most_count(held: bool, last: u64) -> u64
+    requires { ⌜ last ≤ lastMonth ⌝ }
+    ensures { λ r. ⌜ r ≡ mostCountOf held last ⌝ }
 {
-    if held { MOST_POSITION } else { 0 }
+    if held { last + 1 } else { 0 }
 }
 
-// One balance.
-fn balance_sound(n: usize, settled: bool, balance: Pesos, i: usize) -> bool
-    ensures { λ r. ⌜ r ≡ balanceTest n settled (balance .0) i ⌝ }
-{
-    within_size(balance.0, most_balance((i < n) & settled))
-}
-
-// Every balance.
-fn each_balance_sound(n: usize, settled: bool, balances: [Pesos; MOST_DISTRIBUTORS]) -> bool
-    ensures { λ r. ⌜ r ≡ eachBalance n settled balances ⌝ }
+// Every count.
+fn counts_sound(n: usize, last: u64, counts: [u64; MOST_DISTRIBUTORS]) -> bool
+    requires { ⌜ last ≤ lastMonth ⌝ }
+    ensures { λ r. ⌜ r ≡ countsSound n last counts ⌝ }
 {
     let mut i: usize = 0;
     while i < MOST_DISTRIBUTORS {
+        if counts[i] > most_count(i < n, last) {
+            return false;
+        }
+        i += 1;
+    }
+    true
+}
+
+// The greatest size of a balance: none where no month is counted.
+fn most_balance(counted: bool) -> u64
+    ensures { λ r. ⌜ r ≡ mostBalanceOf counted ⌝ }
+{
+    if counted { MOST_POSITION } else { 0 }
+}
+
+// One balance.
+fn balance_sound(count: u64, balance: Pesos) -> bool
+    ensures { λ r. ⌜ r ≡ balanceTest count (balance .0) ⌝ }
+{
+    within_size(balance.0, most_balance(count != 0))
+}
+
+// Every balance.
+fn each_balance_sound(
+    counts: [u64; MOST_DISTRIBUTORS],
+    balances: [Pesos; MOST_DISTRIBUTORS],
+) -> bool
+    ensures { λ r. ⌜ r ≡ eachBalance counts balances ⌝ }
+{
+    let mut i: usize = 0;
+    while i < MOST_DISTRIBUTORS {
+        let count = counts[i];
         let balance = balances[i];
-        if !balance_sound(n, settled, balance, i) {
+        if !balance_sound(count, balance) {
             return false;
         }
         i += 1;
@@ -129,12 +156,16 @@ pub(crate) fn is_sound(ledger: Ledger) -> bool
     }
     let settled = ledger.any_settled();
     let last = ledger.last;
-    let fixed = ledger.fixed;
     let month = ledger.month;
+    if !months_sound(settled, last, month) {
+        return false;
+    }
+    let fixed = ledger.fixed;
     let force = ledger.force;
     let balances = ledger.balances;
+    let counts = ledger.counts;
     force_sound(places_held(n, fixed), force)
         & unset_zero(settled, last, fixed, month)
-        & months_sound(settled, ledger.months, last, fixed, month)
-        & (each_balance_sound(n, settled, balances) & one_sign(balances))
+        & counts_sound(n, last, counts)
+        & (each_balance_sound(counts, balances) & one_sign(balances))
 }

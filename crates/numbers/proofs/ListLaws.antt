@@ -66,6 +66,12 @@ module _ {A : Type 0} {f : ℕ → A} {size : ℕ} {l : List A} {k : ℕ} (h : W
       let e : k ≡ size = omega arith in
       list-done f l size (h .long) (rw e at (h .first))
 
+-- setting a place to what stands there changes nothing
+pub set-held : {A : Type 0} (l : List A) (k : ℕ) (d : A) → getD l k d ≡ d → set l k d ≡ l
+set-held [] k d h = refl
+set-held (a ∷ l) zero d h = ap (λ x. x ∷ l) (sym h)
+set-held (a ∷ l) (suc k) d h = ap (λ r. a ∷ r) (set-held l k d h)
+
 -- two functions that agree below the bound have one list
 pub list-same : {A : Type 0} (k : ℕ) (f g : ℕ → A) → ((j : ℕ) → j < k → f j ≡ g j) → listBelow k f ≡ listBelow k g
 unfolding listBelow

@@ -20,6 +20,7 @@ pub enum Refusal {
     WrongReading,
     PositionBeyond,
     NoLineMoved,
+    LedgerFull,
 }
 
 pub enum Verdict {
@@ -46,6 +47,7 @@ pub fn refusal_number(refusal: Refusal) -> u64
         Refusal::WrongReading => 12,
         Refusal::PositionBeyond => 13,
         Refusal::NoLineMoved => 14,
+        Refusal::LedgerFull => 15,
     }
 }
 

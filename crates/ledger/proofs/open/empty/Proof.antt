@@ -1,9 +1,9 @@
--- The definition, field by field: no charges, and forty balances of zero.
+-- The definition, field by field: no charges, and forty balances and counts of zero.
 use mathlib.Core.Path.{ap₂}
 use mathlib.Core.Bool.{false}
 use lib.IntN.{pos}
 use Rattle.settlement.proofs.MonthLaws.{money-none}
-use Rattle.ledger.specs.Ledger.{noBalances, emptyLedger}
+use Rattle.ledger.specs.Ledger.{noBalances, noCounts, emptyLedger}
 use Rattle.ledger.specs.declared.ledger.Ledger.{Ledger}
 use borrow.Author.Needs.{needs}
 use Rattle.ledger.proofs.open.empty.Statement.{statement}
@@ -12,7 +12,15 @@ use Rattle.ledger.proofs.open.empty.Tie as tie
 returns : tie.Need-returns
 unfolding emptyLedger noBalances
 returns c = ap₂ {C = Ledger}
-    (λ f b. record { n = c .before .args .n; months = 0; last = 0; fixed = false; month = 0; force = f; balances = b })
+    (λ f b. record {
+      n = c .before .args .n;
+      last = 0;
+      fixed = false;
+      month = 0;
+      force = f;
+      balances = b;
+      counts = noCounts;
+    })
     (c .no-charges .ensures) (money-none (λ i. pos 0))
 
 pub empty-spec : {M : Type 1} → statement M

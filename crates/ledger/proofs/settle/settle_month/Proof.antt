@@ -12,7 +12,7 @@ use Rattle.settlement.proofs.MonthLaws.{positions-within}
 use Rattle.ledger.specs.Ledger.{billedUnder}
 use Rattle.ledger.specs.Settle.{SettlementCall, settlementCallOf, positionsOf, settlementChecks}
 use Rattle.ledger.specs.declared.ledger.Ledger.{Ledger}
-use Rattle.ledger.proofs.SoundLaws.{sound-few, sound-months, sound-balances}
+use Rattle.ledger.proofs.SoundLaws.{sound-few, sound-counts, sound-balances}
 use Rattle.ledger.proofs.SettleLaws.{lists-due, transfers-length, first-due, billed-due, position-beyond}
 use Rattle.ledger.proofs.SettleLaws.{month-settled, month-refused}
 use borrow.Author.Needs.{needs}
@@ -111,7 +111,7 @@ write-transfers-requires c κs =
 book-month-requires : tie.Need-book-month-requires
 book-month-requires c κs =
     let s = begun (twelve (placed (c .before .before .before .before .before .before))) in
-    omega (arith, sound-months (ledger s) (s .pre .whole))
+    sound-counts (ledger s) (s .pre .whole)
 
 returns-3 : tie.Need-returns-3
 returns-3 c =

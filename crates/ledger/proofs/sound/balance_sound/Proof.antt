@@ -1,7 +1,7 @@
 -- The test of the size is the definition's.
 use native.Mathlib.Omega.{arith}
-use mathlib.Core.Bool.{_&&_}
-use lib.Dec.{ltb}
+use mathlib.Core.Bool.{not}
+use lib.Dec.{eqb}
 use mir.Facts.{toZ-ofZ}
 use borrow.Author.Needs.{needs, sfits-of}
 use Rattle.settlement.specs.Settlement.{mostPosition}
@@ -14,7 +14,7 @@ within-size-requires : tie.Need-within-size-requires
 unfolding mostBalanceOf
 within-size-requires c κs =
     let a = c .before .before .args in
-    omega (arith, c .before .most-balance .ensures, pick-most (ltb (a .i) (a .n) && a .settled) mostPosition)
+    omega (arith, c .before .most-balance .ensures, pick-most (not (eqb (a .count) 0)) mostPosition)
 
 returns : tie.Need-returns
 unfolding balanceTest

@@ -10,10 +10,10 @@ use Rattle.ledger.proofs.sound.each_balance_sound.Statement.{statement}
 use Rattle.ledger.proofs.sound.each_balance_sound.Tie as tie
 
 abbrev Inv-loop : tie.InvT-loop
-Inv-loop n settled balances i₀ i = Tested mostDistributors (balanceSound n settled balances) i
+Inv-loop counts balances i₀ i = Tested mostDistributors (balanceSound counts balances) i
 
 abbrev μ-loop : tie.MeasureT-loop
-μ-loop n settled balances i₀ i = mostDistributors - i
+μ-loop counts balances i₀ i = mostDistributors - i
 
 loop-holds : tie.Need-loop-holds Inv-loop μ-loop
 loop-holds c = tested-none _ _
@@ -41,7 +41,7 @@ each-balance-sound-spec =
     Inv-loop
     μ-loop
     loop-holds
-    (λ c. omega arith) (λ c. omega arith) (λ c κs. search needs)
+    (λ c. omega arith) (λ c. omega arith) (λ c. omega arith) (λ c. omega arith) (λ c κs. search needs)
     returns
     (λ c. omega arith) (λ c. omega arith)
     loop-again

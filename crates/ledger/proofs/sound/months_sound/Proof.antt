@@ -14,4 +14,4 @@ unfolding monthsSound
 returns-2 c = rw (le-leb _ _ (c .if1 .left))
 
 pub months-sound-spec : {M : Type 1} → statement M
-months-sound-spec = tie.close (tie.spec returns (λ c. search needs) (λ c. search needs) returns-2)
+months-sound-spec = tie.close (tie.spec returns (λ c. search needs) returns-2)
