@@ -14,13 +14,13 @@ use Rattle.journal.specs.Form.{Held, partCount, placeOf, formAfter, formParts}
 use Rattle.journal.specs.Command.{commandForm, commandAfter}
 use Rattle.journal.specs.declared.cursor.Cursor.{Cursor}
 use Rattle.journal.specs.declared.command.Command.{Command}
-use Rattle.journal.specs.declared.command.Command.the-variants.{Open, Fix, Settle, Save, Load, Interim}
+use Rattle.journal.specs.declared.command.Command.the-variants.{Open, Fix, Settle, Save, Load, Interim, Join}
 use Rattle.journal.specs.declared.command.Command.the-variants.{Unknown, End}
 use Rattle.journal.specs.declared.command.CommandRead.{CommandRead}
 use Rattle.ledger.specs.declared.ledger.Ledger.{Ledger}
 use Rattle.text.proofs.SizeLaws.{line-size}
 use Rattle.answers.proofs.SizeLaws.{settled-size, fixed-size}
-use Rattle.commands.specs.Replay.{openingText, fixingText, settlementText, loadingText}
+use Rattle.commands.specs.Replay.{openingText, fixingText, settlementText, joiningText, loadingText}
 use Rattle.commands.specs.Replay.{commandLedger, commandAnswer, wordRoom, stepAfter, answerOf}
 use Rattle.commands.specs.Replay.{answerAfter, longestAnswer, CommandMade, CommandAnswered}
 use Rattle.commands.specs.declared.answer.Made.{Made}
@@ -40,19 +40,21 @@ form-room Settle = omega arith
 form-room Save = omega arith
 form-room Load = omega arith
 form-room Interim = omega arith
+form-room Join = omega arith
 form-room Unknown = omega arith
 form-room End = omega arith
 
 -- no answer is longer than the buffer
 answer-fits : (command : Command) (parts : List Held) (ledger : Ledger) →
     length (commandAnswer command parts ledger) ≤ longestAnswer
-unfolding openingText fixingText settlementText loadingText
+unfolding openingText fixingText settlementText joiningText loadingText
 answer-fits Open parts ledger = le-trans (line-size _) (omega arith)
 answer-fits Fix parts ledger = le-trans (fixed-size _ _ _ _) (omega arith)
 answer-fits Settle parts ledger = le-trans (settled-size _ _ _ _) (omega arith)
 answer-fits Save parts ledger = saving-size ledger
 answer-fits Load parts ledger = le-trans (line-size _) (omega arith)
 answer-fits Interim parts ledger = le-trans (fixed-size _ _ _ _) (omega arith)
+answer-fits Join parts ledger = le-trans (line-size _) (omega arith)
 answer-fits Unknown parts ledger = omega arith
 answer-fits End parts ledger = omega arith
 

@@ -6,16 +6,12 @@ use Prim.Native.Nat.{ℕ, _*_, _-_, _^_, _<_, _≤_}
 use native.Mathlib.Nat.{sub-zero}
 use native.Mathlib.Omega.{arith}
 use lib.ListN.{length, take, drop, length-take}
-use mir.Syntax.{w64}
-use mir.Val.{SFits}
 use Rattle.numbers.specs.Bounded.{allBelow, listBelow}
 use Rattle.numbers.specs.Sizes.{mostDistributors, sectorCount, sectorPlaces}
-use Rattle.settlement.specs.Month.{moneyAt}
 use Rattle.ledger.specs.Ledger.{emptyLedger}
-use Rattle.ledger.specs.Sound.{chargeIn}
 use Rattle.ledger.specs.declared.ledger.Ledger.{Ledger}
 use Rattle.store.specs.Store.{keptCount, ledgerParts, loadedLedger}
-use Rattle.store.proofs.StoreLaws.{kept-most, loaded-back, parts-taken, parts-whole}
+use Rattle.store.proofs.StoreLaws.{kept-most, MachineLedger, loaded-back, parts-taken, parts-whole}
 use Rattle.text.specs.Text.{bytes, lineEnd, beforeBlank, nameText, textBelow}
 use Rattle.journal.specs.Word.{isWord, sameByte}
 use Rattle.journal.specs.Cursor.{readTo}
@@ -32,18 +28,6 @@ use Rattle.journal.proofs.BackLaws.{namesPlain, plainTest, plain-of, part-ends,
 use Rattle.commands.specs.Replay.{savingText, stepAfter, readWith, replayFrom, replayed}
 use Rattle.commands.proofs.ReplayLaws.{stepBy, step-made, replay-none, replay-on, short}
 
--- what every ledger of the machine meets: its numbers fit 64 bits, and its lists have their lengths
-pub record MachineLedger (ledger : Ledger) : Type 0 where
-  pub n : ledger .n < 2 ^ 64
-  pub months : ledger .months < 2 ^ 64
-  pub last : ledger .last < 2 ^ 64
-  pub month : ledger .month < 2 ^ 64
-  pub presences : length (ledger .force .present) ≡ sectorPlaces
-  pub charged : length (ledger .force .charges) ≡ sectorPlaces
-  pub balanced : length (ledger .balances) ≡ mostDistributors
-  pub charges : (k : ℕ) → k < sectorPlaces → SFits w64 (chargeIn (ledger .force) k)
-  pub balances : (i : ℕ) → i < mostDistributors → SFits w64 (moneyAt (ledger .balances) i)
-
 abbrev loadName : List ℕ
 loadName = bytes "load"
 
@@ -58,9 +42,10 @@ saving-size ledger =
     omega (
       arith,
       form-size (bytes "load        ") loadForm (ledgerParts ledger) 320
-          (each-part (λ k. length (heldIn (ledgerParts ledger) k .words) ≤ 320) none none none none none
+          (each-part (λ k. length (heldIn (ledgerParts ledger) k .words) ≤ 320) none none none none
           (short places _ (omega (arith, few))) (short places _ (omega (arith, few)))
-          (short (keptCount ledger) _ (omega (arith, few))) none none none none),
+          (short (keptCount ledger) _ (omega (arith, few))) (short (keptCount ledger) _ (omega (arith, few)))
+          none none none none),
     )
 
 load-plain : Plain loadName
@@ -125,7 +110,7 @@ module _ (ledger : Ledger) (m : MachineLedger ledger) where
     read : (formParts loadForm text from ≡ listBelow partCount (heldIn parts)) × Ahead text next (lineEnd ∷ [])
     read =
         form-back loadForm parts text from (lineEnd ∷ []) load-shows
-        (parts-taken ledger (m .n) (m .months) (m .last) (m .month) (m .charges) (m .balances)) line-ends
+        (parts-taken ledger m) line-ends
         (record { whole = refl; after = ap (λ (t : List ℕ). drop (length loadName) t) e })
 
     loaded : stepBy ledger next ≡ stepAfter text 0 (emptyLedger 0)
@@ -134,7 +119,7 @@ module _ (ledger : Ledger) (m : MachineLedger ledger) where
         (load-command partsText parts-end ∙ ap (λ (t : List ℕ). commandAfter t 0) (sym e)) next refl
         (read .1 .whole) ledger
         (sym (ap loadedLedger (read .0 ∙ parts-whole ledger)
-        ∙ loaded-back ledger (m .presences) (m .charged) (m .balanced) (m .charges) (m .balances)))
+        ∙ loaded-back ledger m))
 
     ended : readWith ledger (length text) ≡ stepAfter text (next .at) ledger
     ended =

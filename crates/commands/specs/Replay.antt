@@ -20,12 +20,13 @@ use Rattle.journal.specs.Form.{Held, heldIn, partCount, formAfter, formParts, f
 use Rattle.journal.specs.Command.{loadForm, commandForm, commandAfter}
 use Rattle.journal.specs.declared.cursor.Cursor.{Cursor}
 use Rattle.journal.specs.declared.command.Command.{Command}
-use Rattle.journal.specs.declared.command.Command.the-variants.{Open, Fix, Settle, Save, Load, Interim}
+use Rattle.journal.specs.declared.command.Command.the-variants.{Open, Fix, Settle, Save, Load, Interim, Join}
 use Rattle.journal.specs.declared.command.Command.the-variants.{Unknown, End}
 use Rattle.ledger.specs.Ledger.{emptyLedger, openingVerdict, openingLedger}
 use Rattle.ledger.specs.Fix.{FixingCall, fixingCallOf, fixingAnswer, fixingAnswered}
 use Rattle.ledger.specs.Fix.{fixingLedger, fixingList, fixingPowerList}
 use Rattle.ledger.specs.Settle.{SettlementCall, settlementCallOf, settlementVerdict, settlementLedger, settlementList}
+use Rattle.ledger.specs.Join.{joinVerdict, joinLedger}
 use Rattle.ledger.specs.declared.ledger.Ledger.{Ledger}
 use Rattle.store.specs.Store.{ledgerParts, loadedLedger}
 use Rattle.answers.specs.Answer.{outcomeLine, fixingLine, unwrittenWord, settledText, fixedText}
@@ -84,6 +85,10 @@ settlementText ledger call =
     settledText (outcomeLine (bytes "settle      ") number) (eqb number 0) (settlementList ledger call)
     (listBelow mostDistributors (λ i. wordOf (moneyAt balances i)))
 
+-- "`join` answers `join accepted` or `join refused NUMBER`"
+unfoldable pub joiningText : Ledger → List ℕ
+joiningText ledger = lineText (outcomeLine (bytes "join        ") (verdictAnswered [] (joinVerdict ledger) .number))
+
 -- "`save` prints the ledger as a `load` command"
 unfoldable pub savingText : Ledger → List ℕ
 savingText ledger = formText (bytes "load        ") loadForm (ledgerParts ledger)
@@ -100,6 +105,7 @@ commandLedger Settle parts ledger = settlementLedger ledger (settlementCall part
 commandLedger Save parts ledger = ledger
 commandLedger Load parts ledger = loadedLedger parts
 commandLedger Interim parts ledger = fixingLedger ledger (fixingCall true parts)
+commandLedger Join parts ledger = joinLedger ledger
 commandLedger Unknown parts ledger = ledger
 commandLedger End parts ledger = ledger
 
@@ -111,6 +117,7 @@ commandAnswer Settle parts ledger = settlementText ledger (settlementCall parts)
 commandAnswer Save parts ledger = savingText ledger
 commandAnswer Load parts ledger = loadingText
 commandAnswer Interim parts ledger = fixingText ledger (fixingCall true parts)
+commandAnswer Join parts ledger = joiningText ledger
 commandAnswer Unknown parts ledger = []
 commandAnswer End parts ledger = []
 

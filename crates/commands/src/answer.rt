@@ -1,15 +1,20 @@
 // The commands: each is made from what its numbers and words hold, and answered in the buffer.
 ghost use mathlib.Core.Path.{_≡_};
+ghost use mathlib.Core.List.{[]};
 ghost use lib.ListN.{length};
+ghost use Rattle.numbers.specs.Refusal.{verdictAnswered};
+ghost use Rattle.text.specs.Line.{lineText};
 ghost use Rattle.ledger.specs.Ledger.{openingLedger};
 ghost use Rattle.ledger.specs.Fix.{fixingLedger, FixingPromise};
 ghost use Rattle.ledger.specs.Settle.{settlementLedger};
+ghost use Rattle.ledger.specs.Join.{joinLedger};
 ghost use Rattle.store.specs.Store.{loadedLedger};
 ghost use Rattle.journal.specs.Form.{FormHeld, numberOf, partsIn};
 ghost use Rattle.journal.specs.Command.{fixingForm, settleForm, loadForm};
+ghost use Rattle.answers.specs.Answer.{outcomeLine};
 ghost use Rattle.commands.specs.Replay.{unwritten, unwrittenPower, fixingCall, settlementCall};
 ghost use Rattle.commands.specs.Replay.{openingText, fixingName, fixingText, settlementText};
-ghost use Rattle.commands.specs.Replay.{savingText, loadingText, CommandMade};
+ghost use Rattle.commands.specs.Replay.{joiningText, savingText, loadingText, CommandMade};
 use crate::call::lent;
 use crate::call::lent_power;
 use crate::call::list_buffer;
@@ -27,7 +32,9 @@ use ledger::fix::FixingOutcome;
 use ledger::fix::fix;
 use ledger::fix::fixing_number;
 use ledger::fix::interim;
+use ledger::join::join;
 use ledger::ledger::Ledger;
+use ledger::ledger::Outcome;
 use ledger::open::open;
 use ledger::settle::settle;
 use numbers::refusal::verdict_number;
@@ -44,16 +51,32 @@ pub(crate) struct Made {
     pub count: usize,
 }
 
+// Answers a call that has no more to tell than its verdict.
+fn answer_outcome(name: [u8; NAME], outcome: Outcome, buffer: &mut [u8]) -> Made
+    ensures { λ r. ⌜ CommandMade r (outcome .ledger)
+        (lineText (outcomeLine name (verdictAnswered [] (outcome .verdict) .number))) (now (buffer .entry))
+        (now (buffer .exit)) ⌝ }
+{
+    let verdict = outcome.verdict;
+    let line = outcome_line(name, verdict_number(verdict));
+    let count = write_line(buffer, 0, line);
+    let ledger = outcome.ledger;
+    Made { ledger, count }
+}
+
 // Opens a ledger.
 pub(crate) fn run_open(n: usize, buffer: &mut [u8]) -> Made
     ensures { λ r. ⌜ CommandMade r (openingLedger n) (openingText n) (now (buffer .entry)) (now (buffer .exit)) ⌝ }
 {
-    let opening = open(n);
-    let verdict = opening.verdict;
-    let line = outcome_line(*b"open        ", verdict_number(verdict));
-    let count = write_line(buffer, 0, line);
-    let ledger = opening.ledger;
-    Made { ledger, count }
+    answer_outcome(*b"open        ", open(n), buffer)
+}
+
+// Lets a distributor join.
+pub(crate) fn run_join(ledger: Ledger, buffer: &mut [u8]) -> Made
+    ensures { λ r. ⌜ CommandMade r (joinLedger ledger) (joiningText ledger) (now (buffer .entry))
+        (now (buffer .exit)) ⌝ }
+{
+    answer_outcome(*b"join        ", join(ledger), buffer)
 }
 
 // The name of a fixing's command.

@@ -8,6 +8,7 @@ ghost use Rattle.commands.specs.Replay.{wordRoom, commandLedger, command
 ghost use Rattle.commands.specs.Replay.{longestAnswer, longestText, CommandMade, CommandAnswered};
 use crate::answer::Made;
 use crate::answer::run_fixing;
+use crate::answer::run_join;
 use crate::answer::run_load;
 use crate::answer::run_open;
 use crate::answer::run_save;
@@ -77,6 +78,7 @@ fn make_command(
         Command::Fix => run_fixing(false, parts, ledger, words, buffer),
         Command::Settle => run_settle(parts, ledger, words, buffer),
         Command::Interim => run_fixing(true, parts, ledger, words, buffer),
+        Command::Join => run_join(ledger, buffer),
     }
 }
 

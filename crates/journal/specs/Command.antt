@@ -14,7 +14,7 @@ use Rattle.journal.specs.Cursor.{readTo, brokenAt, mostWord}
 use Rattle.journal.specs.Form.{part, partCount, nothing}
 use Rattle.journal.specs.declared.token.Token.{Token}
 use Rattle.journal.specs.declared.command.Command.{Command}
-use Rattle.journal.specs.declared.command.Command.the-variants.{Open, Fix, Settle, Save, Load, Interim}
+use Rattle.journal.specs.declared.command.Command.the-variants.{Open, Fix, Settle, Save, Load, Interim, Join}
 use Rattle.journal.specs.declared.command.Command.the-variants.{Unknown, End}
 use Rattle.journal.specs.declared.command.CommandRead.{CommandRead}
 use Rattle.journal.specs.declared.command.CommandRow.{CommandRow}
@@ -55,14 +55,14 @@ settleForm =
     part "MONTH       " number ∷ part "readings    " list ∷ part "losses      " list
     ∷ part "transfers   " (Length longestList) ∷ replicate 8 nothing
 
--- "load N MONTHS LAST FIXED MONTH present K .. charges K .. balances K .."; "FIXED and the words of `present` are 0 or
--- 1"
+-- "load N LAST FIXED MONTH present K .. charges K .. balances K .. counts K .."; "FIXED and the words of `present` are
+-- 0 or 1"
 abbrev pub loadForm : List Part
 loadForm =
-    part "N           " number ∷ part "MONTHS      " number ∷ part "LAST        " number
-    ∷ part "FIXED       " (Number 1) ∷ part "MONTH       " number ∷ part "present     " (Words sectorPlaces 1)
+    part "N           " number ∷ part "LAST        " number ∷ part "FIXED       " (Number 1)
+    ∷ part "MONTH       " number ∷ part "present     " (Words sectorPlaces 1)
     ∷ part "charges     " (Signed sectorPlaces) ∷ part "balances    " (Signed mostDistributors)
-    ∷ replicate 4 nothing
+    ∷ part "counts      " (Words mostDistributors mostWord) ∷ replicate 4 nothing
 
 abbrev pub commandForm : Command → List Part
 commandForm Open = openForm
@@ -71,6 +71,7 @@ commandForm Settle = settleForm
 commandForm Save = emptyForm
 commandForm Load = loadForm
 commandForm Interim = fixingForm true
+commandForm Join = emptyForm
 commandForm Unknown = emptyForm
 commandForm End = emptyForm
 
@@ -81,7 +82,7 @@ row name command = record { 0 = bytes name; 1 = command }
 abbrev pub commandRows : List CommandRow
 commandRows =
     row "open        " Open ∷ row "fix         " Fix ∷ row "settle      " Settle ∷ row "save        " Save
-    ∷ row "load        " Load ∷ row "interim     " Interim ∷ []
+    ∷ row "load        " Load ∷ row "interim     " Interim ∷ row "join        " Join ∷ []
 
 -- the first command whose name is the token; "an unknown word"
 unfoldable pub commandAmong : List ℕ → Token → List CommandRow → CommandRead

@@ -25,7 +25,7 @@ const LONGEST_LIST: u64 = 8192;
 const NOTHING: Part = Part(*b"            ", Kind::Nothing);
 
 // The commands.
-const COMMANDS: usize = 6;
+const COMMANDS: usize = 7;
 
 pub enum Command {
     Open,
@@ -34,6 +34,7 @@ pub enum Command {
     Save,
     Load,
     Interim,
+    Join,
     Unknown,
     // No token is left.
     End,
@@ -99,13 +100,16 @@ pub fn load_form() -> [Part; PARTS]
 {
     let mut form = [NOTHING; PARTS];
     form[0] = Part(*b"N           ", Kind::Number(MOST_WORD));
-    form[1] = Part(*b"MONTHS      ", Kind::Number(MOST_WORD));
-    form[2] = Part(*b"LAST        ", Kind::Number(MOST_WORD));
-    form[3] = Part(*b"FIXED       ", Kind::Number(1));
-    form[4] = Part(*b"MONTH       ", Kind::Number(MOST_WORD));
-    form[5] = Part(*b"present     ", Kind::List(PLACES as u64, 1));
-    form[6] = Part(*b"charges     ", Kind::Signed(PLACES as u64));
-    form[7] = Part(*b"balances    ", Kind::Signed(MOST_DISTRIBUTORS as u64));
+    form[1] = Part(*b"LAST        ", Kind::Number(MOST_WORD));
+    form[2] = Part(*b"FIXED       ", Kind::Number(1));
+    form[3] = Part(*b"MONTH       ", Kind::Number(MOST_WORD));
+    form[4] = Part(*b"present     ", Kind::List(PLACES as u64, 1));
+    form[5] = Part(*b"charges     ", Kind::Signed(PLACES as u64));
+    form[6] = Part(*b"balances    ", Kind::Signed(MOST_DISTRIBUTORS as u64));
+    form[7] = Part(
+        *b"counts      ",
+        Kind::List(MOST_DISTRIBUTORS as u64, MOST_WORD),
+    );
     form
 }
 
@@ -120,6 +124,7 @@ pub fn form_of(command: Command) -> [Part; PARTS]
         Command::Save => empty_form(),
         Command::Load => load_form(),
         Command::Interim => fixing_form(true),
+        Command::Join => empty_form(),
         Command::Unknown => empty_form(),
         Command::End => empty_form(),
     }
@@ -136,6 +141,7 @@ fn command_rows() -> [CommandRow; COMMANDS]
         CommandRow(*b"save        ", Command::Save),
         CommandRow(*b"load        ", Command::Load),
         CommandRow(*b"interim     ", Command::Interim),
+        CommandRow(*b"join        ", Command::Join),
     ]
 }
 

@@ -11,6 +11,7 @@ use Rattle.numbers.specs.Bounded.{allBelow, listBelow, filledBelow}
 use Rattle.numbers.specs.Signed.{wordOf, signedOf}
 use Rattle.numbers.specs.Sizes.{mostDistributors, sectorCount, sectorPlaces}
 use Rattle.settlement.specs.Month.{moneyAt, moneyBelow}
+use Rattle.ledger.specs.Ledger.{countAt}
 use Rattle.ledger.specs.Sound.{presentIn, chargeIn}
 use Rattle.ledger.specs.declared.ledger.Ledger.{Ledger}
 use Rattle.journal.specs.Form.{Held, heldOf, heldIn, partsIn, FormHeld}
@@ -25,19 +26,23 @@ truthWord false = 0
 abbrev pub wordTruth : ℕ → Bool
 wordTruth word = not (eqb word 0)
 
--- where the balances stand after presences and charges, and how many words there are
+-- where the balances and the counts stand after presences and charges, and how many words there are
 abbrev pub balancesFrom : ℕ
 balancesFrom = sectorPlaces + sectorPlaces
 
-abbrev pub keptWords : ℕ
-keptWords = balancesFrom + mostDistributors
+abbrev pub countsFrom : ℕ
+countsFrom = balancesFrom + mostDistributors
 
--- word k of a ledger's: presences, charges and balances, one list after the other
+abbrev pub keptWords : ℕ
+keptWords = countsFrom + mostDistributors
+
+-- word k of a ledger's: presences, charges, balances and counts, one list after the other
 unfoldable pub ledgerWord : Ledger → ℕ → ℕ
 ledgerWord ledger k =
     cond (ltb k sectorPlaces) (truthWord (presentIn (ledger .force) k))
     (cond (ltb k balancesFrom) (wordOf (chargeIn (ledger .force) (k - sectorPlaces)))
-    (wordOf (moneyAt (ledger .balances) (k - balancesFrom))))
+    (cond (ltb k countsFrom) (wordOf (moneyAt (ledger .balances) (k - balancesFrom)))
+    (countAt (ledger .counts) (k - countsFrom))))
 
 unfoldable pub ledgerWords : Ledger → List ℕ
 ledgerWords ledger = listBelow keptWords (ledgerWord ledger)
@@ -46,30 +51,31 @@ ledgerWords ledger = listBelow keptWords (ledgerWord ledger)
 unfoldable pub wordOwner : ℕ → ℕ
 wordOwner k =
     cond (ltb k sectorPlaces) (k / sectorCount)
-    (cond (ltb k balancesFrom) ((k - sectorPlaces) / sectorCount) (k - balancesFrom))
+    (cond (ltb k balancesFrom) ((k - sectorPlaces) / sectorCount)
+    (cond (ltb k countsFrom) (k - balancesFrom) (k - countsFrom)))
 
 -- whether the words past n distributors are zero
 unfoldable pub zeroPast : ℕ → List ℕ → Bool
 zeroPast n words = allBelow keptWords (λ k. ltb (wordOwner k) n || eqb (getD words k 0) 0)
 
--- "where N is above 40 or a word past N is not zero, all 320, 320 and 40": for how many distributors words are kept
+-- "where N is above 40 or a word past N is not zero, all 320, 320, 40 and 40": for how many distributors words are kept
 unfoldable pub keptAmong : ℕ → List ℕ → ℕ
 keptAmong n words = cond (leb n mostDistributors && zeroPast n words) n mostDistributors
 
 unfoldable pub keptCount : Ledger → ℕ
 keptCount ledger = keptAmong (ledger .n) (ledgerWords ledger)
 
--- "N MONTHS LAST FIXED MONTH on the first line, then a line each for present, charges (the first 8N) and balances (the
+-- "N LAST FIXED MONTH on the first line, then a line each for present, charges (the first 8N), balances and counts (the
 -- first N)": the ledger's parts
 unfoldable pub ledgerParts : Ledger → List Held
 ledgerParts ledger =
     let count = keptCount ledger in
     let places = count * sectorCount in
     let words = ledgerWords ledger in
-    heldOf (ledger .n) [] ∷ heldOf (ledger .months) [] ∷ heldOf (ledger .last) []
-    ∷ heldOf (truthWord (ledger .fixed)) [] ∷ heldOf (ledger .month) []
-    ∷ heldOf places (take places words) ∷ heldOf places (take places (drop sectorPlaces words))
-    ∷ heldOf count (take count (drop balancesFrom words)) ∷ replicate 4 (heldOf 0 [])
+    heldOf (ledger .n) [] ∷ heldOf (ledger .last) [] ∷ heldOf (truthWord (ledger .fixed)) []
+    ∷ heldOf (ledger .month) [] ∷ heldOf places (take places words)
+    ∷ heldOf places (take places (drop sectorPlaces words)) ∷ heldOf count (take count (drop balancesFrom words))
+    ∷ heldOf count (take count (drop countsFrom words)) ∷ replicate 4 (heldOf 0 [])
 
 -- a ledger that was saved: its parts
 pub record Saved (ledger : Ledger) (saved : Parts) (words : List ℕ) : Type 0 where
@@ -79,19 +85,20 @@ pub record Saved (ledger : Ledger) (saved : Parts) (words : List ℕ) : Type 0 w
 -- "`load` sets the ledger as given, sound or not, parts not given being zero"
 unfoldable pub loadedLedger : List Held → Ledger
 loadedLedger parts =
-    let present = heldIn parts 5 .words in
-    let charges = heldIn parts 6 .words in
-    let balances = heldIn parts 7 .words in
+    let present = heldIn parts 4 .words in
+    let charges = heldIn parts 5 .words in
+    let balances = heldIn parts 6 .words in
+    let counts = heldIn parts 7 .words in
     record {
       n = heldIn parts 0 .number;
-      months = heldIn parts 1 .number;
-      last = heldIn parts 2 .number;
-      fixed = wordTruth (heldIn parts 3 .number);
-      month = heldIn parts 4 .number;
+      last = heldIn parts 1 .number;
+      fixed = wordTruth (heldIn parts 2 .number);
+      month = heldIn parts 3 .number;
       force =
           record {
             present = filledBelow sectorPlaces false (length present) (λ k. wordTruth (getD present k 0));
             charges = filledBelow sectorPlaces (pos 0) (length charges) (λ k. signedOf (getD charges k 0));
           };
       balances = moneyBelow (length balances) (λ i. signedOf (getD balances i 0));
+      counts = filledBelow mostDistributors 0 (length counts) (λ i. getD counts i 0);
     }

@@ -72,23 +72,39 @@ fn load_balances(words: &[u64]) -> [Pesos; MOST_DISTRIBUTORS]
     balances
 }
 
+// The counts.
+fn load_counts(words: &[u64]) -> [u64; MOST_DISTRIBUTORS]
+    requires { ⌜ length (now words) ≤ mostDistributors ⌝ }
+    ensures { λ r. ⌜ r ≡ filledBelow mostDistributors 0 (length (now (words .entry)))
+        (λ i. getD (now (words .entry)) i 0) ⌝ }
+{
+    let mut counts = [0u64; MOST_DISTRIBUTORS];
+    let mut i: usize = 0;
+    while i < words.len() {
+        counts[i] = words[i];
+        i += 1;
+    }
+    counts
+}
+
 // The ledger of the parts.
 pub fn load(parts: Parts, words: &[u64]) -> Ledger
     requires { ⌜ FormHeld loadForm parts (length (now words)) ⌝ }
     ensures { λ r. ⌜ r ≡ loadedLedger (partsIn parts (now (words .entry))) ⌝ }
 {
-    let present = load_present(words_of(parts, words, 5));
-    let charges = load_charges(words_of(parts, words, 6));
-    let balances = load_balances(words_of(parts, words, 7));
+    let present = load_present(words_of(parts, words, 4));
+    let charges = load_charges(words_of(parts, words, 5));
+    let balances = load_balances(words_of(parts, words, 6));
+    let counts = load_counts(words_of(parts, words, 7));
     let force = SectorCharges { present, charges };
     let numbers = parts.numbers;
     Ledger {
         n: numbers[0] as usize,
-        months: numbers[1],
-        last: numbers[2],
-        fixed: word_truth(numbers[3]),
-        month: numbers[4],
+        last: numbers[1],
+        fixed: word_truth(numbers[2]),
+        month: numbers[3],
         force,
         balances,
+        counts,
     }
 }

@@ -1,5 +1,5 @@
-// A ledger as the parts of its form: presences, charges and balances of its distributors, or all where a word past them
-// is not zero.
+// A ledger as the parts of its form: presences, charges, balances and counts of its distributors, or all where a word
+// past them is not zero.
 ghost use mathlib.Core.Path.{_≡_};
 ghost use Prim.Native.Nat.{_<_};
 ghost use lib.ListN.{length};
@@ -15,8 +15,11 @@ use numbers::sizes::SECTORS;
 // Where the balances stand, after presences and charges.
 const BALANCES: usize = PLACES + PLACES;
 
+// Where the counts stand, after the balances.
+const COUNTS: usize = BALANCES + MOST_DISTRIBUTORS;
+
 // How many words there are at most.
-pub const KEPT_WORDS: usize = BALANCES + MOST_DISTRIBUTORS;
+pub const KEPT_WORDS: usize = COUNTS + MOST_DISTRIBUTORS;
 
 // A truth as a word, 0 or 1.
 fn truth_word(truth: bool) -> u64
@@ -25,7 +28,7 @@ fn truth_word(truth: bool) -> u64
     if truth { 1 } else { 0 }
 }
 
-// Word k of a ledger's: presences, charges and balances, one list after the other.
+// Word k of a ledger's: presences, charges, balances and counts, one list after the other.
 fn ledger_word(ledger: Ledger, k: usize) -> u64
     requires { ⌜ k < keptWords ⌝ }
     ensures { λ r. ⌜ r ≡ ledgerWord ledger k ⌝ }
@@ -37,8 +40,11 @@ fn ledger_word(ledger: Ledger, k: usize) -> u64
     if k < BALANCES {
         return word_of(force.charges[k - PLACES]);
     }
-    let balance = ledger.balances[k - BALANCES];
-    word_of(balance.0)
+    if k < COUNTS {
+        let balance = ledger.balances[k - BALANCES];
+        return word_of(balance.0);
+    }
+    ledger.counts[k - COUNTS]
 }
 
 // All of them.
@@ -63,7 +69,10 @@ fn word_owner(k: usize) -> usize
     if k < BALANCES {
         return (k - PLACES) / SECTORS;
     }
-    k - BALANCES
+    if k < COUNTS {
+        return k - BALANCES;
+    }
+    k - COUNTS
 }
 
 // Whether the words past n distributors are zero.
@@ -102,12 +111,12 @@ pub fn save(ledger: Ledger, words: &mut [u64]) -> Parts
     let places = kept * SECTORS;
     let numbers = [
         ledger.n as u64,
-        ledger.months,
         ledger.last,
         truth_word(ledger.fixed),
         ledger.month,
         places as u64,
         places as u64,
+        kept as u64,
         kept as u64,
         0,
         0,
@@ -116,8 +125,9 @@ pub fn save(ledger: Ledger, words: &mut [u64]) -> Parts
     ];
     let charged = PLACES + places;
     let balanced = BALANCES + kept;
-    let starts = [0, 0, 0, 0, 0, 0, PLACES, BALANCES, 0, 0, 0, 0];
-    let ends = [0, 0, 0, 0, 0, places, charged, balanced, 0, 0, 0, 0];
+    let counted = COUNTS + kept;
+    let starts = [0, 0, 0, 0, 0, PLACES, BALANCES, COUNTS, 0, 0, 0, 0];
+    let ends = [0, 0, 0, 0, places, charged, balanced, counted, 0, 0, 0, 0];
     Parts {
         numbers,
         starts,

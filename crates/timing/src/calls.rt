@@ -9,8 +9,8 @@ use ledger::fix::FixingOutcome;
 use ledger::fix::fix;
 use ledger::fix::fixing_number;
 use ledger::ledger::Ledger;
+use ledger::ledger::Outcome;
 use ledger::open::open;
-use ledger::settle::SettlementOutcome;
 use ledger::settle::settle;
 use numbers::refusal::verdict_number;
 use numbers::sizes::MOST_DISTRIBUTORS;
@@ -39,7 +39,7 @@ fn settle_load<'a>(
     readings: &'a [u64; READINGS],
     losses: &'a [u64; LOSSES],
     transfers: &mut [i64; MOST_DISTRIBUTORS],
-) -> SettlementOutcome {
+) -> Outcome {
     settle(ledger, numbers.month, readings, losses, transfers)
 }
 

@@ -40,6 +40,14 @@ fn words() {
         b"a fixing without a power list",
         b"fix 0 1 1 0 series 0 lines 0 sectors 0 prices 0\nsave\n",
     );
+    report(
+        b"a ledger with a single count of months",
+        b"load 2 0 0 0 0 present 0 charges 0 balances 0\n",
+    );
+    report(
+        b"a ledger without counts",
+        b"load 2 0 0 0 present 0 charges 0 balances 0\nsave\n",
+    );
     report(b"a comment in a word", b"op#en\n");
 }
 
@@ -55,27 +63,35 @@ fn numbers() {
     report(b"a sign where none may stand", b"open -3\n");
     report(
         b"a sign without digits",
-        b"load 1 0 0 0 0 present 0 charges 1 - balances 0\n",
+        b"load 1 0 0 0 present 0 charges 1 - balances 0 counts 0\n",
     );
     report(
         b"the least signed number",
-        b"load 1 0 0 0 0 present 0 charges 1 -9223372036854775808 balances 0\nsave\n",
+        b"load 1 0 0 0 present 0 charges 1 -9223372036854775808 balances 0 counts 0\nsave\n",
     );
     report(
         b"one below it",
-        b"load 1 0 0 0 0 present 0 charges 1 -9223372036854775809 balances 0\n",
+        b"load 1 0 0 0 present 0 charges 1 -9223372036854775809 balances 0 counts 0\n",
     );
     report(
         b"one above the largest",
-        b"load 1 0 0 0 0 present 0 charges 0 balances 1 9223372036854775808\n",
+        b"load 1 0 0 0 present 0 charges 0 balances 1 9223372036854775808 counts 0\n",
+    );
+    report(
+        b"a count of the largest number",
+        b"load 1 0 0 0 present 0 charges 0 balances 0 counts 1 18446744073709551615\nsave\n",
+    );
+    report(
+        b"a count past 64 bits",
+        b"load 1 0 0 0 present 0 charges 0 balances 0 counts 1 18446744073709551616\n",
     );
     report(
         b"FIXED of 2",
-        b"load 1 0 0 2 0 present 0 charges 0 balances 0\n",
+        b"load 1 0 2 0 present 0 charges 0 balances 0 counts 0\n",
     );
     report(
         b"a presence of 2",
-        b"load 1 0 0 1 0 present 3 0 1 2 charges 0 balances 0\n",
+        b"load 1 0 1 0 present 3 0 1 2 charges 0 balances 0 counts 0\n",
     );
 }
 
@@ -99,15 +115,19 @@ fn lists() {
     );
     report(
         b"321 presences",
-        b"load 1 0 0 0 0 present 321 charges 0 balances 0\n",
+        b"load 1 0 0 0 present 321 charges 0 balances 0 counts 0\n",
     );
     report(
         b"321 charges",
-        b"load 1 0 0 0 0 present 0 charges 321 balances 0\n",
+        b"load 1 0 0 0 present 0 charges 321 balances 0 counts 0\n",
     );
     report(
         b"41 balances",
-        b"load 1 0 0 0 0 present 0 charges 0 balances 41\n",
+        b"load 1 0 0 0 present 0 charges 0 balances 41 counts 0\n",
+    );
+    report(
+        b"41 counts",
+        b"load 1 0 0 0 present 0 charges 0 balances 0 counts 41\n",
     );
     report(
         b"a list that ends too early",

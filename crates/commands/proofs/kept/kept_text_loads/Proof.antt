@@ -6,11 +6,12 @@ use native.Mathlib.Omega.{arith}
 use lib.IntN.{ℤ, pos}
 use lib.ListN.{length, getD}
 use mir.Syntax.{w64}
-use mir.Val.{SFits, Val}
+use mir.Val.{Fits, SFits, Val}
 use Rattle.numbers.specs.Sizes.{mostDistributors, sectorPlaces}
 use Rattle.numbers.specs.Units.{noMoney}
 use Rattle.numbers.proofs.units.Pesos as amount
 use Rattle.settlement.specs.Month.{moneyAt}
+use Rattle.ledger.specs.Ledger.{countAt}
 use Rattle.ledger.specs.Sound.{chargeIn}
 use Rattle.store.proofs.StoreLaws.{mapped}
 use denote.Array.{each}
@@ -52,22 +53,26 @@ module _ (c : tie.Start) where
   balance-fits i p =
       element-fits (λ x. x .0) noMoney (amount.the-field .row .Denot) (amount.the-field .row .own) _
       (c .args .ledger .balances) _
-      (c .good .0 .1 .1 .1 .1 .1 .1 .1 .1 .0 .1 .1) (λ x vs s. record { sfits = s .1 .1 .0 .1 }) i
+      (c .good .0 .1 .1 .1 .1 .1 .1 .1 .0 .1 .1) (λ x vs s. record { sfits = s .1 .1 .0 .1 }) i
       (omega (arith, all-balances))
+
+  count-fits : (i : ℕ) → Fits w64 (countAt (c .args .ledger .counts) i)
+  count-fits i = search needs
 
 returns : tie.Need-returns
 returns c =
     saved-text-loads (c .args .ledger)
     (record {
       n = search needs;
-      months = search needs;
       last = search needs;
       month = search needs;
       presences = search needs;
       charged = all-charges c;
       balanced = all-balances c;
+      counted = search needs;
       charges = charge-fits c;
       balances = balance-fits c;
+      counts = λ i p. count-fits c i .fits;
     })
 
 pub kept-text-loads-spec : {M : Type 1} → statement M

@@ -41,6 +41,7 @@ make-command-spec =
     (λ c κs. held (c .before .before .before .before .before .before) Settle (c .before .enum-told7 .given .1))
     (λ c. search needs)
     (λ c κs. held (c .before .before .before .before .before .before) Interim (c .before .enum-told8 .given .1))
+    (λ c. search needs) (λ c κs. search needs)
     returns
     returns-2
     (λ c. search needs)
@@ -54,4 +55,6 @@ make-command-spec =
     (λ c. search needs)
     (λ c. let r = c .before .before in rw (r .before .before .enum-told7 .given .1) (r .run-settle .ensures))
     (λ c. search needs)
-    (λ c. let r = c .before .before in rw (r .before .before .enum-told8 .given .1) (r .run-fixing2 .ensures)))
+    (λ c. let r = c .before .before in rw (r .before .before .enum-told8 .given .1) (r .run-fixing2 .ensures))
+    (λ c. search needs)
+    (λ c. let r = c .before .before in rw (r .before .before .enum-told9 .given .1) (r .run-join .ensures)))

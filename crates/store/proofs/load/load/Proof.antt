@@ -11,7 +11,8 @@ use Rattle.store.proofs.load.load.Tie as tie
 returns : tie.Need-returns
 unfolding loadedLedger partsIn listBelow
 returns c =
-    let b = c .before .before in
+    let n = c .before .before in
+    let b = n .before .before in
     let q = b .before .before in
     let p = q .before .before in
     rw (
@@ -21,6 +22,8 @@ returns c =
       q .before .words-of2 .ensures,
       b .load-balances .ensures,
       b .before .words-of3 .ensures,
+      n .load-counts .ensures,
+      n .before .words-of4 .ensures,
       c .word-truth .ensures,
     )
 
@@ -28,13 +31,15 @@ pub load-spec : {M : Type 1} → statement M
 load-spec =
     tie.close
     (tie.spec
-    (λ c κs. part-lies (c .before .pre) 5 (omega arith))
-    (λ c κs. rw (c .words-of .ensures) (part-few _ (c .before .before .pre) 5 (omega arith)))
-    (λ c κs. part-lies (c .before .before .before .pre) 6 (omega arith))
-    (λ c κs. rw (c .words-of2 .ensures) (part-few _ (c .before .before .before .before .pre) 6 (omega arith)))
-    (λ c κs. part-lies (c .before .before .before .before .before .pre) 7 (omega arith))
-    (λ c κs. rw (c .words-of3 .ensures) (part-few _ (c .before .before .before .before .before .before .pre) 7
+    (λ c κs. part-lies (c .before .pre) 4 (omega arith))
+    (λ c κs. rw (c .words-of .ensures) (part-few _ (c .before .before .pre) 4 (omega arith)))
+    (λ c κs. part-lies (c .before .before .before .pre) 5 (omega arith))
+    (λ c κs. rw (c .words-of2 .ensures) (part-few _ (c .before .before .before .before .pre) 5 (omega arith)))
+    (λ c κs. part-lies (c .before .before .before .before .before .pre) 6 (omega arith))
+    (λ c κs. rw (c .words-of3 .ensures) (part-few _ (c .before .before .before .before .before .before .pre) 6
     (omega arith)))
-    (λ c. search needs) (λ c. search needs) (λ c. search needs) (λ c. search needs) (λ c κs. search needs)
-    (λ c. search needs)
+    (λ c κs. part-lies (c .before .before .before .before .before .before .before .pre) 7 (omega arith))
+    (λ c κs. rw (c .words-of4 .ensures) (part-few _
+    (c .before .before .before .before .before .before .before .before .pre) 7 (omega arith)))
+    (λ c. search needs) (λ c. search needs) (λ c. search needs) (λ c κs. search needs) (λ c. search needs)
     returns)

@@ -22,10 +22,25 @@ returns-2 c =
 returns-3 : tie.Need-returns-3
 unfolding ledgerWord
 returns-3 c =
-    let e = c .before .before .before in
-    let k = e .before .before .before .args .k in
-    rw (le-ltb k 320 (omega (arith, e .before .if1 .left)), le-ltb k 640 (omega (arith, e .if2 .left)))
+    let t = c .before .before .before in
+    let k = t .before .before .before .before .args .k in
+    rw (
+      le-ltb k 320 (omega (arith, t .before .before .if1 .left)),
+      le-ltb k 640 (omega (arith, t .before .if2 .left)),
+      lt-ltb k 680 (t .if3 .taken),
+    )
     (rw (toZ-ofZ (sfits-of (c .before .struct-told .given .0 .1))) at (c .word-of2 .ensures))
+
+returns-4 : tie.Need-returns-4
+unfolding ledgerWord
+returns-4 c =
+    let e = c .before in
+    let k = e .before .before .before .before .args .k in
+    rw (
+      le-ltb k 320 (omega (arith, e .before .before .if1 .left)),
+      le-ltb k 640 (omega (arith, e .before .if2 .left)),
+      le-ltb k 680 (omega (arith, e .if3 .left)),
+    )
 
 pub ledger-word-spec : {M : Type 1} → statement M
 ledger-word-spec =
@@ -36,4 +51,6 @@ ledger-word-spec =
     (λ c. search needs) (λ c. search needs) (λ c κs. search needs)
     returns-2
     (λ c. search needs) (λ c. search needs) (λ c κs. search needs)
-    returns-3)
+    returns-3
+    (λ c. search needs) (λ c. search needs)
+    returns-4)

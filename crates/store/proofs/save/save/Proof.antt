@@ -28,15 +28,15 @@ module _ (k : tie.After-kept-among) where
   few = omega (arith, kept-is, kept-most ledger)
 
 -- the ledger's numbers are of 64 bits
-sized : (s : tie.Start) → (s .args .ledger .n < 2 ^ 64) × (s .args .ledger .months < 2 ^ 64) ×
-    (s .args .ledger .last < 2 ^ 64) × (s .args .ledger .month < 2 ^ 64)
-sized s = (search needs, search needs, search needs, search needs)
+sized : (s : tie.Start) → (s .args .ledger .n < 2 ^ 64) × (s .args .ledger .last < 2 ^ 64) ×
+    (s .args .ledger .month < 2 ^ 64)
+sized s = (search needs, search needs, search needs)
 
 returns : tie.Need-returns
 returns c =
     let k = c .before in
     let h = sized (s k) in
-    saved (ledger k) (h .0) (h .1) (h .2) (h .3) _ _ _ (w k .save-words .ensures) (kept-is k) (c .truth-word .ensures)
+    saved (ledger k) (h .0) (h .1) (h .2) _ _ _ (w k .save-words .ensures) (kept-is k) (c .truth-word .ensures)
 
 pub save-spec : {M : Type 1} → statement M
 save-spec =
@@ -45,6 +45,6 @@ save-spec =
     (λ c κs. search needs) (λ c κs. search needs)
     (λ c. record { fits = omega (arith, few c) })
     (λ c κs. search needs)
-    (λ c. omega (arith, few (c .before))) (λ c. omega (arith, few (c .before)))
+    (λ c. omega (arith, few (c .before))) (λ c. omega (arith, few (c .before))) (λ c. omega (arith, few (c .before)))
     (λ c. search needs)
     returns)
