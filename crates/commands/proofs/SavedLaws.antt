@@ -2,12 +2,12 @@
 use mathlib.Core.Path.{_≡_, refl, sym, _∙_, ap}
 use mathlib.Core.Bool.{true}
 use mathlib.Core.List.{List, [], _∷_, _++_, append-assoc}
-use Prim.Native.Nat.{ℕ, _*_, _-_, _^_, _<_, _≤_}
+use Prim.Native.Nat.{ℕ, _*_, _-_, _≤_}
 use native.Mathlib.Nat.{sub-zero}
 use native.Mathlib.Omega.{arith}
 use lib.ListN.{length, take, drop, length-take}
 use Rattle.numbers.specs.Bounded.{allBelow, listBelow}
-use Rattle.numbers.specs.Sizes.{mostDistributors, sectorCount, sectorPlaces}
+use Rattle.numbers.specs.Sizes.{mostDistributors, sectorCount}
 use Rattle.ledger.specs.Ledger.{emptyLedger}
 use Rattle.ledger.specs.declared.ledger.Ledger.{Ledger}
 use Rattle.store.specs.Store.{keptCount, ledgerParts, loadedLedger}
