@@ -3,6 +3,7 @@ ghost use mathlib.Core.Path.{_≡_};
 ghost use Rattle.ledger.specs.Ledger.{emptyLedger, OpeningPromise};
 use crate::ledger::Ledger;
 use crate::ledger::Outcome;
+use crate::ledger::refused;
 use fixing::sector::no_charges;
 use numbers::refusal::Refusal;
 use numbers::refusal::Verdict;
@@ -39,8 +40,5 @@ pub fn open(n: usize) -> Outcome
         };
     }
     let ledger = empty(0);
-    Outcome {
-        verdict: Verdict::Refused(Refusal::WrongCount),
-        ledger,
-    }
+    refused(Refusal::WrongCount, ledger)
 }

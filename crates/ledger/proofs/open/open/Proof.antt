@@ -11,12 +11,15 @@ returns c =
 
 returns-2 : tie.Need-returns-2
 returns-2 c =
-    opening-refused _ _ (sym (c .before .before .is-between .ensures) ∙ c .before .if1 .left) (c .empty2 .ensures)
+    let e = c .before .before in
+    rw (c .refused .ensures)
+    (opening-refused _ _ (sym (e .before .is-between .ensures) ∙ e .if1 .left) (c .before .empty2 .ensures))
 
 pub open-spec : {M : Type 1} → statement M
 open-spec = tie.close (tie.spec
     (λ c κs. search needs)
     (λ c κs. search needs)
     returns
+    (λ c κs. search needs)
     (λ c κs. search needs)
     returns-2)
