@@ -1,1 +1,2 @@
 pub mod ClassExamples
+pub mod JoinExample

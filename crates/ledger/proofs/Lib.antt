@@ -10,4 +10,3 @@ pub mod CallLaws
 pub mod JoinLaws
 pub mod KeptLaws
 pub mod Computed
-pub mod JoinExample

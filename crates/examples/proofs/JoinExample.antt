@@ -7,16 +7,15 @@ use mathlib.Core.List.{[], _∷_, _++_}
 use Prim.Native.Nat.{ℕ}
 use lib.ListN.{take, replicate}
 use lib.IntN.{pos, negsuc}
-use Rattle.numbers.specs.Bounded.{listBelow}
 use Rattle.numbers.specs.Refusal.{verdictAnswered}
-use Rattle.settlement.specs.Month.{moneyAt}
 use Rattle.settlement.specs.Example.{inSectorZero}
 use Rattle.ledger.specs.Fix.{FixingCall, fixingCallOf, fixingAnswer, fixingAnswered, fixingLedger}
-use Rattle.ledger.specs.Settle.{SettlementCall, settlementCallOf, settlementVerdict, settlementLedger}
+use Rattle.ledger.specs.Settle.{SettlementCall, settlementCallOf, settlementLedger}
 use Rattle.ledger.specs.Join.{joinVerdict, joinLedger}
 use Rattle.ledger.specs.Example.{plainLine, plainSeries, firstLedger}
 use Rattle.ledger.specs.declared.ledger.Ledger.{Ledger}
 use Rattle.ledger.proofs.Computed.{ledgerComputed}
+use Rattle.examples.specs.ClassExamples.{settledNumber, firstMoney}
 
 -- the ledger after the join, the fixing of month 2 for four, and the ledger with it
 abbrev joined : Ledger
@@ -35,20 +34,17 @@ covered = fixingLedger joined coveringCall
 abbrev nothingBilled : ℕ → SettlementCall
 nothingBilled month = settlementCallOf month (replicate 128 0) (replicate 8 10000) (replicate 4 (pos 0))
 
-abbrev settledNumber : Ledger → ℕ → ℕ
-settledNumber ledger month = verdictAnswered [] (settlementVerdict ledger (nothingBilled month)) .number
-
 -- the join is accepted; then month 3 is out of turn, and month 2 has no fixing, until one covers all
 example-joined : verdictAnswered [] (joinVerdict firstLedger) .number ≡ 0
 unfolding ledgerComputed
 example-joined = refl
 
-example-out-of-turn : settledNumber joined 3 ≡ 4
-unfolding ledgerComputed
+example-out-of-turn : settledNumber joined (nothingBilled 3) ≡ 4
+unfolding ledgerComputed settledNumber
 example-out-of-turn = refl
 
-example-no-fixing : settledNumber joined 2 ≡ 5
-unfolding ledgerComputed
+example-no-fixing : settledNumber joined (nothingBilled 2) ≡ 5
+unfolding ledgerComputed settledNumber
 example-no-fixing = refl
 
 example-covered : fixingAnswered (fixingAnswer joined coveringCall) .number ≡ 0
@@ -60,8 +56,8 @@ example-joined-counts : take 5 (joined .counts) ≡ 1 ∷ 1 ∷ 1 ∷ 0 ∷ 0 �
 unfolding ledgerComputed
 example-joined-counts = refl
 
-example-joined-balances : listBelow 5 (moneyAt (joined .balances)) ≡ negsuc 1301 ∷ pos 0 ∷ pos 0 ∷ pos 0 ∷ pos 0 ∷ []
-unfolding ledgerComputed
+example-joined-balances : firstMoney 5 (joined .balances) ≡ negsuc 1301 ∷ pos 0 ∷ pos 0 ∷ pos 0 ∷ pos 0 ∷ []
+unfolding ledgerComputed firstMoney
 example-joined-balances = refl
 
 example-raised-counts : take 5 (settlementLedger covered (nothingBilled 2) .counts) ≡ 2 ∷ 2 ∷ 2 ∷ 1 ∷ 0 ∷ []
