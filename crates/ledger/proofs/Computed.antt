@@ -14,8 +14,8 @@ use Rattle.ledger.specs.Settle.{settlementLengths, positionsOf, settleme
 use Rattle.ledger.specs.Settle.{settlementLedger, settlementList}
 use Rattle.ledger.specs.Join.{joinChecks, joinVerdict, joinLedger}
 use Rattle.ledger.specs.Sound.{placesHeld, placeTest, placeSound, forceSound, unsetZero, monthsSound}
-use Rattle.ledger.specs.Sound.{mostCountOf, countTest, countsSound, mostBalanceOf, balanceTest, balanceSound}
-use Rattle.ledger.specs.Sound.{eachBalance, balancesSound, sound}
+use Rattle.ledger.specs.Sound.{countTest, countsSound, balanceTest, balanceSound, eachBalance}
+use Rattle.ledger.specs.Sound.{balancesSound, sound}
 use Rattle.ledger.specs.Turn.{fixingTurn, settlementTurn}
 
 unfoldable pub ledgerComputed : ℕ
@@ -24,6 +24,6 @@ unfolding fixingComputed settlementComputed plainLine plainSeries plainNumbers p
     acceptedAnswer fixingAnswer fixingLedger priceWord priceList fixingList noBalances emptyLedger anySettled nextMonth
     billedUnder fixedLedger raisedCounts settledLedger joinedLedger openingChecks openingVerdict openingLedger
     settlementLengths positionsOf settlementChecks settlementVerdict settlementLedger settlementList joinChecks
-    joinVerdict joinLedger placesHeld placeTest placeSound forceSound unsetZero monthsSound mostCountOf countTest
-    countsSound mostBalanceOf balanceTest balanceSound eachBalance balancesSound sound fixingTurn settlementTurn
+    joinVerdict joinLedger placesHeld placeTest placeSound forceSound unsetZero monthsSound countTest countsSound
+    balanceTest balanceSound eachBalance balancesSound sound fixingTurn settlementTurn
 ledgerComputed = 0

@@ -7,37 +7,34 @@ use lib.Dec.{leb, ltb, eqb}
 use lib.IntN.{ℤ, pos, natAbs}
 use borrow.Author.Tests.{ltb-false, leb-true, eqb-true, not-false, le-ltb, le-leb, eq-eqb}
 use Rattle.numbers.specs.Signed.{withinSize}
-use Rattle.numbers.specs.Units.{between}
+use Rattle.numbers.specs.Units.{between, boundWhere}
 use Rattle.numbers.specs.Sizes.{mostDistributors, sectorPlaces}
 use Rattle.numbers.proofs.BoolLaws.{and-left, and-right, and-three, and-six, and-both, or-else, or-of}
 use Rattle.numbers.proofs.TestLaws.{all-at, all-of}
 use Rattle.numbers.proofs.SignedLaws.{within-none}
-use Rattle.numbers.proofs.UnitLaws.{between-low, between-high, between-yes}
+use Rattle.numbers.proofs.UnitLaws.{between-low, between-high, between-yes, bound-most}
 use Rattle.series.specs.Series.{lastMonth}
 use Rattle.settlement.specs.Amount.{mostCharge}
 use Rattle.settlement.specs.Settlement.{mostPosition, oneSign}
 use Rattle.settlement.specs.Month.{moneyAt}
 use Rattle.ledger.specs.Ledger.{countAt, anySettled}
 use Rattle.ledger.specs.Sound.{presentIn, chargeIn, placesHeld, placeTest, placeSound, forceSound, unsetZero}
-use Rattle.ledger.specs.Sound.{monthsSound, mostCountOf, countTest, countsSound, mostBalanceOf, balanceTest}
-use Rattle.ledger.specs.Sound.{balanceSound, eachBalance, balancesSound, sound}
+use Rattle.ledger.specs.Sound.{monthsSound, countTest, countsSound, balanceTest, balanceSound}
+use Rattle.ledger.specs.Sound.{eachBalance, balancesSound, sound}
 use Rattle.ledger.specs.declared.ledger.Ledger.{Ledger}
 
--- a bound that is 0 where a test fails
-pub pick-most : (b : Bool) (most : ℕ) → cond b most 0 ≤ most
-pick-most true most = omega arith
-pick-most false most = omega arith
-
+-- a size within a bound that is 0 where a test fails
 module _ (b : Bool) (most : ℕ) (z : ℤ) where
-  pub within-most : withinSize (cond b most 0) z ≡ true → natAbs z ≤ most
+  pub within-most : withinSize (boundWhere b most) z ≡ true → natAbs z ≤ most
   unfolding withinSize
-  within-most h = omega (arith, leb-true (natAbs z) (cond b most 0) h, pick-most b most)
+  within-most h = omega (arith, leb-true (natAbs z) (boundWhere b most) h, bound-most b most)
 
-  pub within-zero : b ≡ false → withinSize (cond b most 0) z ≡ true → z ≡ pos 0
+  pub within-zero : b ≡ false → withinSize (boundWhere b most) z ≡ true → z ≡ pos 0
+  unfolding boundWhere
   within-zero e h = within-none z (rw e at h)
 
-  pub within-of : natAbs z ≤ most → (b ≡ false → z ≡ pos 0) → withinSize (cond b most 0) z ≡ true
-  unfolding withinSize
+  pub within-of : natAbs z ≤ most → (b ≡ false → z ≡ pos 0) → withinSize (boundWhere b most) z ≡ true
+  unfolding withinSize boundWhere
   within-of small zero = go b refl
     where
       go : (c : Bool) → b ≡ c → leb (natAbs z) (cond c most 0) ≡ true
@@ -133,16 +130,16 @@ pub record CountFacts (n last count i : ℕ) : Type 0 where
 
 module _ (n last count i : ℕ) where
   pub count-facts : countTest n last count i ≡ true → CountFacts n last count i
-  unfolding countTest mostCountOf
+  unfolding countTest boundWhere
   count-facts h =
-      let most = leb-true count (cond (ltb i n) (last + 1) 0) h in
+      let most = leb-true count (boundWhere (ltb i n) (last + 1)) h in
       record {
         past = λ p. omega (arith, rw (le-ltb i n p) at most);
-        few = omega (arith, most, pick-most (ltb i n) (last + 1));
+        few = omega (arith, most, bound-most (ltb i n) (last + 1));
       }
 
   pub count-test : CountFacts n last count i → countTest n last count i ≡ true
-  unfolding countTest mostCountOf
+  unfolding countTest boundWhere
   count-test f = go (ltb i n) refl
     where
       go : (b : Bool) → ltb i n ≡ b → leb count (cond b (last + 1) 0) ≡ true
@@ -156,7 +153,7 @@ pub record BalanceFacts (count : ℕ) (balance : ℤ) : Type 0 where
 
 module _ (count : ℕ) (balance : ℤ) where
   pub balance-facts : balanceTest count balance ≡ true → BalanceFacts count balance
-  unfolding balanceTest mostBalanceOf
+  unfolding balanceTest
   balance-facts h =
       record {
         uncounted = λ e. within-zero (not (eqb count 0)) mostPosition balance (ap not (eq-eqb count 0 e)) h;
@@ -164,7 +161,7 @@ module _ (count : ℕ) (balance : ℤ) where
       }
 
   pub balance-test : BalanceFacts count balance → balanceTest count balance ≡ true
-  unfolding balanceTest mostBalanceOf
+  unfolding balanceTest
   balance-test f =
       within-of (not (eqb count 0)) mostPosition balance (f .within)
       (λ e. f .uncounted (eqb-true count 0 (not-false (eqb count 0) e)))

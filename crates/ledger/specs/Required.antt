@@ -2,11 +2,12 @@
 use mathlib.Core.Path.{_≡_}
 use mathlib.Core.Bool.{true}
 use mathlib.Core.List.{List}
-use Prim.Native.Nat.{ℕ, _^_, _≤_, _<_}
+use Prim.Native.Nat.{ℕ, _+_, _^_, _≤_, _<_}
 use lib.ListN.{getD}
 use Rattle.numbers.specs.Sizes.{mostDistributors}
 use Rattle.numbers.specs.Units.{noPrice}
 use Rattle.numbers.specs.declared.units.PesoPrice.{PesoPrice}
+use Rattle.series.specs.Series.{lastMonth}
 use Rattle.ledger.specs.Ledger.{countAt, anySettled, nextMonth}
 use Rattle.ledger.specs.Sound.{sound}
 use Rattle.ledger.specs.Turn.{settlementTurn}
@@ -18,10 +19,10 @@ pub record PricesSmall (averages finals : List PesoPrice) : Type 0 where
   pub average : (i : ℕ) → getD averages i noPrice .0 < 2 ^ 62
   pub final : (i : ℕ) → getD finals i noPrice .0 < 2 ^ 62
 
--- counts that may be raised: no month is above 1,199
+-- counts that may be raised: those of a sound ledger
 pub record CountsWithin (n : ℕ) (counts : List ℕ) : Type 0 where
   pub few : n ≤ mostDistributors
-  pub within : (i : ℕ) → i < n → countAt counts i ≤ 1200
+  pub within : (i : ℕ) → i < n → countAt counts i ≤ lastMonth + 1
 
 -- a settlement that passed its first four checks
 pub record Due (ledger : Ledger) (call : SettlementCall) : Type 0 where

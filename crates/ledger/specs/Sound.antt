@@ -8,7 +8,7 @@ use lib.ListN.{getD}
 use lib.IntN.{ℤ, pos}
 use Rattle.numbers.specs.Bounded.{allBelow}
 use Rattle.numbers.specs.Signed.{withinSize}
-use Rattle.numbers.specs.Units.{between}
+use Rattle.numbers.specs.Units.{between, boundWhere}
 use Rattle.numbers.specs.Sizes.{mostDistributors, sectorCount, sectorPlaces}
 use Rattle.numbers.specs.declared.units.Pesos.{Pesos}
 use Rattle.series.specs.Series.{lastMonth}
@@ -51,21 +51,15 @@ monthsSound settled last month =
     leb last lastMonth && leb month lastMonth && (not settled || leb month (last + 1))
 
 -- one count: "each is at most last+1"; zero past n
-unfoldable pub mostCountOf : Bool → ℕ → ℕ
-mostCountOf held last = cond held (last + 1) 0
-
 unfoldable pub countTest : ℕ → ℕ → ℕ → ℕ → Bool
-countTest n last count i = leb count (mostCountOf (ltb i n) last)
+countTest n last count i = leb count (boundWhere (ltb i n) (last + 1))
 
 unfoldable pub countsSound : ℕ → ℕ → List ℕ → Bool
 countsSound n last counts = allBelow mostDistributors (λ i. countTest n last (countAt counts i) i)
 
 -- one balance: "balances within ±10^15"; "a balance with count zero is zero", and so it is past n, where the counts are
-unfoldable pub mostBalanceOf : Bool → ℕ
-mostBalanceOf counted = cond counted mostPosition 0
-
 unfoldable pub balanceTest : ℕ → ℤ → Bool
-balanceTest count balance = withinSize (mostBalanceOf (not (eqb count 0))) balance
+balanceTest count balance = withinSize (boundWhere (not (eqb count 0)) mostPosition) balance
 
 unfoldable pub balanceSound : List ℕ → List Pesos → ℕ → Bool
 balanceSound counts balances i = balanceTest (countAt counts i) (moneyAt balances i)

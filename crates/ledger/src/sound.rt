@@ -7,7 +7,7 @@ ghost use Rattle.series.specs.Series.{lastMonth};
 ghost use Rattle.settlement.specs.Settlement.{oneSign};
 ghost use Rattle.settlement.specs.Month.{moneyAt};
 ghost use Rattle.ledger.specs.Sound.{placesHeld, placeTest, forceSound, unsetZero, monthsSound};
-ghost use Rattle.ledger.specs.Sound.{mostCountOf, countsSound, mostBalanceOf, balanceTest, eachBalance, sound};
+ghost use Rattle.ledger.specs.Sound.{countsSound, balanceTest, eachBalance, sound};
 use crate::ledger::Ledger;
 use fixing::sector::SectorCharges;
 use numbers::signed::within_size;
@@ -15,6 +15,7 @@ use numbers::sizes::MOST_DISTRIBUTORS;
 use numbers::sizes::PLACES;
 use numbers::sizes::SECTORS;
 use numbers::units::Pesos;
+use numbers::units::bound_where;
 use numbers::units::is_between;
 use series::table::LAST_MONTH;
 use settlement::month::MOST_POSITION;
@@ -74,22 +75,14 @@ fn months_sound(settled: bool, last: u64, month: u64) -> bool
     (month <= LAST_MONTH) & (!settled | (month <= last + 1))
 }
 
-// The greatest count: none past n.
-fn most_count(held: bool, last: u64) -> u64
-    requires { ⌜ last ≤ lastMonth ⌝ }
-    ensures { λ r. ⌜ r ≡ mostCountOf held last ⌝ }
-{
-    if held { last + 1 } else { 0 }
-}
-
-// Every count.
+// Every count: none past n.
 fn counts_sound(n: usize, last: u64, counts: [u64; MOST_DISTRIBUTORS]) -> bool
     requires { ⌜ last ≤ lastMonth ⌝ }
     ensures { λ r. ⌜ r ≡ countsSound n last counts ⌝ }
 {
     let mut i: usize = 0;
     while i < MOST_DISTRIBUTORS {
-        if counts[i] > most_count(i < n, last) {
+        if counts[i] > bound_where(i < n, last + 1) {
             return false;
         }
         i += 1;
@@ -97,18 +90,11 @@ fn counts_sound(n: usize, last: u64, counts: [u64; MOST_DISTRIBUTORS]) -> bool
     true
 }
 
-// The greatest size of a balance: none where no month is counted.
-fn most_balance(counted: bool) -> u64
-    ensures { λ r. ⌜ r ≡ mostBalanceOf counted ⌝ }
-{
-    if counted { MOST_POSITION } else { 0 }
-}
-
-// One balance.
+// One balance: none where no month is counted.
 fn balance_sound(count: u64, balance: Pesos) -> bool
     ensures { λ r. ⌜ r ≡ balanceTest count (balance .0) ⌝ }
 {
-    within_size(balance.0, most_balance(count != 0))
+    within_size(balance.0, bound_where(count != 0, MOST_POSITION))
 }
 
 // Every balance.

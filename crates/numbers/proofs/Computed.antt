@@ -5,9 +5,9 @@ use Rattle.numbers.specs.Bounded.{sumBelow, allBelow, anyBelow, firstBel
 use Rattle.numbers.specs.Checks.{verdictOf}
 use Rattle.numbers.specs.Rounding.{halfUp, halfAway, divideUp}
 use Rattle.numbers.specs.Signed.{isNegative, withinSize, signedSumBelow}
-use Rattle.numbers.specs.Units.{between, allBetween, checkedPrice}
+use Rattle.numbers.specs.Units.{between, allBetween, boundWhere, checkedPrice}
 
 unfoldable pub numbersComputed : ℕ
 unfolding sumBelow allBelow anyBelow firstBelow listBelow filledBelow verdictOf halfUp halfAway divideUp isNegative
-    withinSize signedSumBelow between allBetween checkedPrice
+    withinSize signedSumBelow between allBetween boundWhere checkedPrice
 numbersComputed = 0

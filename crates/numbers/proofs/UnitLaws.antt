@@ -1,6 +1,6 @@
 -- What the test of a range says, and the number and values of a checked price. Assumes nothing.
 use mathlib.Core.Path.{_≡_, refl, _∙_, ap}
-use mathlib.Core.Bool.{true}
+use mathlib.Core.Bool.{Bool, true, false}
 use mathlib.Core.List.{List, [], _∷_}
 use Prim.Native.Nat.{ℕ, _≤_, _<_}
 use native.Mathlib.Omega.{arith}
@@ -8,7 +8,8 @@ use native.Mathlib.Decide.{decLt}
 use lib.Dec.{leb}
 use lib.ListN.{length, getD, List·getD-eq-default}
 use borrow.Author.Tests.{leb-true, le-leb}
-use Rattle.numbers.specs.Units.{leastPrice, mostPrice, between, allBetween, checkedPrice, priceAnswered}
+use Rattle.numbers.specs.Units.{leastPrice, mostPrice, between, allBetween, boundWhere, checkedPrice}
+use Rattle.numbers.specs.Units.{priceAnswered}
 use Rattle.numbers.specs.Bounded.{allBelow}
 use Rattle.numbers.specs.Checks.{acceptedWhere}
 use Rattle.numbers.specs.Required.{ValuesWithin}
@@ -29,6 +30,12 @@ module _ (low high x : ℕ) where
   pub between-yes : low ≤ x → x ≤ high → between low high x ≡ true
   unfolding between
   between-yes p q = rw (le-leb low x p, le-leb x high q)
+
+-- a bound where a test holds is at most that bound
+pub bound-most : (held : Bool) (bound : ℕ) → boundWhere held bound ≤ bound
+unfolding boundWhere
+bound-most true bound = omega arith
+bound-most false bound = omega arith
 
 -- each word of a list, and none past its end
 pub values-within : (low high : ℕ) (words : List ℕ) → allBetween low high words ≡ true → ValuesWithin high words

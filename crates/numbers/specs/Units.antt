@@ -48,6 +48,10 @@ between low high x = leb low x && leb x high
 unfoldable pub allBetween : ℕ → ℕ → List ℕ → Bool
 allBetween low high words = allBelow (length words) (λ j. between low high (getD words j 0))
 
+-- the bound where a test holds; where it does not, nothing but 0 may stand
+unfoldable pub boundWhere : Bool → ℕ → ℕ
+boundWhere held bound = cond held bound 0
+
 -- the price of a word, where it keeps the bounds
 unfoldable pub checkedPrice : ℕ → CheckedPrice
 checkedPrice word = cond (between leastPrice mostPrice word) (Within (record { 0 = word })) OutsideBounds

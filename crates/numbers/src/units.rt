@@ -3,7 +3,8 @@
 ghost use mathlib.Core.Path.{_≡_};
 ghost use mathlib.Core.List.{[], _∷_};
 ghost use Rattle.numbers.specs.Checks.{Promised, acceptedWhere};
-ghost use Rattle.numbers.specs.Units.{leastPrice, mostPrice, between, allBetween, checkedPrice, priceAnswered};
+ghost use Rattle.numbers.specs.Units.{leastPrice, mostPrice, between, allBetween, boundWhere, checkedPrice};
+ghost use Rattle.numbers.specs.Units.{priceAnswered};
 
 // A peso price, in 0.001 $/kWh.
 pub struct PesoPrice(pub u64);
@@ -64,4 +65,11 @@ pub fn all_between(low: u64, high: u64, words: &[u64]) -> bool
         j += 1;
     }
     true
+}
+
+// The bound where a test holds; where it does not, nothing but 0 may stand.
+pub fn bound_where(held: bool, bound: u64) -> u64
+    ensures { λ r. ⌜ r ≡ boundWhere held bound ⌝ }
+{
+    if held { bound } else { 0 }
 }

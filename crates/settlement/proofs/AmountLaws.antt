@@ -11,15 +11,15 @@ use lib.IntN.{ℤ, pos, subℕ, natAbs, _+ℤ_, _*ℤ_}
 use borrow.Author.Tests.{leb-true}
 use Rattle.numbers.specs.Rounding.{halfUp}
 use Rattle.numbers.specs.Signed.{signedSumBelow}
-use Rattle.numbers.specs.Units.{between}
+use Rattle.numbers.specs.Units.{between, boundWhere}
 use Rattle.numbers.specs.Sizes.{sectorCount}
 use Rattle.numbers.proofs.BoolLaws.{and-left, and-right}
 use Rattle.numbers.proofs.TestLaws.{all-at}
-use Rattle.numbers.proofs.UnitLaws.{between-high}
+use Rattle.numbers.proofs.UnitLaws.{between-high, bound-most}
 use Rattle.numbers.proofs.RoundingLaws.{half-up-le, away-size, away-le}
 use Rattle.numbers.proofs.SignedLaws.{signed-sum-size, size-sub-le, size-add-le, size-mul-le}
 use Rattle.settlement.specs.Amount.{mostReading, readingOf, presentAt, chargeAt, highLossOf, lowLossOf}
-use Rattle.settlement.specs.Amount.{mostReadingOf, readingAllowed, sectorAllowed, readingsAllowed, lossesAllowed}
+use Rattle.settlement.specs.Amount.{readingAllowed, sectorAllowed, readingsAllowed, lossesAllowed}
 use Rattle.settlement.specs.Amount.{billingInRange, highNet, lowNet, energyWithLosses, collectedAmount}
 use Rattle.settlement.specs.Required.{BillingFacts}
 use Rattle.settlement.specs.Example.{inSectorZero, billedReadings, evenLosses}
@@ -36,9 +36,9 @@ pub high-first : (losses : List ℕ) (i : ℕ) → getD losses (i * 2 + 0) 0 ≡
 high-first losses i = ap (λ j. getD losses j 0) (omega arith)
 
 reading-most : (present : Bool) (reading : ℕ) → readingAllowed present reading ≡ true → reading ≤ mostReading
-unfolding readingAllowed mostReadingOf
-reading-most true reading h = leb-true reading mostReading h
-reading-most false reading h = omega (arith, leb-true reading 0 h)
+unfolding readingAllowed
+reading-most present reading h =
+    omega (arith, leb-true reading (boundWhere present mostReading) h, bound-most present mostReading)
 
 pub billing-facts : (n : ℕ) (present : List Bool) (readings losses : List ℕ) →
     billingInRange n present readings losses ≡ true → (i : ℕ) → i < n → BillingFacts readings losses i

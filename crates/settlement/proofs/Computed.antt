@@ -2,7 +2,7 @@
 -- a new definition that they compute with is named here. Assumes nothing.
 use Prim.Native.Nat.{ℕ}
 use Rattle.numbers.proofs.Computed.{numbersComputed}
-use Rattle.settlement.specs.Amount.{mostReadingOf, readingAllowed, sectorAllowed, readingsAllowed}
+use Rattle.settlement.specs.Amount.{readingAllowed, sectorAllowed, readingsAllowed}
 use Rattle.settlement.specs.Amount.{lossesAllowed, billingInRange, highNet, lowNet, energyWithLosses}
 use Rattle.settlement.specs.Amount.{collectedAmount}
 use Rattle.settlement.specs.Example.{inSectorZero, billed, billedReadings, evenLosses}
@@ -12,7 +12,7 @@ use Rattle.settlement.specs.Settlement.{transfer, newBalance, oneSign}
 use Rattle.settlement.specs.Share.{sideTotal, sharedBefore, share}
 
 unfoldable pub settlementComputed : ℕ
-unfolding numbersComputed mostReadingOf readingAllowed sectorAllowed readingsAllowed lossesAllowed billingInRange
+unfolding numbersComputed readingAllowed sectorAllowed readingsAllowed lossesAllowed billingInRange
     highNet lowNet energyWithLosses collectedAmount inSectorZero billed billedReadings evenLosses moneyBelow
     positionList settledMonth positionOf positionsInRange owing owed transferred paid received transfer newBalance
     oneSign sideTotal sharedBefore share

@@ -1,7 +1,7 @@
 -- Readings, loss factors and the collected amount of one month ("The ledger" of document 01): for each of n
 -- distributors 8 sectors, for each sector billed AT, injected AT, billed BT, injected BT in kWh (AT, BT: high and low
 -- voltage of distribution). Nothing here knows a balance. Assumes nothing.
-use mathlib.Core.Bool.{Bool, false, cond, _&&_}
+use mathlib.Core.Bool.{Bool, false, _&&_}
 use mathlib.Core.List.{List}
 use Prim.Native.Nat.{ℕ, _+_, _*_}
 use lib.Dec.{leb}
@@ -10,7 +10,7 @@ use lib.IntN.{ℤ, pos, subℕ, _+ℤ_, _*ℤ_}
 use Rattle.numbers.specs.Bounded.{allBelow}
 use Rattle.numbers.specs.Rounding.{halfAway}
 use Rattle.numbers.specs.Signed.{signedSumBelow}
-use Rattle.numbers.specs.Units.{between}
+use Rattle.numbers.specs.Units.{between, boundWhere}
 use Rattle.numbers.specs.Sizes.{sectorCount}
 
 abbrev pub mostReading : ℕ
@@ -34,12 +34,9 @@ highLossOf losses i = getD losses (i * 2) 0
 abbrev pub lowLossOf : List ℕ → ℕ → ℕ
 lowLossOf losses i = getD losses (i * 2 + 1) 0
 
--- "each at most 2,000,000,000, zero in an absent sector": there it is at most 0
-unfoldable pub mostReadingOf : Bool → ℕ
-mostReadingOf present = cond present mostReading 0
-
+-- "each at most 2,000,000,000, zero in an absent sector"
 unfoldable pub readingAllowed : Bool → ℕ → Bool
-readingAllowed present reading = leb reading (mostReadingOf present)
+readingAllowed present reading = leb reading (boundWhere present mostReading)
 
 -- the four readings of distributor i in sector s, and all of its readings
 unfoldable pub sectorAllowed : List Bool → List ℕ → ℕ → ℕ → Bool

@@ -3,7 +3,7 @@ ghost use mathlib.Core.Path.{_≡_};
 ghost use Prim.Native.Nat.{_+_, _*_, _<_, _≤_};
 ghost use lib.ListN.{length, getD};
 ghost use Rattle.numbers.specs.Sizes.{mostDistributors, sectorCount};
-ghost use Rattle.settlement.specs.Amount.{readingOf, mostReadingOf, sectorAllowed, readingsAllowed};
+ghost use Rattle.settlement.specs.Amount.{readingOf, sectorAllowed, readingsAllowed};
 ghost use Rattle.settlement.specs.Amount.{lossesAllowed};
 ghost use Rattle.settlement.specs.Amount.{billingInRange, energyWithLosses, collectedAmount};
 ghost use Rattle.settlement.specs.Required.{BillingLists, BilledReadings, Billed};
@@ -12,6 +12,7 @@ use numbers::signed::difference;
 use numbers::sizes::PLACES;
 use numbers::sizes::SECTORS;
 use numbers::units::Pesos;
+use numbers::units::bound_where;
 use numbers::units::is_between;
 
 // Readings of a sector, words of a distributor's readings, and the greatest reading in kWh.
@@ -30,19 +31,12 @@ fn reading(n: usize, readings: &[u64], i: usize, s: usize, k: usize) -> u64
     readings[i * DISTRIBUTOR_READINGS + s * KINDS + k]
 }
 
-// The greatest reading of a sector: none where it is absent.
-fn most_reading(present: bool) -> u64
-    ensures { λ r. ⌜ r ≡ mostReadingOf present ⌝ }
-{
-    if present { MOST_READING } else { 0 }
-}
-
 // The four readings of distributor i in sector s, as one flag.
 fn sector_allowed(n: usize, present: &[bool; PLACES], readings: &[u64], i: usize, s: usize) -> bool
     requires { ⌜ length (now readings) ≡ n * 32 ⌝ ∗ ⌜ n ≤ mostDistributors ⌝ ∗ ⌜ i < n ⌝ ∗ ⌜ s < sectorCount ⌝ }
     ensures { λ r. ⌜ r ≡ sectorAllowed (now (present .entry)) (now (readings .entry)) i s ⌝ }
 {
-    let most = most_reading(present[i * SECTORS + s]);
+    let most = bound_where(present[i * SECTORS + s], MOST_READING);
     (reading(n, readings, i, s, 0) <= most)
         & (reading(n, readings, i, s, 1) <= most)
         & (reading(n, readings, i, s, 2) <= most)

@@ -5,23 +5,22 @@ use lib.Dec.{eqb}
 use mir.Facts.{toZ-ofZ}
 use borrow.Author.Needs.{needs, sfits-of}
 use Rattle.settlement.specs.Settlement.{mostPosition}
-use Rattle.ledger.specs.Sound.{mostBalanceOf, balanceTest}
-use Rattle.ledger.proofs.SoundFacts.{pick-most}
+use Rattle.numbers.proofs.UnitLaws.{bound-most}
+use Rattle.ledger.specs.Sound.{balanceTest}
 use Rattle.ledger.proofs.sound.balance_sound.Statement.{statement}
 use Rattle.ledger.proofs.sound.balance_sound.Tie as tie
 
 within-size-requires : tie.Need-within-size-requires
-unfolding mostBalanceOf
 within-size-requires c κs =
     let a = c .before .before .args in
-    omega (arith, c .before .most-balance .ensures, pick-most (not (eqb (a .count) 0)) mostPosition)
+    omega (arith, c .before .bound-where .ensures, bound-most (not (eqb (a .count) 0)) mostPosition)
 
 returns : tie.Need-returns
 unfolding balanceTest
 returns c =
     rw (
       c .within-size .ensures,
-      c .before .before .most-balance .ensures,
+      c .before .before .bound-where .ensures,
       toZ-ofZ
           (sfits-of (c .before .struct-told .given .0 .1)),
     )

@@ -2,6 +2,7 @@
 use mathlib.Core.Path.{sym}
 use Prim.Native.Nat.{_-_}
 use native.Mathlib.Omega.{arith}
+use borrow.Author.Needs.{needs}
 use borrow.Author.Tests.{le-leb, lt-leb}
 use Rattle.numbers.specs.Sizes.{mostDistributors}
 use Rattle.numbers.proofs.TestLaws.{Tested, tested-none, tested-more, tested-fails, tested-all}
@@ -19,20 +20,17 @@ abbrev μ-loop : tie.MeasureT-loop
 loop-holds : tie.Need-loop-holds Inv-loop μ-loop
 loop-holds c = tested-none _ _
 
-most-count-requires : tie.Need-most-count-requires Inv-loop μ-loop
-most-count-requires c κs = c .before .before .pre
-
 returns : tie.Need-returns Inv-loop μ-loop
 unfolding countsSound countTest
 returns c =
     tested-fails (c .before .before .before .loop .inv) (omega arith)
-    (rw (sym (c .before .most-count .ensures)) (lt-leb _ _ (c .if1 .taken)))
+    (rw (sym (c .before .bound-where .ensures)) (lt-leb _ _ (c .if1 .taken)))
 
 loop-again : tie.Need-loop-again Inv-loop μ-loop
 unfolding countTest
 loop-again c =
     tested-more (c .before .before .before .loop .inv) (omega arith)
-    (rw (sym (c .before .most-count .ensures)) (le-leb _ _ (c .if1 .left)))
+    (rw (sym (c .before .bound-where .ensures)) (le-leb _ _ (c .if1 .left)))
 
 returns-2 : tie.Need-returns-2 Inv-loop μ-loop
 unfolding countsSound
@@ -45,8 +43,7 @@ counts-sound-spec =
     Inv-loop
     μ-loop
     loop-holds
-    (λ c. omega arith) (λ c. omega arith)
-    most-count-requires
+    (λ c. omega arith) (λ c. omega arith) (λ c. omega arith) (λ c κs. search needs)
     returns
     (λ c. omega arith) (λ c. omega arith)
     loop-again

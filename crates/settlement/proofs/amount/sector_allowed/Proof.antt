@@ -10,7 +10,7 @@ returns : tie.Need-returns
 unfolding sectorAllowed allBelow readingAllowed
 returns c =
     rw (
-      c .before .before .before .before .most-reading .ensures,
+      c .before .before .before .before .bound-where .ensures,
       c .before .before .before .reading .ensures,
       c .before .before .reading2 .ensures,
       c .before .reading3 .ensures,
