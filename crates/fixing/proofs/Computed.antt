@@ -12,8 +12,8 @@ use Rattle.fixing.specs.Limit.{aboveLimit, cappedAfter, joinsAfter, anyJ
 use Rattle.fixing.specs.Limit.{rounds, capped, surcharge, finalPrice, charge, collected, residue}
 use Rattle.fixing.specs.Power.{powerAverages}
 use Rattle.fixing.specs.Prices.{finalPrices, chargeList, fixedPrices}
-use Rattle.fixing.specs.Sector.{sectorPresent, hasSector, sectorsAllowed, sectorCharge, chargedPlaces}
-use Rattle.fixing.specs.Sector.{sectorCharges, noCharges}
+use Rattle.fixing.specs.Sector.{sectorPresent, hasSector, sectorsAllowed, sectorCharge, filledPlaces}
+use Rattle.fixing.specs.Sector.{placeCharge, sectorCharges, noCharges}
 
 unfoldable pub fixingComputed : ℕ
 unfolding supplyComputed ownPart ownSum suppliedEnergy linesAmount averagePrice hasLine everyoneSupplied energyList
@@ -22,5 +22,5 @@ unfolding supplyComputed ownPart ownSum suppliedEnergy linesAmount averagePrice 
     sumOutside roundSurcharge aboveLimit
     cappedAfter joinsAfter anyJoinsAfter anyAbove roundsBeforeLast rounds capped surcharge finalPrice charge
     collected residue finalPrices chargeList fixedPrices sectorPresent hasSector sectorsAllowed sectorCharge
-    chargedPlaces sectorCharges noCharges
+    filledPlaces placeCharge sectorCharges noCharges
 fixingComputed = 0

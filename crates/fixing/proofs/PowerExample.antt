@@ -19,7 +19,7 @@ powerLine offer purchase energy base value =
 
 abbrev powerInput : FixingInput
 powerInput =
-    inputOf (record { month = 1; dollar = 85000; «reference_factor» = 10000; «first_month» = 0 })
+    inputOf (record { month = 1; day = 1; dollar = 85000; «reference_factor» = 10000; «first_month» = 0 })
     (replicate 144 0 ++ (10500 ∷ replicate 95 0))
     (powerLine 10000 11000 1 9001 10000 ++ powerLine 8000 10000 2 7777 9999) (10000 ∷ replicate 7 0) []
 

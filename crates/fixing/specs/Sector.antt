@@ -1,7 +1,7 @@
 -- Sector factors of document 01: "8n words, 0 (sector absent) or 1 to 50,000 ten-thousandths; each distributor has a
 -- sector". Assumes nothing.
 use mathlib.Core.Bool.{Bool, false, not, _&&_}
-use mathlib.Core.List.{List, []}
+use mathlib.Core.List.{List}
 use Prim.Native.Nat.{ℕ, _+_, _*_, _/_}
 use lib.Dec.{leb, eqb}
 use lib.ListN.{getD}
@@ -35,19 +35,23 @@ sectorsAllowed n sectors =
 unfoldable pub sectorCharge : ℤ → ℕ → ℤ
 sectorCharge charge factor = halfAway (charge *ℤ pos factor) 10000
 
--- presence and charge of the first k places, the charge of each distributor being given; the places past them are
--- empty
-unfoldable pub chargedPlaces : ℕ → (ℕ → ℤ) → List ℕ → SectorCharges
-chargedPlaces k charge sectors =
+-- presence and charge of the first k places; the places past them are empty
+unfoldable pub filledPlaces : ℕ → (ℕ → Bool) → (ℕ → ℤ) → SectorCharges
+filledPlaces k present charge =
     record {
-      present = filledBelow sectorPlaces false k (sectorPresent sectors);
-      charges = filledBelow sectorPlaces (pos 0) k (λ p. sectorCharge (charge (p / sectorCount)) (factorAt sectors p));
+      present = filledBelow sectorPlaces false k present;
+      charges = filledBelow sectorPlaces (pos 0) k charge;
     }
 
--- of the sectors of n distributors
+-- the charge of the sector at place k, the charge of each distributor being given
+unfoldable pub placeCharge : (ℕ → ℤ) → List ℕ → ℕ → ℤ
+placeCharge charge sectors k = sectorCharge (charge (k / sectorCount)) (factorAt sectors k)
+
+-- those of the sectors of n distributors
 unfoldable pub sectorCharges : ℕ → (ℕ → ℤ) → List ℕ → SectorCharges
-sectorCharges n charge sectors = chargedPlaces (n * sectorCount) charge sectors
+sectorCharges n charge sectors =
+    filledPlaces (n * sectorCount) (sectorPresent sectors) (placeCharge charge sectors)
 
 -- nothing in force
 unfoldable pub noCharges : SectorCharges
-noCharges = chargedPlaces 0 (λ i. pos 0) []
+noCharges = filledPlaces 0 (λ k. false) (λ k. pos 0)

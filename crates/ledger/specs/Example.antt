@@ -24,7 +24,7 @@ unfoldable pub plainSeries : List ℕ
 plainSeries = replicate 144 0 ++ (10000 ∷ replicate 95 0)
 
 unfoldable pub plainNumbers : FixingNumbers
-plainNumbers = record { month = 1; dollar = 100000; «reference_factor» = 10000; «first_month» = 0 }
+plainNumbers = record { month = 1; day = 1; dollar = 100000; «reference_factor» = 10000; «first_month» = 0 }
 
 -- a fixing in month 1 of n distributors, of plain lines at D 100,000 and F 10,000: their references are their base
 -- prices

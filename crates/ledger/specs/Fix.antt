@@ -10,7 +10,7 @@ use lib.IntN.{ℤ, pos}
 use Rattle.numbers.specs.Bounded.{listBelow}
 use Rattle.numbers.specs.Refusal.{Answered, accepted, refusalAnswered, isPassed}
 use Rattle.numbers.specs.Checks.{Check, check, verdictOf, answeredBy}
-use Rattle.numbers.specs.declared.refusal.Refusal.the-variants.{Unsound, WrongLength, OutOfTurn}
+use Rattle.numbers.specs.declared.refusal.Refusal.the-variants.{Unsound, WrongLength, OutOfTurn, WrongDay}
 use Rattle.numbers.specs.declared.refusal.Verdict.{Verdict}
 use Rattle.numbers.specs.declared.refusal.Verdict.the-variants.{Passed, Refused}
 use Rattle.numbers.specs.Units.{between, noPrice, noPower}
@@ -24,7 +24,8 @@ use Rattle.fixing.specs.Prices.{returnedValues}
 use Rattle.fixing.specs.Fixing.{fixingOf}
 use Rattle.fixing.specs.declared.fix.Fixing.{Fixing}
 use Rattle.fixing.specs.declared.prices.FixedPrices.{FixedPrices}
-use Rattle.ledger.specs.Ledger.{anySettled, nextMonth, fixedLedger}
+use Rattle.ledger.specs.Calendar.{dayAllowed}
+use Rattle.ledger.specs.Ledger.{anySettled, nextMonth, olderStands, fixedLedger}
 use Rattle.ledger.specs.Sound.{sound}
 use Rattle.ledger.specs.Turn.{fixingTurn}
 use Rattle.ledger.specs.declared.ledger.Ledger.{Ledger}
@@ -73,12 +74,15 @@ callLengths n call =
     && inForceLength (call .isInterim) (call .input .lines) (call .input .inForce)
 
 -- the checks of a fixing in their order: unsound ledger, a lent list of wrong length or line count, month above 1,199
--- or out of turn, then those of its input
+-- or out of turn, "16 when the day isn't in its month, or is above 1 where no older fixing for these distributors would
+-- stand beside the new one, checked after 5", then those of its input
 unfoldable pub fixingChecks : Ledger → FixingCall → List Check
 fixingChecks ledger call =
+    let numbers = call .input .numbers in
     check 2 (sound ledger) Unsound
     ∷ check 3 (callLengths (ledger .n) call) WrongLength
-    ∷ check 4 (fixingTurn (anySettled ledger) (nextMonth ledger) (call .input .numbers .month)) OutOfTurn
+    ∷ check 4 (fixingTurn (anySettled ledger) (nextMonth ledger) (numbers .month)) OutOfTurn
+    ∷ check 16 (dayAllowed (numbers .month) (numbers .day) (olderStands ledger (numbers .month))) WrongDay
     ∷ inputChecks (ledger .n) (call .input)
 
 unfoldable pub fixingVerdict : Ledger → FixingCall → Verdict
@@ -110,8 +114,10 @@ roundsBelow n (answer.Refused refusal) = true
 -- the ledger handed back: a refused one unchanged
 unfoldable pub fixingLedger : Ledger → FixingCall → Ledger
 fixingLedger ledger call =
-    let booked = fixedLedger ledger (call .input .numbers .month) (fixingOf (ledger .n) (call .input) .sectors) in
-    cond (isPassed (fixingVerdict ledger call)) booked ledger
+    let numbers = call .input .numbers in
+    cond (isPassed (fixingVerdict ledger call))
+    (fixedLedger ledger (numbers .month) (numbers .day) (fixingOf (ledger .n) (call .input) .sectors))
+    ledger
 
 -- "Fixing writes average, final, charge, distributor by distributor": the three words of one, and word k of the list
 abbrev pub pricePart : ℕ → ℕ → ℤ → ℕ → ℤ

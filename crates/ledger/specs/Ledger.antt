@@ -1,13 +1,13 @@
 -- The ledger of document 01 ("Taken and handed back by value"), with a count of settled months for each distributor
--- (W-205 of document 02): how it opens, and how an accepted fixing, a settled month and a join change it. Assumes
--- nothing.
+-- (W-205 of document 02) and an older fixing beside the one in force (W-206): how it opens, and how an accepted fixing, a
+-- settled month and a join change it. Assumes nothing.
 use mathlib.Core.Path.{_≡_}
-use mathlib.Core.Bool.{Bool, true, false, cond, not}
+use mathlib.Core.Bool.{Bool, true, false, cond, not, _&&_, _||_}
 use mathlib.Core.List.{List, [], _∷_}
 use Prim.Native.Nat.{ℕ, _+_}
-use lib.Dec.{eqb}
+use lib.Dec.{ltb, eqb}
 use lib.ListN.{getD, set, replicate}
-use lib.IntN.{pos}
+use lib.IntN.{ℤ, pos}
 use Rattle.numbers.specs.Bounded.{anyBelow, filledBelow}
 use Rattle.numbers.specs.Refusal.{isPassed}
 use Rattle.numbers.specs.Checks.{Check, check, verdictOf, Judged}
@@ -20,6 +20,13 @@ use Rattle.fixing.specs.Sector.{noCharges}
 use Rattle.fixing.specs.declared.sector.SectorCharges.{SectorCharges}
 use Rattle.settlement.specs.Month.{moneyBelow}
 use Rattle.ledger.specs.declared.ledger.Ledger.{Ledger}
+
+-- presence and charge at place k of a fixing's
+abbrev pub presentIn : SectorCharges → ℕ → Bool
+presentIn force k = getD (force .present) k false
+
+abbrev pub chargeIn : SectorCharges → ℕ → ℤ
+chargeIn force k = getD (force .charges) k (pos 0)
 
 -- no balances, and no months counted
 unfoldable pub noBalances : List Pesos
@@ -36,7 +43,10 @@ emptyLedger n =
       last = 0;
       fixed = false;
       month = 0;
+      day = 0;
       force = noCharges;
+      «has_older» = false;
+      older = noCharges;
       balances = noBalances;
       counts = noCounts;
     }
@@ -52,19 +62,35 @@ anySettled ledger = anyBelow mostDistributors (λ i. not (eqb (countAt (ledger .
 unfoldable pub nextMonth : Ledger → ℕ
 nextMonth ledger = ledger .last + 1
 
--- the presences and charges that a month is billed under: those in force
-unfoldable pub billedUnder : Ledger → SectorCharges
-billedUnder ledger = ledger .force
+-- "A fixing for a later month makes the one in force the older"
+unfoldable pub makesOlder : Ledger → ℕ → Bool
+makesOlder ledger month = ledger .fixed && ltb (ledger .month) month
 
--- "The latest fixing is in force": its month, presences and charges replace those before
-unfoldable pub fixedLedger : Ledger → ℕ → SectorCharges → Ledger
-fixedLedger ledger month force =
+-- "one for the same month replaces only that in force", and so an older one stays
+unfoldable pub staysOlder : Ledger → ℕ → Bool
+staysOlder ledger month = ledger .«has_older» && eqb month (ledger .month)
+
+-- whether an older fixing "would stand beside the new one" for a month, and its presences and charges; "one for an
+-- earlier month drops both"
+unfoldable pub olderStands : Ledger → ℕ → Bool
+olderStands ledger month = makesOlder ledger month || staysOlder ledger month
+
+unfoldable pub olderBeside : Ledger → ℕ → SectorCharges
+olderBeside ledger month =
+    cond (makesOlder ledger month) (ledger .force) (cond (staysOlder ledger month) (ledger .older) noCharges)
+
+-- "The latest fixing is in force": its month, first day, presences and charges replace those before
+unfoldable pub fixedLedger : Ledger → ℕ → ℕ → SectorCharges → Ledger
+fixedLedger ledger month day force =
     record {
       n = ledger .n;
       last = ledger .last;
       fixed = true;
       month = month;
+      day = day;
       force = force;
+      «has_older» = olderStands ledger month;
+      older = olderBeside ledger month;
       balances = ledger .balances;
       counts = ledger .counts;
     }
@@ -81,12 +107,16 @@ settledLedger ledger month balances =
       last = month;
       fixed = ledger .fixed;
       month = ledger .month;
+      day = ledger .day;
       force = ledger .force;
+      «has_older» = ledger .«has_older»;
+      older = ledger .older;
       balances = balances;
       counts = raisedCounts (ledger .n) (ledger .counts);
     }
 
--- "A join call adds one at the end with balance 0, and no fixing is then in force"; its count is "zero on joining"
+-- "A join call adds one at the end with balance 0, and no fixing is then in force", nor an older one kept; its count is
+-- "zero on joining"
 unfoldable pub joinedLedger : Ledger → Ledger
 joinedLedger ledger =
     record {
@@ -94,7 +124,10 @@ joinedLedger ledger =
       last = ledger .last;
       fixed = false;
       month = 0;
+      day = 0;
       force = noCharges;
+      «has_older» = false;
+      older = noCharges;
       balances = set (ledger .balances) (ledger .n) noMoney;
       counts = set (ledger .counts) (ledger .n) 0;
     }

@@ -1,4 +1,6 @@
+pub mod Calendar
 pub mod Ledger
+pub mod Billed
 pub mod Sound
 pub mod Turn
 pub mod Fix

@@ -2,13 +2,16 @@
 use mathlib.Core.Path.{_≡_}
 use mathlib.Core.Bool.{true}
 use mathlib.Core.List.{List}
-use Prim.Native.Nat.{ℕ, _+_, _^_, _≤_, _<_}
+use Prim.Native.Nat.{ℕ, _+_, _*_, _^_, _≤_, _<_}
 use lib.ListN.{getD}
-use Rattle.numbers.specs.Sizes.{mostDistributors}
+use lib.IntN.{natAbs}
+use Rattle.numbers.specs.Sizes.{mostDistributors, sectorCount}
 use Rattle.numbers.specs.Units.{noPrice}
 use Rattle.numbers.specs.declared.units.PesoPrice.{PesoPrice}
 use Rattle.series.specs.Series.{lastMonth}
-use Rattle.ledger.specs.Ledger.{countAt, anySettled, nextMonth}
+use Rattle.fixing.specs.declared.sector.SectorCharges.{SectorCharges}
+use Rattle.settlement.specs.Amount.{mostCharge}
+use Rattle.ledger.specs.Ledger.{chargeIn, countAt, anySettled, nextMonth}
 use Rattle.ledger.specs.Sound.{sound}
 use Rattle.ledger.specs.Turn.{settlementTurn}
 use Rattle.ledger.specs.Settle.{SettlementCall, billingLengths}
@@ -18,6 +21,17 @@ use Rattle.ledger.specs.declared.ledger.Ledger.{Ledger}
 pub record PricesSmall (averages finals : List PesoPrice) : Type 0 where
   pub average : (i : ℕ) → getD averages i noPrice .0 < 2 ^ 62
   pub final : (i : ℕ) → getD finals i noPrice .0 < 2 ^ 62
+
+-- charges of n distributors to be divided by days: those of a sound ledger
+abbrev pub mostDays : ℕ
+mostDays = 31
+
+pub record Divided (n days before : ℕ) (old new : SectorCharges) : Type 0 where
+  pub few : n ≤ mostDistributors
+  pub short : days ≤ mostDays
+  pub some : before < days
+  pub oldWithin : (k : ℕ) → k < n * sectorCount → natAbs (chargeIn old k) ≤ mostCharge
+  pub newWithin : (k : ℕ) → k < n * sectorCount → natAbs (chargeIn new k) ≤ mostCharge
 
 -- counts that may be raised: those of a sound ledger
 pub record CountsWithin (n : ℕ) (counts : List ℕ) : Type 0 where

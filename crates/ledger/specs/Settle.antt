@@ -17,7 +17,8 @@ use Rattle.numbers.specs.declared.units.Pesos.{Pesos}
 use Rattle.settlement.specs.Amount.{billingInRange}
 use Rattle.settlement.specs.Settlement.{positionsInRange}
 use Rattle.settlement.specs.Month.{moneyAt, positionList, settledMonth}
-use Rattle.ledger.specs.Ledger.{anySettled, nextMonth, billedUnder, settledLedger}
+use Rattle.ledger.specs.Ledger.{anySettled, nextMonth, settledLedger}
+use Rattle.ledger.specs.Billed.{billedUnder}
 use Rattle.ledger.specs.Sound.{sound}
 use Rattle.ledger.specs.Turn.{settlementTurn}
 use Rattle.ledger.specs.declared.ledger.Ledger.{Ledger}
@@ -47,7 +48,8 @@ billingLengths n call = settlementLengths n (call .readings) (call .losses) (cal
 -- the positions of the month, from the ledger's balances and the charges that it is billed under
 unfoldable pub positionsOf : Ledger → SettlementCall → List Pesos
 positionsOf ledger call =
-    positionList (ledger .n) (ledger .balances) (billedUnder ledger .charges) (call .readings) (call .losses)
+    positionList (ledger .n) (ledger .balances) (billedUnder ledger (call .month) .charges) (call .readings)
+    (call .losses)
 
 -- the checks of a settlement in their order: unsound ledger, a lent list of wrong length, month above 1,199 or out of
 -- turn, no fixing, reading or loss factor, position beyond ±10^15
@@ -58,7 +60,8 @@ settlementChecks ledger call =
     ∷ check 4
     (settlementTurn (anySettled ledger) (nextMonth ledger) (ledger .fixed) (ledger .month) (call .month)) OutOfTurn
     ∷ check 5 (ledger .fixed) NoFixing
-    ∷ check 12 (billingInRange (ledger .n) (billedUnder ledger .present) (call .readings) (call .losses)) WrongReading
+    ∷ check 12 (billingInRange (ledger .n) (billedUnder ledger (call .month) .present) (call .readings) (call .losses))
+    WrongReading
     ∷ check 13 (positionsInRange (ledger .n) (moneyAt (positionsOf ledger call))) PositionBeyond
     ∷ []
 

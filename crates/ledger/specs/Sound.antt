@@ -1,11 +1,10 @@
--- "Sound" (a term of document 01, "The ledger", as W-205 of document 02 restates it): one test, clause by clause, of
--- every bit pattern a ledger may have. Nothing else is soundness. Assumes nothing.
-use mathlib.Core.Bool.{Bool, false, cond, not, _&&_, _||_}
+-- "Sound" (a term of document 01, "The ledger", as W-205 and W-206 of document 02 restate it): one test, clause by
+-- clause, of every bit pattern a ledger may have. Nothing else is soundness. Assumes nothing.
+use mathlib.Core.Bool.{Bool, cond, not, _&&_, _||_}
 use mathlib.Core.List.{List}
 use Prim.Native.Nat.{ℕ, _+_, _*_}
 use lib.Dec.{leb, ltb, eqb}
-use lib.ListN.{getD}
-use lib.IntN.{ℤ, pos}
+use lib.IntN.{ℤ}
 use Rattle.numbers.specs.Bounded.{allBelow}
 use Rattle.numbers.specs.Signed.{withinSize}
 use Rattle.numbers.specs.Units.{between, boundWhere}
@@ -16,19 +15,14 @@ use Rattle.fixing.specs.declared.sector.SectorCharges.{SectorCharges}
 use Rattle.settlement.specs.Amount.{mostCharge}
 use Rattle.settlement.specs.Settlement.{mostPosition, oneSign}
 use Rattle.settlement.specs.Month.{moneyAt}
-use Rattle.ledger.specs.Ledger.{countAt, anySettled}
+use Rattle.ledger.specs.Calendar.{dayAllowed}
+use Rattle.ledger.specs.Ledger.{presentIn, chargeIn, countAt, anySettled}
 use Rattle.ledger.specs.declared.ledger.Ledger.{Ledger}
 
-abbrev pub presentIn : SectorCharges → ℕ → Bool
-presentIn force k = getD (force .present) k false
-
-abbrev pub chargeIn : SectorCharges → ℕ → ℤ
-chargeIn force k = getD (force .charges) k (pos 0)
-
 -- the places where a sector may be present: "entries past n .. and everything unset are zero", so that without a fixing
--- there are none
+-- kept there are none
 unfoldable pub placesHeld : ℕ → Bool → ℕ
-placesHeld n fixed = cond fixed (n * sectorCount) 0
+placesHeld n kept = cond kept (n * sectorCount) 0
 
 -- one sector's place, a sector being present at the first `held` alone: "charges within ±10,500,000", "charges of
 -- absent sectors .. are zero"
@@ -40,6 +34,22 @@ placeSound held force k = placeTest held (presentIn force k) (chargeIn force k) 
 
 unfoldable pub forceSound : ℕ → SectorCharges → Bool
 forceSound held force = allBelow sectorPlaces (placeSound held force)
+
+-- an older fixing is "sound by the same rules and only beside one in force"
+unfoldable pub olderSound : ℕ → Bool → Bool → SectorCharges → Bool
+olderSound n fixed kept older = forceSound (placesHeld n kept) older && (not kept || fixed)
+
+-- unsound is a "kept day [that] lies outside the month of its fixing, or above 1 with no older fixing kept"; without a
+-- fixing it is zero
+unfoldable pub daySound : Bool → ℕ → ℕ → Bool → Bool
+daySound fixed month day kept = cond fixed (dayAllowed month day kept) (eqb day 0)
+
+-- the fixing in force, the older one, and the first day
+unfoldable pub fixingsSound : Ledger → Bool
+fixingsSound ledger =
+    forceSound (placesHeld (ledger .n) (ledger .fixed)) (ledger .force)
+    && olderSound (ledger .n) (ledger .fixed) (ledger .«has_older») (ledger .older)
+    && daySound (ledger .fixed) (ledger .month) (ledger .day) (ledger .«has_older»)
 
 -- "everything unset [is] zero": without a fixing its month, without a settled month the last one
 unfoldable pub unsetZero : Bool → ℕ → Bool → ℕ → Bool
@@ -75,7 +85,7 @@ balancesSound counts balances = eachBalance counts balances && oneSign mostDistr
 unfoldable pub sound : Ledger → Bool
 sound ledger =
     between 1 mostDistributors (ledger .n)
-    && forceSound (placesHeld (ledger .n) (ledger .fixed)) (ledger .force)
+    && fixingsSound ledger
     && unsetZero (anySettled ledger) (ledger .last) (ledger .fixed) (ledger .month)
     && monthsSound (anySettled ledger) (ledger .last) (ledger .month)
     && countsSound (ledger .n) (ledger .last) (ledger .counts)

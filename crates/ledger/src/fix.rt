@@ -1,6 +1,6 @@
 // The open calls of fixing, regular and interim: no requires. Both make the same fixing, an interim one with a price in
-// force for each line. Causes 2, 3 and 4 are the ledger's, the others the fixing's; the prices and the power prices are
-// written only when all of them are passed.
+// force for each line. Causes 2, 3, 4 and 16 are the ledger's, the others the fixing's; the prices and the power prices
+// are written only when all of them are passed.
 ghost use mathlib.Core.Path.{_≡_};
 ghost use mathlib.Core.Bool.{true, false};
 ghost use mathlib.Core.List.{[]};
@@ -19,6 +19,7 @@ ghost use Rattle.ledger.specs.Fix.{FixingCall, HandedBack, FixingAccepte
 ghost use Rattle.ledger.specs.declared.ledger.Ledger.{Ledger};
 ghost use Rattle.fixing.specs.Input.{SameButPower};
 ghost use Rattle.ledger.specs.Required.{PricesSmall};
+use crate::calendar::day_allowed;
 use crate::ledger::Ledger;
 use crate::sound::is_sound;
 use fixing::fix::Fixing;
@@ -65,13 +66,18 @@ struct Request {
 }
 
 impl Ledger {
-    // The ledger with a new fixing in force.
-    fn book_fixing(mut self, month: u64, force: SectorCharges) -> Self
-        ensures { λ r. ⌜ r ≡ fixedLedger self month force ⌝ }
+    // The ledger with a new fixing in force, and the older one that stands beside it.
+    fn book_fixing(mut self, month: u64, day: u64, force: SectorCharges) -> Self
+        ensures { λ r. ⌜ r ≡ fixedLedger self month day force ⌝ }
     {
+        let stands = self.older_stands(month);
+        let older = self.older_beside(month);
         self.fixed = true;
         self.month = month;
+        self.day = day;
         self.force = force;
+        self.has_older = stands;
+        self.older = older;
         self
     }
 }
@@ -196,7 +202,7 @@ fn refused(refusal: Refusal, ledger: Ledger) -> FixingOutcome
 // A fixing that passed every check is written, and it is in force in the ledger.
 fn accept(
     ledger: Ledger,
-    month: u64,
+    numbers: FixingNumbers,
     fixing: Fixing,
     prices: &mut [i64],
     power: &mut [u64],
@@ -205,7 +211,7 @@ fn accept(
         ∗ ⌜ length (now power) ≡ ledger .n ⌝ ∗ ⌜ PricesSmall (fixing .averages) (fixing .prices .finals) ⌝ }
     ensures { λ r. ⌜ r ≡ record {
       answer = acceptedAnswer (fixing .prices);
-      ledger = fixedLedger ledger month (fixing .sectors);
+      ledger = fixedLedger ledger (numbers .month) (numbers .day) (fixing .sectors);
     } ⌝
         ∗ ⌜ now (prices .exit) ≡ priceList (ledger .n) fixing ⌝
         ∗ ⌜ now (power .exit) ≡ averagePowerList (ledger .n) fixing ⌝ }
@@ -220,7 +226,7 @@ fn accept(
     write_prices(n, averages, finals, charges, prices);
     write_power(power_averages, power);
     let answer = accepted(fixed);
-    let ledger = ledger.book_fixing(month, force);
+    let ledger = ledger.book_fixing(numbers.month, numbers.day, force);
     FixingOutcome { answer, ledger }
 }
 
@@ -253,17 +259,21 @@ fn make_fixing(
     if !in_turn(ledger.any_settled(), ledger.next_month(), month) {
         return refused(Refusal::OutOfTurn, ledger);
     }
+    if !day_allowed(month, numbers.day, ledger.older_stands(month)) {
+        return refused(Refusal::WrongDay, ledger);
+    }
     let fixing = fix_input(n, numbers, series, lines, sectors, in_force);
     let verdict = fixing.verdict;
     if let Verdict::Refused(refusal) = verdict {
         return refused(refusal, ledger);
     }
-    accept(ledger, month, fixing, prices, power)
+    accept(ledger, numbers, fixing, prices, power)
 }
 
-// A fixing of the ledger's distributors for a month, from the dollar, the reference factor, the index series with its
-// first month, the supply lines and the sector factors. Where it is accepted the price list and the power list are
-// written and the fixing is in force in the ledger handed back; where it is refused all three are as they were.
+// A fixing of the ledger's distributors for a month, or from a later day of it on, from the dollar, the reference
+// factor, the index series with its first month, the supply lines and the sector factors. Where it is accepted the price
+// list and the power list are written and the fixing is in force in the ledger handed back; where it is refused all three
+// are as they were.
 pub fn fix(
     ledger: Ledger,
     numbers: FixingNumbers,

@@ -24,7 +24,10 @@ impl Ledger {
         self.n = n + 1;
         self.fixed = false;
         self.month = 0;
+        self.day = 0;
         self.force = no_charges();
+        self.has_older = false;
+        self.older = no_charges();
         self.balances[n] = Pesos(0);
         self.counts[n] = 0;
         self

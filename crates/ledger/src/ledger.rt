@@ -1,11 +1,12 @@
-// The ledger by value, what is asked of it by name (whether a month is settled, which month comes next, and what a
-// month is billed under), and how a call hands it back.
+// The ledger by value, what is asked of it by name (whether a month is settled, which month comes next, and which older
+// fixing would stand beside a new one), and how a call hands it back.
 ghost use mathlib.Core.Path.{_≡_};
 ghost use Prim.Native.Nat.{_≤_};
 ghost use Rattle.numbers.specs.declared.refusal.Verdict.the-variants.{Refused};
 ghost use Rattle.series.specs.Series.{lastMonth};
-ghost use Rattle.ledger.specs.Ledger.{anySettled, nextMonth, billedUnder};
+ghost use Rattle.ledger.specs.Ledger.{anySettled, nextMonth, makesOlder, staysOlder, olderStands, olderBeside};
 use fixing::sector::SectorCharges;
+use fixing::sector::no_charges;
 use numbers::refusal::Refusal;
 use numbers::refusal::Verdict;
 use numbers::sizes::MOST_DISTRIBUTORS;
@@ -16,10 +17,14 @@ pub struct Ledger {
     pub n: usize,
     // The last settled month.
     pub last: u64,
-    // Whether a fixing is in force, its month, and what it put in force.
+    // Whether a fixing is in force, its month, its first day, and what it put in force.
     pub fixed: bool,
     pub month: u64,
+    pub day: u64,
     pub force: SectorCharges,
+    // Whether an older fixing is kept beside it, and what that one had put in force.
+    pub has_older: bool,
+    pub older: SectorCharges,
     // What each distributor owes, or is owed below zero.
     pub balances: [Pesos; MOST_DISTRIBUTORS],
     // How many months are settled with each distributor.
@@ -65,10 +70,37 @@ impl Ledger {
         self.last + 1
     }
 
-    // The presences and charges that a month is billed under: those in force.
-    pub(crate) fn billed_under(self) -> SectorCharges
-        ensures { λ r. ⌜ r ≡ billedUnder self ⌝ }
+    // Whether a fixing for this month makes the one in force the older.
+    fn makes_older(self, month: u64) -> bool
+        ensures { λ r. ⌜ r ≡ makesOlder self month ⌝ }
     {
-        self.force
+        self.fixed & (self.month < month)
+    }
+
+    // Whether beside a fixing for this month the older one stays.
+    fn stays_older(self, month: u64) -> bool
+        ensures { λ r. ⌜ r ≡ staysOlder self month ⌝ }
+    {
+        self.has_older & (month == self.month)
+    }
+
+    // Whether an older fixing would stand beside a fixing for this month.
+    pub(crate) fn older_stands(self, month: u64) -> bool
+        ensures { λ r. ⌜ r ≡ olderStands self month ⌝ }
+    {
+        self.makes_older(month) | self.stays_older(month)
+    }
+
+    // What it had put in force.
+    pub(crate) fn older_beside(self, month: u64) -> SectorCharges
+        ensures { λ r. ⌜ r ≡ olderBeside self month ⌝ }
+    {
+        if self.makes_older(month) {
+            return self.force;
+        }
+        if self.stays_older(month) {
+            return self.older;
+        }
+        no_charges()
     }
 }

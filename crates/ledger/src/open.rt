@@ -16,13 +16,17 @@ fn empty(n: usize) -> Ledger
     ensures { λ r. ⌜ r ≡ emptyLedger n ⌝ }
 {
     let force = no_charges();
+    let older = no_charges();
     let none = Pesos(0);
     Ledger {
         n,
         last: 0,
         fixed: false,
         month: 0,
+        day: 0,
         force,
+        has_older: false,
+        older,
         balances: [none; MOST_DISTRIBUTORS],
         counts: [0; MOST_DISTRIBUTORS],
     }

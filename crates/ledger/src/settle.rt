@@ -107,7 +107,7 @@ fn settle_month(
         (r .ledger) (now (transfers .exit)) ⌝ }
 {
     let n = ledger.n;
-    let force = ledger.billed_under();
+    let force = ledger.billed_under(month);
     let present = force.present;
     let charges = force.charges;
     if !billing_in_range(n, &present, readings, losses) {

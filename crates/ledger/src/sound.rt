@@ -6,8 +6,9 @@ ghost use Rattle.numbers.specs.Sizes.{mostDistributors};
 ghost use Rattle.series.specs.Series.{lastMonth};
 ghost use Rattle.settlement.specs.Settlement.{oneSign};
 ghost use Rattle.settlement.specs.Month.{moneyAt};
-ghost use Rattle.ledger.specs.Sound.{placesHeld, placeTest, forceSound, unsetZero, monthsSound};
-ghost use Rattle.ledger.specs.Sound.{countsSound, balanceTest, eachBalance, sound};
+ghost use Rattle.ledger.specs.Sound.{placesHeld, placeTest, forceSound, olderSound, daySound, fixingsSound};
+ghost use Rattle.ledger.specs.Sound.{unsetZero, monthsSound, countsSound, balanceTest, eachBalance, sound};
+use crate::calendar::day_allowed;
 use crate::ledger::Ledger;
 use fixing::sector::SectorCharges;
 use numbers::signed::within_size;
@@ -22,12 +23,12 @@ use settlement::month::MOST_POSITION;
 
 const MOST_CHARGE: u64 = 10500000;
 
-// The places where a sector may be present: those of n distributors, none without a fixing.
-fn places_held(n: usize, fixed: bool) -> usize
+// The places where a sector may be present: those of n distributors, none without a fixing kept.
+fn places_held(n: usize, kept: bool) -> usize
     requires { ⌜ n ≤ mostDistributors ⌝ }
-    ensures { λ r. ⌜ r ≡ placesHeld n fixed ⌝ }
+    ensures { λ r. ⌜ r ≡ placesHeld n kept ⌝ }
 {
-    if fixed { n * SECTORS } else { 0 }
+    if kept { n * SECTORS } else { 0 }
 }
 
 // One sector's place: a sector that is present is at a place held and has a charge within its bounds, an absent one
@@ -42,7 +43,7 @@ fn place_sound(held: usize, present: bool, charge: i64, k: usize) -> bool
     }
 }
 
-// All places of what is in force.
+// All places of a fixing kept.
 fn force_sound(held: usize, force: SectorCharges) -> bool
     ensures { λ r. ⌜ r ≡ forceSound held force ⌝ }
 {
@@ -56,6 +57,39 @@ fn force_sound(held: usize, force: SectorCharges) -> bool
         k += 1;
     }
     true
+}
+
+// An older fixing: sound by itself, and beside one in force.
+fn older_sound(n: usize, fixed: bool, kept: bool, older: SectorCharges) -> bool
+    requires { ⌜ n ≤ mostDistributors ⌝ }
+    ensures { λ r. ⌜ r ≡ olderSound n fixed kept older ⌝ }
+{
+    force_sound(places_held(n, kept), older) & (!kept | fixed)
+}
+
+// The first day: none without a fixing.
+fn day_sound(fixed: bool, month: u64, day: u64, kept: bool) -> bool
+    ensures { λ r. ⌜ r ≡ daySound fixed month day kept ⌝ }
+{
+    if fixed {
+        return day_allowed(month, day, kept);
+    }
+    day == 0
+}
+
+// The fixing in force, the older one, and the first day.
+fn fixings_sound(ledger: Ledger) -> bool
+    requires { ⌜ ledger .n ≤ mostDistributors ⌝ }
+    ensures { λ r. ⌜ r ≡ fixingsSound ledger ⌝ }
+{
+    let n = ledger.n;
+    let fixed = ledger.fixed;
+    let kept = ledger.has_older;
+    let force = ledger.force;
+    let older = ledger.older;
+    force_sound(places_held(n, fixed), force)
+        & older_sound(n, fixed, kept, older)
+        & day_sound(fixed, ledger.month, ledger.day, kept)
 }
 
 // What is unset is zero: without a fixing its month, without a settled month the last month.
@@ -146,12 +180,10 @@ pub(crate) fn is_sound(ledger: Ledger) -> bool
     if !months_sound(settled, last, month) {
         return false;
     }
-    let fixed = ledger.fixed;
-    let force = ledger.force;
     let balances = ledger.balances;
     let counts = ledger.counts;
-    force_sound(places_held(n, fixed), force)
-        & unset_zero(settled, last, fixed, month)
+    fixings_sound(ledger)
+        & unset_zero(settled, last, ledger.fixed, month)
         & counts_sound(n, last, counts)
         & (each_balance_sound(counts, balances) & one_sign(balances))
 }

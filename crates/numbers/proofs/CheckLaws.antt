@@ -15,7 +15,7 @@ use Rattle.numbers.specs.declared.refusal.Refusal.{Refusal}
 use Rattle.numbers.specs.declared.refusal.Refusal.the-variants.{WrongCount, Unsound, WrongLength, OutOfTurn}
 use Rattle.numbers.specs.declared.refusal.Refusal.the-variants.{NoFixing, OutOfRange, ValueTooLarge, WrongSector}
 use Rattle.numbers.specs.declared.refusal.Refusal.the-variants.{NoLine, MonthMissing, OutOfBounds, WrongReading}
-use Rattle.numbers.specs.declared.refusal.Refusal.the-variants.{PositionBeyond, NoLineMoved, LedgerFull}
+use Rattle.numbers.specs.declared.refusal.Refusal.the-variants.{PositionBeyond, NoLineMoved, LedgerFull, WrongDay}
 use Rattle.numbers.specs.declared.refusal.Verdict.{Verdict}
 use Rattle.numbers.specs.declared.refusal.Verdict.the-variants.{Passed, Refused}
 
@@ -113,6 +113,7 @@ passed-number values (Refused refusal) = go refusal
     go PositionBeyond = refl
     go NoLineMoved = refl
     go LedgerFull = refl
+    go WrongDay = refl
 
 -- a check whose number and values are those of its refusal
 abbrev pub Told : Check → Type 0

@@ -8,7 +8,7 @@ use Rattle.numbers.specs.declared.refusal.Refusal.{Refusal}
 use Rattle.numbers.specs.declared.refusal.Refusal.the-variants.{WrongCount, Unsound, WrongLength, OutOfTurn}
 use Rattle.numbers.specs.declared.refusal.Refusal.the-variants.{NoFixing, OutOfRange, ValueTooLarge, WrongSector}
 use Rattle.numbers.specs.declared.refusal.Refusal.the-variants.{NoLine, MonthMissing, OutOfBounds, WrongReading}
-use Rattle.numbers.specs.declared.refusal.Refusal.the-variants.{PositionBeyond, NoLineMoved, LedgerFull}
+use Rattle.numbers.specs.declared.refusal.Refusal.the-variants.{PositionBeyond, NoLineMoved, LedgerFull, WrongDay}
 use Rattle.numbers.specs.declared.refusal.Verdict.{Verdict}
 use Rattle.numbers.specs.declared.refusal.Verdict.the-variants.{Passed, Refused}
 
@@ -42,6 +42,8 @@ refusalAnswered PositionBeyond = withoutValues 13
 refusalAnswered NoLineMoved = withoutValues 14
 -- "15 when the ledger already has 40"
 refusalAnswered LedgerFull = withoutValues 15
+-- "16 when the day isn't in its month, or .."
+refusalAnswered WrongDay = withoutValues 16
 
 -- of a verdict, where what passes returns values of its own
 abbrev pub verdictAnswered : List ℕ → Verdict → Answered

@@ -21,6 +21,7 @@ pub enum Refusal {
     PositionBeyond,
     NoLineMoved,
     LedgerFull,
+    WrongDay,
 }
 
 pub enum Verdict {
@@ -48,6 +49,7 @@ pub fn refusal_number(refusal: Refusal) -> u64
         Refusal::PositionBeyond => 13,
         Refusal::NoLineMoved => 14,
         Refusal::LedgerFull => 15,
+        Refusal::WrongDay => 16,
     }
 }
 

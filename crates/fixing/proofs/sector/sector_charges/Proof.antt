@@ -11,8 +11,7 @@ use mathlib.Core.List.{List}
 use Prim.Native.Nat.{ℕ, _≤_, _<_, _-_, _/_, _*_}
 use lib.ListN.{length, getD}
 use lib.IntN.{ℤ, pos}
-use Rattle.fixing.specs.Sector.{sectorCharge}
-use Rattle.fixing.specs.Sector.{factorAt, sectorPresent, chargedPlaces, sectorCharges}
+use Rattle.fixing.specs.Sector.{factorAt, sectorPresent, sectorCharge, filledPlaces, placeCharge, sectorCharges}
 use Rattle.fixing.proofs.sector.sector_charges.Statement.{statement}
 use Rattle.fixing.proofs.sector.sector_charges.Tie as tie
 use native.Mathlib.Omega.{arith}
@@ -23,7 +22,7 @@ chargeIn charges i = getD charges i (pos 0)
 
 abbrev Inv-loop : tie.InvT-loop
 Inv-loop n sectors charges force₀ k₀ force k =
-    (k ≤ length sectors) × (force ≡ chargedPlaces k (chargeIn charges) sectors)
+    (k ≤ length sectors) × (force ≡ filledPlaces k (sectorPresent sectors) (placeCharge (chargeIn charges) sectors))
 
 abbrev μ-loop : tie.MeasureT-loop
 μ-loop n sectors charges force₀ k₀ force k = length sectors - k
@@ -46,7 +45,7 @@ no-charges-requires c κs = tt
 loop-holds : tie.Need-loop-holds Inv-loop μ-loop
 loop-holds c =
     let s = c .before .before in
-    (omega arith, c .no-charges .ensures ∙ places-none (chargeIn (s .args .t2)) (s .args .sectors .now))
+    (omega arith, c .no-charges .ensures ∙ places-none (sectorPresent (s .args .sectors .now)) _)
 
 mul-charge : tie.Need-mul-charge Inv-loop μ-loop
 mul-charge c = omega (arith, own (c .before) (omega arith))
@@ -87,13 +86,14 @@ add-k : tie.Need-add-k Inv-loop μ-loop
 add-k c = omega (arith, few (c .before .before .before .before) (omega arith))
 
 loop-again : tie.Need-loop-again Inv-loop μ-loop
-unfolding sectorPresent
+unfolding sectorPresent placeCharge
 loop-again c =
     let e = c .before .before .before in
     let l = e .before in
     let s = start l in (
       omega arith,
-      places-more (chargeIn (s .args .t2)) (s .args .sectors .now) (l .loop .k) (l .loop .force) _ _
+      places-more (sectorPresent (s .args .sectors .now)) (placeCharge (chargeIn (s .args .t2)) (s .args .sectors .now))
+          (l .loop .k) (l .loop .force) _ _
           (few l (omega arith)) (l .loop .inv .1) refl
           (toZ-ofZ (sfits-of (c .sector-charge .ok)) ∙ c .sector-charge .ensures
           ∙ ap (λ z. sectorCharge z (factorAt (s .args .sectors .now) (l .loop .k))) (unread e)),
