@@ -40,14 +40,14 @@ emptyForm = replicate partCount nothing
 abbrev pub openForm : List Part
 openForm = part "N           " number ∷ replicate 11 nothing
 
--- "fix MONTH DOLLAR FACTOR FIRST series K .. lines K .. sectors K .. prices K power K"; "interim MONTH DOLLAR FACTOR
--- FIRST series K .. lines K .. sectors K .. inforce K .. prices K power K"
+-- "fix MONTH DOLLAR FACTOR FIRST DAY series K .. lines K .. sectors K .. prices K power K"; "interim MONTH DOLLAR
+-- FACTOR FIRST DAY series K .. lines K .. sectors K .. inforce K .. prices K power K"
 abbrev pub fixingForm : Bool → List Part
 fixingForm isInterim =
     part "MONTH       " number ∷ part "DOLLAR      " number ∷ part "FACTOR      " number ∷ part "FIRST       " number
-    ∷ part "series      " list ∷ part "lines       " list ∷ part "sectors     " list
+    ∷ part "DAY         " number ∷ part "series      " list ∷ part "lines       " list ∷ part "sectors     " list
     ∷ cond isInterim (part "inforce     " list) nothing ∷ part "prices      " (Length longestList)
-    ∷ part "power       " (Length longestList) ∷ replicate 2 nothing
+    ∷ part "power       " (Length longestList) ∷ nothing ∷ []
 
 -- "settle MONTH readings K .. losses K .. transfers K"
 abbrev pub settleForm : List Part
@@ -55,14 +55,15 @@ settleForm =
     part "MONTH       " number ∷ part "readings    " list ∷ part "losses      " list
     ∷ part "transfers   " (Length longestList) ∷ replicate 8 nothing
 
--- "load N LAST FIXED MONTH present K .. charges K .. balances K .. counts K .."; "FIXED and the words of `present` are
--- 0 or 1"
+-- "load N LAST FIXED MONTH DAY OLDER present K .. charges K .. olderpresent K .. oldercharges K .. balances K .. counts
+-- K .."; "FIXED, OLDER and the words of `present` and `olderpresent` are 0 or 1"
 abbrev pub loadForm : List Part
 loadForm =
     part "N           " number ∷ part "LAST        " number ∷ part "FIXED       " (Number 1)
-    ∷ part "MONTH       " number ∷ part "present     " (Words sectorPlaces 1)
-    ∷ part "charges     " (Signed sectorPlaces) ∷ part "balances    " (Signed mostDistributors)
-    ∷ part "counts      " (Words mostDistributors mostWord) ∷ replicate 4 nothing
+    ∷ part "MONTH       " number ∷ part "DAY         " number ∷ part "OLDER       " (Number 1)
+    ∷ part "present     " (Words sectorPlaces 1) ∷ part "charges     " (Signed sectorPlaces)
+    ∷ part "olderpresent" (Words sectorPlaces 1) ∷ part "oldercharges" (Signed sectorPlaces)
+    ∷ part "balances    " (Signed mostDistributors) ∷ part "counts      " (Words mostDistributors mostWord) ∷ []
 
 abbrev pub commandForm : Command → List Part
 commandForm Open = openForm

@@ -175,7 +175,7 @@ partTextBy (Length longest) name held = listText name false (held .number) (held
 unfoldable pub partText : Part → Held → List ℕ
 partText part held = partTextBy (part .1) (part .0) held
 
--- "N LAST FIXED MONTH on the first line, then a line each": the text of a command by its name
+-- "N LAST FIXED MONTH DAY OLDER on the first line, then a line each": the text of a command by its name
 unfoldable pub formText : List ℕ → List Part → List Held → List ℕ
 formText name form parts =
     nameText name ++ textBelow partCount (λ k. partText (partAt form k) (heldIn parts k)) ++ lineEnd ∷ []

@@ -71,13 +71,14 @@ fn fixing_form(is_interim: bool) -> [Part; PARTS]
     form[1] = Part(*b"DOLLAR      ", Kind::Number(MOST_WORD));
     form[2] = Part(*b"FACTOR      ", Kind::Number(MOST_WORD));
     form[3] = Part(*b"FIRST       ", Kind::Number(MOST_WORD));
-    form[4] = Part(*b"series      ", Kind::List(LONGEST_LIST, MOST_WORD));
-    form[5] = Part(*b"lines       ", Kind::List(LONGEST_LIST, MOST_WORD));
-    form[6] = Part(*b"sectors     ", Kind::List(LONGEST_LIST, MOST_WORD));
-    form[8] = Part(*b"prices      ", Kind::Length(LONGEST_LIST));
-    form[9] = Part(*b"power       ", Kind::Length(LONGEST_LIST));
+    form[4] = Part(*b"DAY         ", Kind::Number(MOST_WORD));
+    form[5] = Part(*b"series      ", Kind::List(LONGEST_LIST, MOST_WORD));
+    form[6] = Part(*b"lines       ", Kind::List(LONGEST_LIST, MOST_WORD));
+    form[7] = Part(*b"sectors     ", Kind::List(LONGEST_LIST, MOST_WORD));
+    form[9] = Part(*b"prices      ", Kind::Length(LONGEST_LIST));
+    form[10] = Part(*b"power       ", Kind::Length(LONGEST_LIST));
     if is_interim {
-        form[7] = Part(*b"inforce     ", Kind::List(LONGEST_LIST, MOST_WORD));
+        form[8] = Part(*b"inforce     ", Kind::List(LONGEST_LIST, MOST_WORD));
         return form;
     }
     form
@@ -103,10 +104,14 @@ pub fn load_form() -> [Part; PARTS]
     form[1] = Part(*b"LAST        ", Kind::Number(MOST_WORD));
     form[2] = Part(*b"FIXED       ", Kind::Number(1));
     form[3] = Part(*b"MONTH       ", Kind::Number(MOST_WORD));
-    form[4] = Part(*b"present     ", Kind::List(PLACES as u64, 1));
-    form[5] = Part(*b"charges     ", Kind::Signed(PLACES as u64));
-    form[6] = Part(*b"balances    ", Kind::Signed(MOST_DISTRIBUTORS as u64));
-    form[7] = Part(
+    form[4] = Part(*b"DAY         ", Kind::Number(MOST_WORD));
+    form[5] = Part(*b"OLDER       ", Kind::Number(1));
+    form[6] = Part(*b"present     ", Kind::List(PLACES as u64, 1));
+    form[7] = Part(*b"charges     ", Kind::Signed(PLACES as u64));
+    form[8] = Part(*b"olderpresent", Kind::List(PLACES as u64, 1));
+    form[9] = Part(*b"oldercharges", Kind::Signed(PLACES as u64));
+    form[10] = Part(*b"balances    ", Kind::Signed(MOST_DISTRIBUTORS as u64));
+    form[11] = Part(
         *b"counts      ",
         Kind::List(MOST_DISTRIBUTORS as u64, MOST_WORD),
     );
