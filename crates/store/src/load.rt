@@ -1,17 +1,15 @@
 // A ledger from the parts of its form, sound or not: the calls judge it.
 ghost use mathlib.Core.Path.{_≡_};
-ghost use Prim.Native.Nat.{_≤_};
-ghost use mathlib.Core.Bool.{false};
-ghost use lib.ListN.{length, getD};
-ghost use lib.IntN.{pos};
-ghost use Rattle.numbers.specs.Bounded.{filledBelow};
+ghost use lib.ListN.{length};
+ghost use Rattle.numbers.specs.Bounded.{listBelow};
 ghost use Rattle.numbers.specs.Signed.{signedOf};
-ghost use Rattle.numbers.specs.Sizes.{mostDistributors, sectorPlaces};
+ghost use Rattle.numbers.specs.Sizes.{mostDistributors};
 ghost use Rattle.settlement.specs.Month.{moneyBelow};
 ghost use Rattle.journal.specs.Form.{FormHeld, partsIn};
 ghost use Rattle.journal.specs.Command.{loadForm};
-ghost use Rattle.store.specs.Store.{wordTruth, loadedLedger};
+ghost use Rattle.store.specs.Store.{wordTruth, wordAt, loadedCharges, loadedLedger};
 use fixing::sector::SectorCharges;
+use fixing::sector::no_charges;
 use journal::form::Parts;
 use journal::form::words_of;
 use ledger::ledger::Ledger;
@@ -27,46 +25,39 @@ fn word_truth(word: u64) -> bool
     word != 0
 }
 
-// The presences; places that are not given are empty.
-fn load_present(words: &[u64]) -> [bool; PLACES]
-    requires { ⌜ length (now words) ≤ sectorPlaces ⌝ }
-    ensures { λ r. ⌜ r ≡ filledBelow sectorPlaces false (length (now (words .entry)))
-        (λ k. wordTruth (getD (now (words .entry)) k 0)) ⌝ }
+// Word k of a list, 0 where it is not given.
+fn word_at(words: &[u64], k: usize) -> u64
+    ensures { λ r. ⌜ r ≡ wordAt (now (words .entry)) k ⌝ }
 {
-    let mut present = [false; PLACES];
-    let mut k: usize = 0;
-    while k < words.len() {
-        present[k] = word_truth(words[k]);
-        k += 1;
+    if k < words.len() {
+        return words[k];
     }
-    present
+    0
 }
 
-// The charges.
-fn load_charges(words: &[u64]) -> [i64; PLACES]
-    requires { ⌜ length (now words) ≤ sectorPlaces ⌝ }
-    ensures { λ r. ⌜ r ≡ filledBelow sectorPlaces (pos 0) (length (now (words .entry)))
-        (λ k. signedOf (getD (now (words .entry)) k 0)) ⌝ }
+// A fixing's presences and charges.
+fn load_charges(present: &[u64], charges: &[u64]) -> SectorCharges
+    ensures { λ r. ⌜ r ≡ loadedCharges (now (present .entry)) (now (charges .entry)) ⌝ }
 {
-    let mut charges = [0i64; PLACES];
+    let mut fixing = no_charges();
     let mut k: usize = 0;
-    while k < words.len() {
-        charges[k] = signed_of(words[k]);
+    while k < PLACES {
+        fixing.present[k] = word_truth(word_at(present, k));
+        fixing.charges[k] = signed_of(word_at(charges, k));
         k += 1;
     }
-    charges
+    fixing
 }
 
 // The balances.
 fn load_balances(words: &[u64]) -> [Pesos; MOST_DISTRIBUTORS]
-    requires { ⌜ length (now words) ≤ mostDistributors ⌝ }
-    ensures { λ r. ⌜ r ≡ moneyBelow (length (now (words .entry))) (λ i. signedOf (getD (now (words .entry)) i 0)) ⌝ }
+    ensures { λ r. ⌜ r ≡ moneyBelow mostDistributors (λ i. signedOf (wordAt (now (words .entry)) i)) ⌝ }
 {
     let none = Pesos(0);
     let mut balances = [none; MOST_DISTRIBUTORS];
     let mut i: usize = 0;
-    while i < words.len() {
-        balances[i] = Pesos(signed_of(words[i]));
+    while i < MOST_DISTRIBUTORS {
+        balances[i] = Pesos(signed_of(word_at(words, i)));
         i += 1;
     }
     balances
@@ -74,14 +65,12 @@ fn load_balances(words: &[u64]) -> [Pesos; MOST_DISTRIBUTORS]
 
 // The counts.
 fn load_counts(words: &[u64]) -> [u64; MOST_DISTRIBUTORS]
-    requires { ⌜ length (now words) ≤ mostDistributors ⌝ }
-    ensures { λ r. ⌜ r ≡ filledBelow mostDistributors 0 (length (now (words .entry)))
-        (λ i. getD (now (words .entry)) i 0) ⌝ }
+    ensures { λ r. ⌜ r ≡ listBelow mostDistributors (wordAt (now (words .entry))) ⌝ }
 {
     let mut counts = [0u64; MOST_DISTRIBUTORS];
     let mut i: usize = 0;
-    while i < words.len() {
-        counts[i] = words[i];
+    while i < MOST_DISTRIBUTORS {
+        counts[i] = word_at(words, i);
         i += 1;
     }
     counts
@@ -92,18 +81,20 @@ pub fn load(parts: Parts, words: &[u64]) -> Ledger
     requires { ⌜ FormHeld loadForm parts (length (now words)) ⌝ }
     ensures { λ r. ⌜ r ≡ loadedLedger (partsIn parts (now (words .entry))) ⌝ }
 {
-    let present = load_present(words_of(parts, words, 4));
-    let charges = load_charges(words_of(parts, words, 5));
-    let balances = load_balances(words_of(parts, words, 6));
-    let counts = load_counts(words_of(parts, words, 7));
-    let force = SectorCharges { present, charges };
+    let force = load_charges(words_of(parts, words, 6), words_of(parts, words, 7));
+    let older = load_charges(words_of(parts, words, 8), words_of(parts, words, 9));
+    let balances = load_balances(words_of(parts, words, 10));
+    let counts = load_counts(words_of(parts, words, 11));
     let numbers = parts.numbers;
     Ledger {
         n: numbers[0] as usize,
         last: numbers[1],
         fixed: word_truth(numbers[2]),
         month: numbers[3],
+        day: numbers[4],
         force,
+        has_older: word_truth(numbers[5]),
+        older,
         balances,
         counts,
     }

@@ -1,10 +1,12 @@
-// A ledger as the parts of its form: presences, charges, balances and counts of its distributors, or all where a word
-// past them is not zero.
+// A ledger as the parts of its form: both fixings, balances and counts of its distributors, or all where a word past
+// them is not zero.
 ghost use mathlib.Core.Path.{_≡_};
 ghost use Prim.Native.Nat.{_<_};
 ghost use lib.ListN.{length};
-ghost use Rattle.store.specs.Store.{truthWord, keptWords, ledgerWord, ledgerWords, wordOwner, zeroPast};
-ghost use Rattle.store.specs.Store.{keptAmong, Saved};
+ghost use Rattle.store.specs.Store.{truthWord, olderFrom, keptWords, chargesWord, ledgerWord};
+ghost use Rattle.store.specs.Store.{ledgerWords, wordOwner, zeroPast, keptAmong, Saved};
+use fixing::sector::SectorCharges;
+use journal::form::PARTS;
 use journal::form::Parts;
 use ledger::ledger::Ledger;
 use numbers::signed::word_of;
@@ -12,14 +14,36 @@ use numbers::sizes::MOST_DISTRIBUTORS;
 use numbers::sizes::PLACES;
 use numbers::sizes::SECTORS;
 
-// Where the balances stand, after presences and charges.
-const BALANCES: usize = PLACES + PLACES;
+// Where the older fixing stands, after presences and charges of the one in force.
+const OLDER: usize = PLACES + PLACES;
+
+// Where its charges stand, after its presences.
+const OLDER_CHARGES: usize = OLDER + PLACES;
+
+// Where the balances stand, after both fixings.
+const BALANCES: usize = OLDER + OLDER;
 
 // Where the counts stand, after the balances.
 const COUNTS: usize = BALANCES + MOST_DISTRIBUTORS;
 
 // How many words there are at most.
 pub const KEPT_WORDS: usize = COUNTS + MOST_DISTRIBUTORS;
+
+// Where the words of each part stand: the numbers have none.
+const STARTS: [usize; PARTS] = [
+    0,
+    0,
+    0,
+    0,
+    0,
+    0,
+    0,
+    PLACES,
+    OLDER,
+    OLDER_CHARGES,
+    BALANCES,
+    COUNTS,
+];
 
 // A truth as a word, 0 or 1.
 fn truth_word(truth: bool) -> u64
@@ -28,17 +52,27 @@ fn truth_word(truth: bool) -> u64
     if truth { 1 } else { 0 }
 }
 
-// Word k of a ledger's: presences, charges, balances and counts, one list after the other.
+// Word k of a fixing's: presences, then charges.
+fn charges_word(fixing: SectorCharges, k: usize) -> u64
+    requires { ⌜ k < olderFrom ⌝ }
+    ensures { λ r. ⌜ r ≡ chargesWord fixing k ⌝ }
+{
+    if k < PLACES {
+        return truth_word(fixing.present[k]);
+    }
+    word_of(fixing.charges[k - PLACES])
+}
+
+// Word k of a ledger's: the fixing in force, the older one, balances and counts, one list after the other.
 fn ledger_word(ledger: Ledger, k: usize) -> u64
     requires { ⌜ k < keptWords ⌝ }
     ensures { λ r. ⌜ r ≡ ledgerWord ledger k ⌝ }
 {
-    let force = ledger.force;
-    if k < PLACES {
-        return truth_word(force.present[k]);
+    if k < OLDER {
+        return charges_word(ledger.force, k);
     }
     if k < BALANCES {
-        return word_of(force.charges[k - PLACES]);
+        return charges_word(ledger.older, k - OLDER);
     }
     if k < COUNTS {
         let balance = ledger.balances[k - BALANCES];
@@ -59,20 +93,14 @@ fn save_words(ledger: Ledger, words: &mut [u64])
     }
 }
 
-// The distributor whose word it is.
+// The distributor whose word it is: by places in the lists of the fixings, then one word for each.
 fn word_owner(k: usize) -> usize
     ensures { λ r. ⌜ r ≡ wordOwner k ⌝ }
 {
-    if k < PLACES {
-        return k / SECTORS;
-    }
     if k < BALANCES {
-        return (k - PLACES) / SECTORS;
+        return k % PLACES / SECTORS;
     }
-    if k < COUNTS {
-        return k - BALANCES;
-    }
-    k - COUNTS
+    (k - BALANCES) % MOST_DISTRIBUTORS
 }
 
 // Whether the words past n distributors are zero.
@@ -114,20 +142,23 @@ pub fn save(ledger: Ledger, words: &mut [u64]) -> Parts
         ledger.last,
         truth_word(ledger.fixed),
         ledger.month,
+        ledger.day,
+        truth_word(ledger.has_older),
+        places as u64,
+        places as u64,
         places as u64,
         places as u64,
         kept as u64,
         kept as u64,
-        0,
-        0,
-        0,
-        0,
     ];
-    let charged = PLACES + places;
-    let balanced = BALANCES + kept;
-    let counted = COUNTS + kept;
-    let starts = [0, 0, 0, 0, 0, PLACES, BALANCES, COUNTS, 0, 0, 0, 0];
-    let ends = [0, 0, 0, 0, places, charged, balanced, counted, 0, 0, 0, 0];
+    let starts = STARTS;
+    let mut ends = [0usize; PARTS];
+    ends[6] = places;
+    ends[7] = PLACES + places;
+    ends[8] = OLDER + places;
+    ends[9] = OLDER_CHARGES + places;
+    ends[10] = BALANCES + kept;
+    ends[11] = COUNTS + kept;
     Parts {
         numbers,
         starts,

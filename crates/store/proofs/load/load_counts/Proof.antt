@@ -1,34 +1,25 @@
--- The invariant: the counts of the words passed are set.
-use mathlib.Core.Path.{_≡_, refl}
-use Prim.Native.Nat.{_≤_, _-_}
+-- The invariant: the first i counts are those of the words.
+use Prim.Native.Nat.{_-_}
 use native.Mathlib.Omega.{arith}
-use lib.ListN.{length, getD}
+use borrow.Author.Needs.{needs}
 use Rattle.numbers.specs.Sizes.{mostDistributors}
-use Rattle.numbers.specs.Bounded.{filledBelow}
-use Rattle.numbers.proofs.ListLaws.{filled-none, filled-next}
+use Rattle.numbers.proofs.ListLaws.{Written, written-none, written-more, written-all}
+use Rattle.store.specs.Store.{wordAt}
 use Rattle.store.proofs.load.load_counts.Statement.{statement}
 use Rattle.store.proofs.load.load_counts.Tie as tie
+use mathlib.Core.Path.{refl}
 
 abbrev Inv-loop : tie.InvT-loop
-Inv-loop words counts₀ i₀ counts i =
-    (i ≤ length words) × (counts ≡ filledBelow mostDistributors 0 i (λ j. getD words j 0))
+Inv-loop words counts₀ i₀ counts i = Written (wordAt words) mostDistributors counts i
 
 abbrev μ-loop : tie.MeasureT-loop
-μ-loop words counts₀ i₀ counts i = length words - i
-
-loop-holds : tie.Need-loop-holds Inv-loop μ-loop
-loop-holds c = (omega arith, filled-none mostDistributors 0 _)
+μ-loop words counts₀ i₀ counts i = mostDistributors - i
 
 loop-again : tie.Need-loop-again Inv-loop μ-loop
-loop-again c = let l = c .before .before in (
-  omega arith,
-  filled-next mostDistributors 0 (l .loop .i) _ (l .loop .counts) _ (omega arith) (l .loop .inv .1) refl,
-)
+loop-again c = written-more (c .before .before .loop .inv) (omega arith) (c .word-at .ensures)
 
 returns : tie.Need-returns Inv-loop μ-loop
-returns c =
-    let e : c .before .loop .i ≡ length (c .before .before .args .words .now) = omega arith in
-    rw e at (c .before .loop .inv .1)
+returns c = written-all (c .before .loop .inv) (omega arith)
 
 pub load-counts-spec : {M : Type 1} → statement M
 load-counts-spec =
@@ -36,8 +27,8 @@ load-counts-spec =
     (tie.spec
     Inv-loop
     μ-loop
-    loop-holds
-    (λ c. omega arith) (λ c. omega arith) (λ c. omega arith) (λ c. omega arith) (λ c. omega arith)
+    (λ c. written-none _ _ _ refl)
+    (λ c κs. search needs) (λ c. omega arith) (λ c. omega (arith, c .before .before .loop .inv .long)) (λ c. omega arith)
     (λ c. omega arith)
     loop-again
     returns)

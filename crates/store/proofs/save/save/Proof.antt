@@ -29,14 +29,16 @@ module _ (k : tie.After-kept-among) where
 
 -- the ledger's numbers are of 64 bits
 sized : (s : tie.Start) → (s .args .ledger .n < 2 ^ 64) × (s .args .ledger .last < 2 ^ 64) ×
-    (s .args .ledger .month < 2 ^ 64)
-sized s = (search needs, search needs, search needs)
+    (s .args .ledger .month < 2 ^ 64) × (s .args .ledger .day < 2 ^ 64)
+sized s = (search needs, search needs, search needs, search needs)
 
 returns : tie.Need-returns
 returns c =
-    let k = c .before in
+    let t = c .before in
+    let k = t .before in
     let h = sized (s k) in
-    saved (ledger k) (h .0) (h .1) (h .2) _ _ _ (w k .save-words .ensures) (kept-is k) (c .truth-word .ensures)
+    saved (ledger k) (h .0) (h .1) (h .2) (h .3) _ _ _ _ (w k .save-words .ensures) (kept-is k) (t .truth-word .ensures)
+    (c .truth-word2 .ensures)
 
 pub save-spec : {M : Type 1} → statement M
 save-spec =
@@ -44,7 +46,11 @@ save-spec =
     (tie.spec
     (λ c κs. search needs) (λ c κs. search needs)
     (λ c. record { fits = omega (arith, few c) })
-    (λ c κs. search needs)
-    (λ c. omega (arith, few (c .before))) (λ c. omega (arith, few (c .before))) (λ c. omega (arith, few (c .before)))
+    (λ c κs. search needs) (λ c κs. search needs) (λ c. search needs)
+    (λ c. omega (arith, few (c .before .before))) (λ c. search needs)
+    (λ c. omega (arith, few (c .before .before))) (λ c. search needs)
+    (λ c. omega (arith, few (c .before .before))) (λ c. search needs)
+    (λ c. omega (arith, few (c .before .before))) (λ c. search needs)
+    (λ c. omega (arith, few (c .before .before))) (λ c. search needs)
     (λ c. search needs)
     returns)
