@@ -10,7 +10,7 @@ use Rattle.numbers.specs.Checks.{verdictOf}
 use Rattle.numbers.specs.Units.{between}
 use Rattle.numbers.specs.Sizes.{mostDistributors, sectorCount}
 use Rattle.numbers.specs.declared.refusal.Refusal.the-variants.{Unsound, WrongLength, OutOfTurn, NoFixing, WrongReading}
-use Rattle.numbers.specs.declared.refusal.Refusal.the-variants.{PositionBeyond, LedgerFull}
+use Rattle.numbers.specs.declared.refusal.Refusal.the-variants.{PositionBeyond, LedgerFull, WrongDay}
 use Rattle.numbers.specs.declared.refusal.Verdict.the-variants.{Passed}
 use Rattle.numbers.proofs.BoolLaws.{and-left, and-right, and-five}
 use Rattle.numbers.proofs.CheckLaws.{FirstPass, passed-test, verdict-from, all-passed, is-passed}
@@ -24,7 +24,9 @@ use Rattle.fixing.proofs.VerdictLaws.{input-range}
 use Rattle.settlement.specs.Amount.{billingInRange}
 use Rattle.settlement.specs.Settlement.{positionsInRange}
 use Rattle.settlement.specs.Month.{moneyAt}
-use Rattle.ledger.specs.Ledger.{anySettled, nextMonth, billedUnder}
+use Rattle.ledger.specs.Calendar.{dayAllowed}
+use Rattle.ledger.specs.Ledger.{anySettled, nextMonth, olderStands}
+use Rattle.ledger.specs.Billed.{billedUnder}
 use Rattle.ledger.specs.Sound.{sound}
 use Rattle.ledger.specs.Turn.{fixingTurn}
 use Rattle.ledger.specs.Fix.{FixingCall, linesWhole, fixingLengths, inForceLength, callLengths, fixingChecks}
@@ -39,6 +41,8 @@ pub record FixingPassed (ledger : Ledger) (call : FixingCall) : Type 0 where
   pub whole : sound ledger ≡ true
   pub lengths : callLengths (ledger .n) call ≡ true
   pub turn : fixingTurn (anySettled ledger) (nextMonth ledger) (call .input .numbers .month) ≡ true
+  pub day : dayAllowed (call .input .numbers .month) (call .input .numbers .day)
+      (olderStands ledger (call .input .numbers .month)) ≡ true
   pub passed : inputVerdict (ledger .n) (call .input) ≡ Passed
 
 pub fixing-passed : (ledger : Ledger) (call : FixingCall) → isPassed (fixingVerdict ledger call) ≡ true →
@@ -47,12 +51,14 @@ unfolding fixingVerdict fixingChecks inputVerdict FirstPass
 fixing-passed ledger call h =
     let passed : verdictOf (fixingChecks ledger call) ≡ Passed = is-passed (fixingVerdict ledger call) h in
     let all = all-passed (fixingChecks ledger call) passed in
-    let three : FirstPass 3 (fixingChecks ledger call) = (all .0, (all .1 .0, (all .1 .1 .0, tt))) in
+    let later = all .1 .1 .1 in
+    let four : FirstPass 4 (fixingChecks ledger call) = (all .0, (all .1 .0, (all .1 .1 .0, (later .0, tt)))) in
     record {
       whole = passed-test Unsound _ (all .0);
       lengths = passed-test WrongLength _ (all .1 .0);
       turn = passed-test OutOfTurn _ (all .1 .1 .0);
-      passed = sym (verdict-from 3 (fixingChecks ledger call) three) ∙ passed;
+      day = passed-test WrongDay _ (later .0);
+      passed = sym (verdict-from 4 (fixingChecks ledger call) four) ∙ passed;
     }
 
 -- the lengths, list by list
@@ -98,7 +104,8 @@ passed-range n call p q h v = input-range n (call .input) v (right-lengths n cal
 -- a settlement
 pub record SettlementPassed (ledger : Ledger) (call : SettlementCall) : Type 0 where
   pub due : Due ledger call
-  pub billed : billingInRange (ledger .n) (billedUnder ledger .present) (call .readings) (call .losses) ≡ true
+  pub billed : billingInRange (ledger .n) (billedUnder ledger (call .month) .present) (call .readings) (call .losses)
+      ≡ true
   pub within : positionsInRange (ledger .n) (moneyAt (positionsOf ledger call)) ≡ true
 
 pub settlement-passed : (ledger : Ledger) (call : SettlementCall) → isPassed (settlementVerdict ledger call) ≡ true →

@@ -7,13 +7,16 @@ use Rattle.ledger.specs.Example.{plainLine, plainSeries, plainNumbers, p
 use Rattle.ledger.specs.Example.{firstBilling, secondBilling, firstLedger}
 use Rattle.ledger.specs.Fix.{linesWhole, fixingLengths, inForceLength, fixingChecks, fixingVerdict}
 use Rattle.ledger.specs.Fix.{acceptedAnswer, fixingAnswer, fixingLedger, priceWord, priceList, fixingList}
-use Rattle.ledger.specs.Ledger.{noBalances, emptyLedger, anySettled, nextMonth, billedUnder, fixedLedger}
-use Rattle.ledger.specs.Ledger.{raisedCounts, settledLedger, joinedLedger, openingChecks, openingVerdict}
-use Rattle.ledger.specs.Ledger.{openingLedger}
+use Rattle.ledger.specs.Calendar.{isLeapYear, daysOf, dayAllowed}
+use Rattle.ledger.specs.Billed.{splitCharge, eitherPresent, splitCharges, isSplit, chargesFor, billedUnder}
+use Rattle.ledger.specs.Ledger.{noBalances, emptyLedger, anySettled, nextMonth, makesOlder, staysOlder}
+use Rattle.ledger.specs.Ledger.{olderStands, olderBeside, fixedLedger, raisedCounts, settledLedger}
+use Rattle.ledger.specs.Ledger.{joinedLedger, openingChecks, openingVerdict, openingLedger}
 use Rattle.ledger.specs.Settle.{settlementLengths, positionsOf, settlementChecks, settlementVerdict}
 use Rattle.ledger.specs.Settle.{settlementLedger, settlementList}
 use Rattle.ledger.specs.Join.{joinChecks, joinVerdict, joinLedger}
-use Rattle.ledger.specs.Sound.{placesHeld, placeTest, placeSound, forceSound, unsetZero, monthsSound}
+use Rattle.ledger.specs.Sound.{placesHeld, placeTest, placeSound, forceSound, olderSound, daySound}
+use Rattle.ledger.specs.Sound.{fixingsSound, unsetZero, monthsSound}
 use Rattle.ledger.specs.Sound.{countTest, countsSound, balanceTest, balanceSound, eachBalance}
 use Rattle.ledger.specs.Sound.{balancesSound, sound}
 use Rattle.ledger.specs.Turn.{fixingTurn, settlementTurn}
@@ -21,9 +24,11 @@ use Rattle.ledger.specs.Turn.{fixingTurn, settlementTurn}
 unfoldable pub ledgerComputed : ℕ
 unfolding fixingComputed settlementComputed plainLine plainSeries plainNumbers plainCall printCall printLedger
     firstBilling secondBilling firstLedger linesWhole fixingLengths inForceLength fixingChecks fixingVerdict
-    acceptedAnswer fixingAnswer fixingLedger priceWord priceList fixingList noBalances emptyLedger anySettled nextMonth
-    billedUnder fixedLedger raisedCounts settledLedger joinedLedger openingChecks openingVerdict openingLedger
+    acceptedAnswer fixingAnswer fixingLedger priceWord priceList fixingList isLeapYear daysOf dayAllowed splitCharge
+    eitherPresent splitCharges isSplit chargesFor billedUnder noBalances emptyLedger anySettled nextMonth makesOlder
+    staysOlder olderStands olderBeside fixedLedger raisedCounts settledLedger joinedLedger openingChecks openingVerdict openingLedger
     settlementLengths positionsOf settlementChecks settlementVerdict settlementLedger settlementList joinChecks
-    joinVerdict joinLedger placesHeld placeTest placeSound forceSound unsetZero monthsSound countTest countsSound
+    joinVerdict joinLedger placesHeld placeTest placeSound forceSound olderSound daySound fixingsSound unsetZero
+    monthsSound countTest countsSound
     balanceTest balanceSound eachBalance balancesSound sound fixingTurn settlementTurn
 ledgerComputed = 0

@@ -9,7 +9,7 @@ use borrow.Author.Tests.{eqb-true, lt-ltb}
 use Rattle.numbers.specs.Refusal.{verdictAnswered, isPassed}
 use Rattle.numbers.specs.Checks.{verdictOf, answeredBy}
 use Rattle.numbers.specs.declared.refusal.Refusal.{Refusal}
-use Rattle.numbers.specs.declared.refusal.Refusal.the-variants.{Unsound, WrongLength, OutOfTurn}
+use Rattle.numbers.specs.declared.refusal.Refusal.the-variants.{Unsound, WrongLength, OutOfTurn, WrongDay}
 use Rattle.numbers.specs.declared.refusal.Verdict.{Verdict}
 use Rattle.numbers.specs.declared.refusal.Verdict.the-variants.{Passed, Refused}
 use Rattle.numbers.proofs.CheckLaws.{FirstPass, AllTold, check-told, verdict-told, verdict-from}
@@ -20,7 +20,8 @@ use Rattle.fixing.specs.Fixing.{acceptedFixing, fixingOf}
 use Rattle.fixing.specs.declared.fix.Fixing.{Fixing}
 use Rattle.fixing.proofs.LimitLaws.{rounds-few}
 use Rattle.fixing.proofs.VerdictLaws.{verdict-is, input-told, passed-fixing, input-range}
-use Rattle.ledger.specs.Ledger.{anySettled, nextMonth, fixedLedger}
+use Rattle.ledger.specs.Calendar.{dayAllowed}
+use Rattle.ledger.specs.Ledger.{anySettled, nextMonth, olderStands, fixedLedger}
 use Rattle.ledger.specs.Sound.{sound}
 use Rattle.ledger.specs.Turn.{fixingTurn}
 use Rattle.ledger.specs.Fix.{FixingCall, callLengths, fixingChecks, fixingVerdict, acceptedAnswer, answerBy}
@@ -48,7 +49,11 @@ module _ (ledger : Ledger) (call : FixingCall) where
       check-told 3 (callLengths (ledger .n) call) WrongLength refl,
       (
         check-told 4 (fixingTurn (anySettled ledger) (nextMonth ledger) (call .input .numbers .month)) OutOfTurn refl,
-        input-told (ledger .n) (call .input),
+        (
+          check-told 16 (dayAllowed (call .input .numbers .month) (call .input .numbers .day)
+              (olderStands ledger (call .input .numbers .month))) WrongDay refl,
+          input-told (ledger .n) (call .input),
+        ),
       ),
     ),
   )
@@ -91,13 +96,13 @@ module _ (ledger : Ledger) (call : FixingCall) where
         powerListed = rw v;
       }
 
-  module _ (first : FirstPass 3 (fixingChecks ledger call)) (fixing : Fixing)
+  module _ (first : FirstPass 4 (fixingChecks ledger call)) (fixing : Fixing)
       (e : fixing ≡ fixingOf (ledger .n) (call .input)) where
     -- where the ledger's checks are passed, the input's verdict is the call's
     pub verdict-left : verdictOf (fixingChecks ledger call) ≡ fixing .verdict
     unfolding fixingChecks inputVerdict
     verdict-left =
-        verdict-from 3 (fixingChecks ledger call) first
+        verdict-from 4 (fixingChecks ledger call) first
         ∙ sym (ap (λ (f : Fixing). f .verdict) e ∙ verdict-is (ledger .n) (call .input))
 
     pub input-passes : fixing .verdict ≡ Passed → inputVerdict (ledger .n) (call .input) ≡ Passed
@@ -107,7 +112,7 @@ module _ (ledger : Ledger) (call : FixingCall) where
     pub fixed-accepted : RightLengths (ledger .n) (call .input) → fixing .verdict ≡ Passed →
         (r : FixingOutcome) (list : List ℤ) (power : List ℕ) → r ≡ record {
           answer = acceptedAnswer (fixing .prices);
-          ledger = fixedLedger ledger (call .input .numbers .month) (fixing .sectors);
+          ledger = fixedLedger ledger (call .input .numbers) (fixing .sectors);
         } →
         list ≡ priceList (ledger .n) fixing → power ≡ averagePowerList (ledger .n) fixing →
         FixingPromise ledger call (r .answer) (r .ledger) list power
@@ -131,7 +136,7 @@ module _ (ledger : Ledger) (call : FixingCall) where
               (rounds-few d (input-range (ledger .n) (call .input) passed right));
           booked =
               ap (λ (x : FixingOutcome). x .ledger) o
-              ∙ ap (λ (f : Fixing). fixedLedger ledger (call .input .numbers .month) (f .sectors)) e ∙ rw v;
+              ∙ ap (λ (f : Fixing). fixedLedger ledger (call .input .numbers) (f .sectors)) e ∙ rw v;
           listed = l ∙ ap (priceList (ledger .n)) e ∙ rw v;
           powerListed = w ∙ ap (averagePowerList (ledger .n)) e ∙ rw v;
         }

@@ -7,7 +7,7 @@ use Prim.Native.Nat.{ℕ, _+_, _*_, _/_, _≤_, _<_}
 use native.Mathlib.Omega.{arith}
 use native.Mathlib.Nat.{mul-zero}
 use native.Mathlib.Decide.{decLt}
-use lib.Dec.{leb, eqb}
+use lib.Dec.{leb, ltb, eqb}
 use lib.ListN.{getD-replicate}
 use lib.IntN.{ℤ, pos, natAbs, _+ℤ_, _*ℤ_}
 use borrow.Author.Tests.{leb-true, eqb-true, not-false}
@@ -17,16 +17,16 @@ use Rattle.numbers.specs.Refusal.{isPassed}
 use Rattle.numbers.specs.Rounding.{halfUp}
 use Rattle.numbers.specs.Sizes.{mostDistributors, sectorCount, sectorPlaces}
 use Rattle.numbers.proofs.BoolLaws.{and-left, and-right, or-else}
-use Rattle.numbers.proofs.ListLaws.{filled-at, filled-past}
 use Rattle.numbers.proofs.RoundingLaws.{away-size}
 use Rattle.numbers.proofs.SignedLaws.{zero-size, size-mul, signed-sum-add, signed-sum-same, sum-wide}
 use Rattle.series.specs.Series.{lastMonth}
 use Rattle.fixing.specs.Limit.{Distributors, InRange, charge}
-use Rattle.fixing.specs.Sector.{mostFactor, factorAt, sectorPresent, sectorCharge, chargedPlaces, sectorCharges}
+use Rattle.fixing.specs.Sector.{mostFactor, factorAt, sectorPresent, sectorCharge, placeCharge, sectorCharges}
 use Rattle.fixing.specs.Sector.{noCharges}
 use Rattle.fixing.specs.Input.{inputDistributors}
 use Rattle.fixing.specs.Fixing.{acceptedFixing, fixingOf}
 use Rattle.fixing.specs.declared.fix.Fixing.{Fixing}
+use Rattle.fixing.specs.declared.sector.SectorCharges.{SectorCharges}
 use Rattle.fixing.proofs.LimitLaws.{charge-size, sector-size}
 use Rattle.fixing.proofs.SectorLaws.{allowed-factor}
 use Rattle.fixing.proofs.VerdictLaws.{passed-fixing, passed-sectors}
@@ -35,41 +35,24 @@ use Rattle.settlement.specs.Settlement.{positionOf, newBalance, oneSign}
 use Rattle.settlement.specs.Month.{moneyAt, moneyBelow, positionList, settledMonth}
 use Rattle.settlement.proofs.SettlementLaws.{balances-sign, balances-total}
 use Rattle.settlement.proofs.MonthLaws.{money-at, positions-within, balances-within}
-use Rattle.ledger.specs.Ledger.{countAt, anySettled, nextMonth, billedUnder, noBalances, emptyLedger}
-use Rattle.ledger.specs.Ledger.{fixedLedger, raisedCounts, settledLedger, joinedLedger}
-use Rattle.ledger.specs.Sound.{presentIn, chargeIn, placesHeld, sound}
+use Rattle.ledger.specs.Ledger.{presentIn, chargeIn, countAt, anySettled, nextMonth, noBalances, emptyLedger}
+use Rattle.ledger.specs.Ledger.{makesOlder, staysOlder, olderStands, olderBeside, fixedLedger, raisedCounts}
+use Rattle.ledger.specs.Ledger.{settledLedger, joinedLedger}
+use Rattle.ledger.specs.Billed.{billedUnder}
+use Rattle.ledger.specs.Sound.{placesHeld, daySound, sound}
 use Rattle.ledger.specs.Turn.{fixingTurn, settlementTurn}
 use Rattle.ledger.specs.Fix.{FixingCall, fixingVerdict, fixingLedger}
 use Rattle.ledger.specs.Settle.{SettlementCall, settlementVerdict, settlementLedger, positionsOf}
 use Rattle.ledger.specs.Join.{joinVerdict, joinLedger}
 use Rattle.ledger.specs.declared.ledger.Ledger.{Ledger}
-use Rattle.ledger.proofs.SoundFacts.{PlaceFacts, CountFacts, BalanceFacts, sound-facts, sound-test}
+use Rattle.ledger.proofs.PlaceLaws.{present-at, charge-at, present-past, charge-past, nothing-at}
+use Rattle.ledger.proofs.SoundFacts.{PlaceFacts, PlacesFacts, FixingsFacts, CountFacts, BalanceFacts}
+use Rattle.ledger.proofs.SoundFacts.{sound-facts, sound-test}
 use Rattle.ledger.proofs.SoundLaws.{raised-at, raised-past, none-settled, opened-settled, month-settled}
 use Rattle.ledger.proofs.SoundLaws.{balance-past, counts-held, balances-held}
 use Rattle.ledger.proofs.MoneyLaws.{money-past, money-sum, money-sign}
 use Rattle.ledger.proofs.CallLaws.{FixingPassed, fixing-passed, passed-range, SettlementPassed}
 use Rattle.ledger.proofs.CallLaws.{settlement-passed, join-passed}
-
--- the places of charged sectors: those of the first k hold presence and charge, the others nothing
-module _ (k : ℕ) (charge : ℕ → ℤ) (sectors : List ℕ) (j : ℕ) (p : j < sectorPlaces) where
-  present-at : j < k → presentIn (chargedPlaces k charge sectors) j ≡ sectorPresent sectors j
-  unfolding chargedPlaces
-  present-at q = filled-at sectorPlaces false (sectorPresent sectors) k j q p
-
-  charge-at : j < k →
-      chargeIn (chargedPlaces k charge sectors) j ≡ sectorCharge (charge (j / sectorCount)) (factorAt sectors j)
-  unfolding chargedPlaces
-  charge-at q =
-      filled-at sectorPlaces (pos 0) (λ i. sectorCharge (charge (i / sectorCount)) (factorAt sectors i)) k j q p
-
-  present-past : k ≤ j → presentIn (chargedPlaces k charge sectors) j ≡ false
-  unfolding chargedPlaces
-  present-past q = filled-past sectorPlaces false (sectorPresent sectors) k j q p
-
-  charge-past : k ≤ j → chargeIn (chargedPlaces k charge sectors) j ≡ pos 0
-  unfolding chargedPlaces
-  charge-past q =
-      filled-past sectorPlaces (pos 0) (λ i. sectorCharge (charge (i / sectorCount)) (factorAt sectors i)) k j q p
 
 -- a place with nothing in it is sound
 empty-place : (held : ℕ) (present : Bool) (z : ℤ) (k : ℕ) → present ≡ false → z ≡ pos 0 → PlaceFacts held present z k
@@ -81,9 +64,20 @@ no-count n last count i h = record { past = λ p. h; few = omega (arith, h) }
 no-balance : (count : ℕ) (z : ℤ) → z ≡ pos 0 → BalanceFacts count z
 no-balance count z h = record { uncounted = λ p. h; within = rw h (omega arith) }
 
-nothing-at : (k : ℕ) → k < sectorPlaces → (presentIn noCharges k ≡ false) × (chargeIn noCharges k ≡ pos 0)
-unfolding noCharges
-nothing-at k p = (present-past 0 _ _ k p (omega arith), charge-past 0 _ _ k p (omega arith))
+no-places : (held : ℕ) → PlacesFacts held noCharges
+no-places held k p = empty-place held _ _ k (nothing-at k p .0) (nothing-at k p .1)
+
+-- with nothing fixed the fixings are sound
+nothing-fixed : (ledger : Ledger) → ledger .fixed ≡ false → ledger .«has_older» ≡ false → ledger .day ≡ 0 →
+    ledger .force ≡ noCharges → ledger .older ≡ noCharges → FixingsFacts ledger
+unfolding daySound
+nothing-fixed ledger f o d e g =
+    record {
+      force = rw e (no-places _);
+      older = rw g (no-places _);
+      beside = λ t. absurd (true≢false (sym t ∙ o));
+      day = rw (f, d);
+    }
 
 none-sign : (f : ℕ → ℤ) → oneSign 0 f ≡ true
 unfolding oneSign anyBelow
@@ -96,7 +90,7 @@ opened-sound n p q =
     (record {
       some = p;
       few = q;
-      place = λ k r. empty-place (placesHeld n false) _ _ k (nothing-at k r .0) (nothing-at k r .1);
+      fixings = nothing-fixed (emptyLedger n) refl refl refl refl refl;
       unset = record { unfixed = λ e. refl; unsettled = λ e. refl };
       month =
           record {
@@ -117,23 +111,25 @@ sector-none z f e =
     (rw (away-size (z *ℤ pos f) 10000, size-mul z (pos f), e, mul-zero (natAbs z)))
 
 -- an accepted fixing's sectors
-charged-place : (n : ℕ) (d : Distributors) (sectors : List ℕ) → n ≤ mostDistributors →
+charged-places : (n : ℕ) (d : Distributors) (sectors : List ℕ) → n ≤ mostDistributors →
     ((i : ℕ) → i < n → natAbs (charge d i) ≤ 2000000) →
-    ((k : ℕ) → k < n * sectorCount → factorAt sectors k ≤ mostFactor) → (k : ℕ) → k < sectorPlaces →
-    PlaceFacts (placesHeld n true) (presentIn (sectorCharges n (charge d) sectors) k)
-    (chargeIn (sectorCharges n (charge d) sectors) k) k
-unfolding placesHeld sectorCharges sectorPresent
-charged-place n d sectors few size factor k p = go (decLt k (n * sectorCount))
+    ((k : ℕ) → k < n * sectorCount → factorAt sectors k ≤ mostFactor) →
+    PlacesFacts (placesHeld n true) (sectorCharges n (charge d) sectors)
+unfolding placesHeld sectorCharges sectorPresent placeCharge
+charged-places n d sectors few size factor k p = go (decLt k (n * sectorCount))
   where
     go : Dec (k < n * sectorCount) →
         PlaceFacts (n * sectorCount) (presentIn (sectorCharges n (charge d) sectors) k)
         (chargeIn (sectorCharges n (charge d) sectors) k) k
     go (no q) =
         empty-place (n * sectorCount) _ _ k
-        (present-past (n * sectorCount) (charge d) sectors k p (omega arith))
-        (charge-past (n * sectorCount) (charge d) sectors k p (omega arith))
+        (present-past (n * sectorCount) (sectorPresent sectors) (placeCharge (charge d) sectors) k p (omega arith))
+        (charge-past (n * sectorCount) (sectorPresent sectors) (placeCharge (charge d) sectors) k p (omega arith))
     go (yes q) =
-        rw (present-at (n * sectorCount) (charge d) sectors k p q, charge-at (n * sectorCount) (charge d) sectors k p q)
+        rw (
+          present-at (n * sectorCount) (sectorPresent sectors) (placeCharge (charge d) sectors) k p q,
+          charge-at (n * sectorCount) (sectorPresent sectors) (placeCharge (charge d) sectors) k p q,
+        )
         (record {
           past = λ r. absurd (omega arith);
           absent =
@@ -146,6 +142,18 @@ charged-place n d sectors few size factor k p = go (decLt k (n * sectorCount))
                     (size (k / sectorCount) (omega arith)) (factor k q),
               );
         })
+
+-- the older fixing that stands beside a new one was in force, or older, before
+older-kept : (ledger : Ledger) (month : ℕ) → FixingsFacts ledger →
+    PlacesFacts (placesHeld (ledger .n) (olderStands ledger month)) (olderBeside ledger month)
+unfolding olderStands olderBeside makesOlder staysOlder
+older-kept ledger month g = go (makesOlder ledger month) refl (staysOlder ledger month) refl
+  where
+    go : (b : Bool) → makesOlder ledger month ≡ b → (c : Bool) → staysOlder ledger month ≡ c →
+        PlacesFacts (placesHeld (ledger .n) (b || c)) (cond b (ledger .force) (cond c (ledger .older) noCharges))
+    go true e c s = rw (and-left (ledger .fixed) (ltb (ledger .month) month) e) at (g .force)
+    go false e true s = rw (and-left (ledger .«has_older») (eqb month (ledger .month)) s) at (g .older)
+    go false e false s = no-places _
 
 -- what a fixing's turn says
 module _ (settled : Bool) (next month : ℕ) (h : fixingTurn settled next month ≡ true) where
@@ -161,14 +169,16 @@ module _ (settled : Bool) (next month : ℕ) (h : fixingTurn settled next month 
       (ap not e))
 
 pub fixing-keeps : (ledger : Ledger) (call : FixingCall) → sound ledger ≡ true → sound (fixingLedger ledger call) ≡ true
-unfolding fixingLedger fixedLedger acceptedFixing inputDistributors anySettled nextMonth
+unfolding fixingLedger fixedLedger acceptedFixing inputDistributors anySettled nextMonth daySound
 fixing-keeps ledger call h = go (isPassed (fixingVerdict ledger call)) refl
   where
     d : Distributors
     d = inputDistributors (ledger .n) (call .input)
 
-    accepted : FixingPassed ledger call →
-        sound (fixedLedger ledger (call .input .numbers .month) (fixingOf (ledger .n) (call .input) .sectors)) ≡ true
+    booked : SectorCharges → Ledger
+    booked force = fixedLedger ledger (call .input .numbers) force
+
+    accepted : FixingPassed ledger call → sound (booked (fixingOf (ledger .n) (call .input) .sectors)) ≡ true
     accepted f =
         let g = sound-facts ledger h in
         let r : InRange d = passed-range (ledger .n) call (g .some) (g .few) (f .lengths) (f .passed) in
@@ -176,15 +186,20 @@ fixing-keeps ledger call h = go (isPassed (fixingVerdict ledger call)) refl
         (call .input .sectors) =
         ap (λ (x : Fixing). x .sectors) (passed-fixing (ledger .n) (call .input) (f .passed)) in
         rw e
-        (sound-test (fixedLedger ledger (call .input .numbers .month)
-        (sectorCharges (ledger .n) (charge d) (call .input .sectors)))
+        (sound-test (booked (sectorCharges (ledger .n) (charge d) (call .input .sectors)))
         (record {
           some = g .some;
           few = g .few;
-          place =
-              charged-place (ledger .n) d (call .input .sectors) (g .few) (charge-size d r)
-              (allowed-factor (ledger .n) (call .input .sectors)
-              (passed-sectors (ledger .n) (call .input) (f .passed)));
+          fixings =
+              record {
+                force =
+                    charged-places (ledger .n) d (call .input .sectors) (g .few) (charge-size d r)
+                    (allowed-factor (ledger .n) (call .input .sectors)
+                    (passed-sectors (ledger .n) (call .input) (f .passed)));
+                older = older-kept ledger (call .input .numbers .month) (g .fixings);
+                beside = λ t. refl;
+                day = f .day;
+              };
           unset =
               record {
                 unfixed = λ t. absurd (true≢false t);
@@ -207,8 +222,7 @@ fixing-keeps ledger call h = go (isPassed (fixingVerdict ledger call)) refl
         }))
 
     go : (b : Bool) → isPassed (fixingVerdict ledger call) ≡ b →
-        sound (cond b (fixedLedger ledger (call .input .numbers .month) (fixingOf (ledger .n) (call .input) .sectors))
-        ledger) ≡ true
+        sound (cond b (booked (fixingOf (ledger .n) (call .input) .sectors)) ledger) ≡ true
     go true e = accepted (fixing-passed ledger call e)
     go false e = h
 
@@ -217,11 +231,11 @@ pub settlement-adds : (ledger : Ledger) (call : SettlementCall) → sound ledger
     isPassed (settlementVerdict ledger call) ≡ true →
     signedSumBelow mostDistributors (moneyAt (settlementLedger ledger call .balances)) ≡ signedSumBelow mostDistributors
     (moneyAt (ledger .balances)) +ℤ signedSumBelow (ledger .n)
-    (collectedAmount (billedUnder ledger .charges) (call .readings) (call .losses))
+    (collectedAmount (billedUnder ledger (call .month) .charges) (call .readings) (call .losses))
 unfolding settlementLedger settledLedger settledMonth positionsOf positionList positionOf
 settlement-adds ledger call h e =
     let g = sound-facts ledger h in
-    let amount : ℕ → ℤ = collectedAmount (billedUnder ledger .charges) (call .readings) (call .losses) in
+    let amount : ℕ → ℤ = collectedAmount (billedUnder ledger (call .month) .charges) (call .readings) (call .losses) in
     let position : ℕ → ℤ = λ i. moneyAt (ledger .balances) i +ℤ amount i in
     let held : ℕ → ℤ = moneyAt (moneyBelow (ledger .n) position) in
     rw e
@@ -309,7 +323,13 @@ settlement-keeps ledger call h = go (isPassed (settlementVerdict ledger call)) r
         (record {
           some = g .some;
           few = g .few;
-          place = g .place;
+          fixings =
+              record {
+                force = g .fixings .force;
+                older = g .fixings .older;
+                beside = g .fixings .beside;
+                day = g .fixings .day;
+              };
           unset =
               record {
                 unfixed = g .unset .unfixed;
@@ -345,7 +365,7 @@ join-keeps ledger h = go (isPassed (joinVerdict ledger)) refl
         (record {
           some = omega arith;
           few = omega (arith, p);
-          place = λ k r. empty-place (placesHeld (ledger .n + 1) false) _ _ k (nothing-at k r .0) (nothing-at k r .1);
+          fixings = nothing-fixed _ refl refl refl refl refl;
           unset = record { unfixed = λ e. refl; unsettled = g .unset .unsettled };
           month = record { lastMost = g .month .lastMost; monthMost = omega arith; due = λ e. omega arith };
           count = λ i r. record { past = λ q. g .count i r .past (omega arith); few = g .count i r .few };

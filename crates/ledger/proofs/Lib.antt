@@ -1,5 +1,8 @@
 pub mod AnswerLaws
+pub mod CalendarLaws
+pub mod PlaceLaws
 pub mod SoundLaws
+pub mod BilledLaws
 pub mod PassedLaws
 pub mod OpenLaws
 pub mod FixLaws

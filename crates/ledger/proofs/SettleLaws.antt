@@ -18,13 +18,15 @@ use Rattle.numbers.specs.declared.units.Pesos.{Pesos}
 use Rattle.numbers.proofs.BoolLaws.{and-three}
 use Rattle.numbers.proofs.CheckLaws.{FirstPass, AllTold, passes, check-told, verdict-from, verdict-passed}
 use Rattle.numbers.proofs.CheckLaws.{refused-unless, judged}
+use Rattle.fixing.specs.declared.sector.SectorCharges.{SectorCharges}
 use Rattle.settlement.specs.Amount.{billingInRange}
 use Rattle.settlement.specs.Required.{BillingLists, Billed}
 use Rattle.settlement.specs.Settlement.{positionsInRange}
 use Rattle.settlement.specs.Month.{moneyAt, settledMonth}
 use Rattle.settlement.specs.declared.month.SettledMonth.{SettledMonth}
 use Rattle.settlement.proofs.AmountLaws.{billing-facts}
-use Rattle.ledger.specs.Ledger.{anySettled, nextMonth, billedUnder, settledLedger}
+use Rattle.ledger.specs.Ledger.{anySettled, nextMonth, settledLedger}
+use Rattle.ledger.specs.Billed.{billedUnder}
 use Rattle.ledger.specs.Sound.{sound}
 use Rattle.ledger.specs.Turn.{settlementTurn}
 use Rattle.ledger.specs.Settle.{SettlementCall, settlementLengths, billingLengths, positionsOf, settlementChecks}
@@ -32,7 +34,8 @@ use Rattle.ledger.specs.Settle.{settlementVerdict, settlementLedger, set
 use Rattle.ledger.specs.Required.{Due}
 use Rattle.ledger.specs.declared.ledger.Ledger.{Ledger}
 use Rattle.ledger.specs.declared.ledger.Outcome.{Outcome}
-use Rattle.ledger.proofs.SoundLaws.{sound-few, sound-charges}
+use Rattle.ledger.proofs.SoundLaws.{sound-few}
+use Rattle.ledger.proofs.BilledLaws.{sound-charges}
 
 module _ (ledger : Ledger) (call : SettlementCall) where
   -- every verdict has the number and values of the checks
@@ -48,8 +51,8 @@ module _ (ledger : Ledger) (call : SettlementCall) where
         (
           check-told 5 (ledger .fixed) NoFixing refl,
           (
-            check-told 12 (billingInRange (ledger .n) (billedUnder ledger .present) (call .readings) (call .losses))
-                WrongReading refl,
+            check-told 12 (billingInRange (ledger .n) (billedUnder ledger (call .month) .present) (call .readings)
+                (call .losses)) WrongReading refl,
             (check-told 13 (positionsInRange (ledger .n) (moneyAt (positionsOf ledger call))) PositionBeyond refl, tt),
           ),
         ),
@@ -100,18 +103,21 @@ module _ (ledger : Ledger) (call : SettlementCall) where
       (passes WrongLength (due .lengths), (passes OutOfTurn (due .turn), (passes NoFixing (due .inForce), tt))),
     )
 
-    module _ (billed : billingInRange (ledger .n) (billedUnder ledger .present) (call .readings) (call .losses) ≡ true)
+    abbrev under : SectorCharges
+    under = billedUnder ledger (call .month)
+
+    module _ (billed : billingInRange (ledger .n) (under .present) (call .readings) (call .losses) ≡ true)
       where
-        pub billed-due : Billed (ledger .n) (billedUnder ledger .charges) (call .readings) (call .losses)
+        pub billed-due : Billed (ledger .n) (under .charges) (call .readings) (call .losses)
         billed-due =
             record {
               billed =
                   record {
                     lists = lists-due;
                     facts =
-                        billing-facts (ledger .n) (billedUnder ledger .present) (call .readings) (call .losses) billed;
+                        billing-facts (ledger .n) (under .present) (call .readings) (call .losses) billed;
                   };
-              bounded = sound-charges ledger (due .whole);
+              bounded = sound-charges ledger (due .whole) (call .month);
             }
 
         pub first-billed : FirstPass 5 (settlementChecks ledger call)

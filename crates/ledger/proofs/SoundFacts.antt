@@ -17,9 +17,10 @@ use Rattle.series.specs.Series.{lastMonth}
 use Rattle.settlement.specs.Amount.{mostCharge}
 use Rattle.settlement.specs.Settlement.{mostPosition, oneSign}
 use Rattle.settlement.specs.Month.{moneyAt}
-use Rattle.ledger.specs.Ledger.{countAt, anySettled}
-use Rattle.ledger.specs.Sound.{presentIn, chargeIn, placesHeld, placeTest, placeSound, forceSound, unsetZero}
-use Rattle.ledger.specs.Sound.{monthsSound, countTest, countsSound, balanceTest, balanceSound}
+use Rattle.fixing.specs.declared.sector.SectorCharges.{SectorCharges}
+use Rattle.ledger.specs.Ledger.{presentIn, chargeIn, countAt, anySettled}
+use Rattle.ledger.specs.Sound.{placesHeld, placeTest, placeSound, forceSound, olderSound, daySound, fixingsSound}
+use Rattle.ledger.specs.Sound.{unsetZero, monthsSound, countTest, countsSound, balanceTest, balanceSound}
 use Rattle.ledger.specs.Sound.{eachBalance, balancesSound, sound}
 use Rattle.ledger.specs.declared.ledger.Ledger.{Ledger}
 
@@ -71,6 +72,64 @@ module _ (held : ℕ) (charge : ℤ) (k : ℕ) where
       go true e = refl
       go false e = absurd (true≢false (f .past (ltb-false k held e)))
   place-test false f = rw (f .absent refl)
+
+-- all places of a fixing kept
+abbrev pub PlacesFacts : ℕ → SectorCharges → Type 0
+PlacesFacts held force = (k : ℕ) → k < sectorPlaces → PlaceFacts held (presentIn force k) (chargeIn force k) k
+
+module _ (held : ℕ) (force : SectorCharges) where
+  force-facts : forceSound held force ≡ true → PlacesFacts held force
+  unfolding forceSound placeSound
+  force-facts h k q =
+      place-facts held (chargeIn force k) k (presentIn force k) (all-at sectorPlaces (placeSound held force) h k q)
+
+  force-test : PlacesFacts held force → forceSound held force ≡ true
+  unfolding forceSound placeSound
+  force-test f =
+      all-of sectorPlaces (placeSound held force)
+      (λ k q. place-test held (chargeIn force k) k (presentIn force k) (f k q))
+
+-- the fixing in force, the older one, and the first day
+pub record FixingsFacts (ledger : Ledger) : Type 0 where
+  pub force : PlacesFacts (placesHeld (ledger .n) (ledger .fixed)) (ledger .force)
+  pub older : PlacesFacts (placesHeld (ledger .n) (ledger .«has_older»)) (ledger .older)
+  pub beside : ledger .«has_older» ≡ true → ledger .fixed ≡ true
+  pub day : daySound (ledger .fixed) (ledger .month) (ledger .day) (ledger .«has_older») ≡ true
+
+module _ (ledger : Ledger) where
+  abbrev inForce : Bool
+  inForce = forceSound (placesHeld (ledger .n) (ledger .fixed)) (ledger .force)
+
+  abbrev olderOne : Bool
+  olderOne = forceSound (placesHeld (ledger .n) (ledger .«has_older»)) (ledger .older)
+
+  abbrev standsBeside : Bool
+  standsBeside = not (ledger .«has_older») || ledger .fixed
+
+  abbrev firstDay : Bool
+  firstDay = daySound (ledger .fixed) (ledger .month) (ledger .day) (ledger .«has_older»)
+
+  fixings-facts : fixingsSound ledger ≡ true → FixingsFacts ledger
+  unfolding fixingsSound olderSound
+  fixings-facts h =
+      let p = and-three inForce (olderOne && standsBeside) firstDay h in
+      record {
+        force = force-facts _ (ledger .force) (p .0);
+        older = force-facts _ (ledger .older) (and-left olderOne standsBeside (p .1));
+        beside =
+            λ e. or-else (not (ledger .«has_older»)) (ledger .fixed) (and-right olderOne standsBeside (p .1))
+            (ap not e);
+        day = p .2;
+      }
+
+  fixings-test : FixingsFacts ledger → fixingsSound ledger ≡ true
+  unfolding fixingsSound olderSound
+  fixings-test f =
+      let older = and-both olderOne standsBeside (force-test _ (ledger .older) (f .older))
+      (or-of (not (ledger .«has_older»)) (ledger .fixed) (λ e. f .beside (not-false (ledger .«has_older») e))) in
+      and-both (inForce && (olderOne && standsBeside)) firstDay
+      (and-both inForce (olderOne && standsBeside) (force-test _ (ledger .force) (f .force)) older)
+      (f .day)
 
 -- what is not set is zero
 pub record UnsetFacts (settled : Bool) (last : ℕ) (fixed : Bool) (month : ℕ) : Type 0 where
@@ -170,8 +229,7 @@ module _ (count : ℕ) (balance : ℤ) where
 pub record SoundFacts (ledger : Ledger) : Type 0 where
   pub some : 1 ≤ ledger .n
   pub few : ledger .n ≤ mostDistributors
-  pub place : (k : ℕ) → k < sectorPlaces →
-      PlaceFacts (placesHeld (ledger .n) (ledger .fixed)) (presentIn (ledger .force) k) (chargeIn (ledger .force) k) k
+  pub fixings : FixingsFacts ledger
   pub unset : UnsetFacts (anySettled ledger) (ledger .last) (ledger .fixed) (ledger .month)
   pub month : MonthFacts (anySettled ledger) (ledger .last) (ledger .month)
   pub count : (i : ℕ) → i < mostDistributors → CountFacts (ledger .n) (ledger .last) (countAt (ledger .counts) i) i
@@ -186,11 +244,8 @@ module _ (ledger : Ledger) where
   abbrev range : Bool
   range = between 1 mostDistributors (ledger .n)
 
-  abbrev held : ℕ
-  held = placesHeld (ledger .n) (ledger .fixed)
-
-  abbrev places : Bool
-  places = forceSound held (ledger .force)
+  abbrev fixings : Bool
+  fixings = fixingsSound ledger
 
   abbrev unset : Bool
   unset = unsetZero settled (ledger .last) (ledger .fixed) (ledger .month)
@@ -208,15 +263,13 @@ module _ (ledger : Ledger) where
   signs = oneSign mostDistributors (moneyAt (ledger .balances))
 
   pub sound-facts : sound ledger ≡ true → SoundFacts ledger
-  unfolding sound forceSound placeSound countsSound balancesSound eachBalance balanceSound
+  unfolding sound countsSound balancesSound eachBalance balanceSound
   sound-facts h =
-      let p = and-six range places unset dates counted (money && signs) h in
+      let p = and-six range fixings unset dates counted (money && signs) h in
       record {
         some = between-low 1 mostDistributors (ledger .n) (p .0);
         few = between-high 1 mostDistributors (ledger .n) (p .0);
-        place = λ k q.
-            place-facts held (chargeIn (ledger .force) k) k (presentIn (ledger .force) k)
-            (all-at sectorPlaces (placeSound held (ledger .force)) (p .1) k q);
+        fixings = fixings-facts ledger (p .1);
         unset = unset-facts settled (ledger .last) (ledger .fixed) (ledger .month) (p .2);
         month = month-facts settled (ledger .last) (ledger .month) (p .3);
         count = λ i q.
@@ -231,19 +284,18 @@ module _ (ledger : Ledger) where
       }
 
   pub sound-test : SoundFacts ledger → sound ledger ≡ true
-  unfolding sound forceSound placeSound countsSound balancesSound eachBalance balanceSound
+  unfolding sound countsSound balancesSound eachBalance balanceSound
   sound-test f =
-      let one = and-both range places (between-yes 1 mostDistributors (ledger .n) (f .some) (f .few))
-      (all-of sectorPlaces (placeSound held (ledger .force))
-      (λ k q. place-test held (chargeIn (ledger .force) k) k (presentIn (ledger .force) k) (f .place k q))) in
-      let two = and-both (range && places) unset one
+      let one = and-both range fixings (between-yes 1 mostDistributors (ledger .n) (f .some) (f .few))
+      (fixings-test ledger (f .fixings)) in
+      let two = and-both (range && fixings) unset one
       (unset-test settled (ledger .last) (ledger .fixed) (ledger .month) (f .unset)) in
-      let three = and-both (range && places && unset) dates two
+      let three = and-both (range && fixings && unset) dates two
       (month-test settled (ledger .last) (ledger .month) (f .month)) in
-      let four = and-both (range && places && unset && dates) counted three
+      let four = and-both (range && fixings && unset && dates) counted three
       (all-of mostDistributors (λ j. countTest (ledger .n) (ledger .last) (countAt (ledger .counts) j) j)
       (λ i q. count-test (ledger .n) (ledger .last) (countAt (ledger .counts) i) i (f .count i q))) in
-      and-both (range && places && unset && dates && counted) (money && signs) four
+      and-both (range && fixings && unset && dates && counted) (money && signs) four
       (and-both money signs
       (all-of mostDistributors (balanceSound (ledger .counts) (ledger .balances))
       (λ i q. balance-test (countAt (ledger .counts) i) (moneyAt (ledger .balances) i) (f .balance i q)))

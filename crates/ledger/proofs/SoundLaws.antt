@@ -1,6 +1,6 @@
 -- Laws of the names that speak of settled months, and what the code uses of a sound ledger. Assumes nothing.
 use mathlib.Core.Path.{_≡_, ap}
-use mathlib.Core.Bool.{Bool, true, false, not}
+use mathlib.Core.Bool.{Bool, true, false, not, _||_}
 use mathlib.Core.List.{List}
 use Prim.Native.Nat.{ℕ, _+_, _*_, _≤_, _<_}
 use native.Mathlib.Omega.{arith}
@@ -9,17 +9,20 @@ use lib.ListN.{set, getD-replicate}
 use lib.IntN.{natAbs, pos}
 use borrow.Author.Tests.{eqb-true, ne-eqb, not-false}
 use Rattle.numbers.specs.Sizes.{mostDistributors, sectorCount}
-use Rattle.numbers.specs.Units.{noMoney}
+use Rattle.numbers.specs.Units.{between, noMoney}
 use Rattle.numbers.specs.declared.units.Pesos.{Pesos}
+use Rattle.numbers.proofs.BoolLaws.{and-left}
 use Rattle.numbers.proofs.TestLaws.{any-none, any-never, any-holds}
+use Rattle.numbers.proofs.UnitLaws.{between-high}
 use Rattle.numbers.proofs.ListLaws.{set-held, filled-at, filled-past}
 use Rattle.series.specs.Series.{lastMonth}
-use Rattle.settlement.specs.Amount.{mostCharge, chargeAt}
+use Rattle.settlement.specs.Amount.{mostCharge}
 use Rattle.settlement.specs.Month.{moneyAt}
 use Rattle.settlement.specs.Required.{MoneyWithin}
-use Rattle.ledger.specs.Ledger.{countAt, anySettled, billedUnder, emptyLedger, raisedCounts, settledLedger}
+use Rattle.ledger.specs.Calendar.{daysOf, dayAllowed}
+use Rattle.ledger.specs.Ledger.{chargeIn, countAt, anySettled, emptyLedger, raisedCounts, settledLedger}
 use Rattle.ledger.specs.Required.{CountsWithin}
-use Rattle.ledger.specs.Sound.{sound}
+use Rattle.ledger.specs.Sound.{daySound, sound}
 use Rattle.ledger.specs.declared.ledger.Ledger.{Ledger}
 use Rattle.ledger.proofs.SoundFacts.{sound-facts}
 
@@ -85,10 +88,24 @@ module _ (ledger : Ledger) (h : sound ledger ≡ true) where
     pub balance-past : moneyAt (ledger .balances) i ≡ pos 0
     balance-past = sound-facts ledger h .balance i q .uncounted count-past
 
-  pub sound-charges : (i s : ℕ) → i < ledger .n → s < sectorCount →
-      natAbs (chargeAt (billedUnder ledger .charges) i s) ≤ mostCharge
-  unfolding billedUnder
-  sound-charges i s p q = sound-facts ledger h .place (i * sectorCount + s) (omega (arith, sound-few)) .within
+  -- the charges kept, and the first day after the month's first
+  module _ (k : ℕ) (p : k < ledger .n * sectorCount) where
+    pub force-within : natAbs (chargeIn (ledger .force) k) ≤ mostCharge
+    force-within = sound-facts ledger h .fixings .force k (omega (arith, sound-few)) .within
+
+    pub older-within : natAbs (chargeIn (ledger .older) k) ≤ mostCharge
+    older-within = sound-facts ledger h .fixings .older k (omega (arith, sound-few)) .within
+
+  pub sound-day : 1 < ledger .day → ledger .day ≤ daysOf (ledger .month)
+  unfolding daySound dayAllowed
+  sound-day p = go (ledger .fixed) (sound-facts ledger h .fixings .day)
+    where
+      go : (b : Bool) → daySound b (ledger .month) (ledger .day) (ledger .«has_older») ≡ true →
+          ledger .day ≤ daysOf (ledger .month)
+      go true e =
+          between-high 1 (daysOf (ledger .month)) (ledger .day)
+          (and-left (between 1 (daysOf (ledger .month)) (ledger .day)) (eqb (ledger .day) 1 || ledger .«has_older») e)
+      go false e = absurd (omega (arith, p, eqb-true (ledger .day) 0 e))
 
   pub sound-balances : MoneyWithin (ledger .n) (ledger .balances)
   sound-balances =

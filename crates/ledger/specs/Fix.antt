@@ -114,9 +114,8 @@ roundsBelow n (answer.Refused refusal) = true
 -- the ledger handed back: a refused one unchanged
 unfoldable pub fixingLedger : Ledger → FixingCall → Ledger
 fixingLedger ledger call =
-    let numbers = call .input .numbers in
     cond (isPassed (fixingVerdict ledger call))
-    (fixedLedger ledger (numbers .month) (numbers .day) (fixingOf (ledger .n) (call .input) .sectors))
+    (fixedLedger ledger (call .input .numbers) (fixingOf (ledger .n) (call .input) .sectors))
     ledger
 
 -- "Fixing writes average, final, charge, distributor by distributor": the three words of one, and word k of the list

@@ -16,6 +16,7 @@ use Rattle.numbers.specs.Units.{between, noMoney}
 use Rattle.numbers.specs.declared.refusal.Refusal.the-variants.{WrongCount}
 use Rattle.numbers.specs.declared.refusal.Verdict.{Verdict}
 use Rattle.numbers.specs.declared.units.Pesos.{Pesos}
+use Rattle.supply.specs.declared.market.FixingNumbers.{FixingNumbers}
 use Rattle.fixing.specs.Sector.{noCharges}
 use Rattle.fixing.specs.declared.sector.SectorCharges.{SectorCharges}
 use Rattle.settlement.specs.Month.{moneyBelow}
@@ -80,17 +81,17 @@ olderBeside ledger month =
     cond (makesOlder ledger month) (ledger .force) (cond (staysOlder ledger month) (ledger .older) noCharges)
 
 -- "The latest fixing is in force": its month, first day, presences and charges replace those before
-unfoldable pub fixedLedger : Ledger → ℕ → ℕ → SectorCharges → Ledger
-fixedLedger ledger month day force =
+unfoldable pub fixedLedger : Ledger → FixingNumbers → SectorCharges → Ledger
+fixedLedger ledger numbers force =
     record {
       n = ledger .n;
       last = ledger .last;
       fixed = true;
-      month = month;
-      day = day;
+      month = numbers .month;
+      day = numbers .day;
       force = force;
-      «has_older» = olderStands ledger month;
-      older = olderBeside ledger month;
+      «has_older» = olderStands ledger (numbers .month);
+      older = olderBeside ledger (numbers .month);
       balances = ledger .balances;
       counts = ledger .counts;
     }

@@ -21,10 +21,8 @@ fn split_charge(days: u64, before: u64, old: i64, new: i64) -> i64
     requires { ⌜ days ≤ mostDays ⌝ ∗ ⌜ before < days ⌝ ∗ ⌜ natAbs old ≤ mostCharge ⌝ ∗ ⌜ natAbs new ≤ mostCharge ⌝ }
     ensures { λ r. ⌜ r ≡ splitCharge days before old new ⌝ }
 {
-    half_away(
-        old * difference(before, 0) + new * difference(days - before, 0),
-        days,
-    )
+    let weighed = old * difference(before, 0) + new * difference(days - before, 0);
+    half_away(weighed, days)
 }
 
 // Presences and charges of the sectors of n distributors, from those of both fixings.
@@ -58,7 +56,7 @@ impl Ledger {
         let force = self.force;
         if (month == self.month) & (1 < self.day) {
             let older = self.older;
-            return split_charges(self.n, days_of(month), self.day - 1, older, force);
+            return split_charges(self.n, days_of(self.month), self.day - 1, older, force);
         }
         force
     }

@@ -67,14 +67,15 @@ struct Request {
 
 impl Ledger {
     // The ledger with a new fixing in force, and the older one that stands beside it.
-    fn book_fixing(mut self, month: u64, day: u64, force: SectorCharges) -> Self
-        ensures { λ r. ⌜ r ≡ fixedLedger self month day force ⌝ }
+    fn book_fixing(mut self, numbers: FixingNumbers, force: SectorCharges) -> Self
+        ensures { λ r. ⌜ r ≡ fixedLedger self numbers force ⌝ }
     {
+        let month = numbers.month;
         let stands = self.older_stands(month);
         let older = self.older_beside(month);
         self.fixed = true;
         self.month = month;
-        self.day = day;
+        self.day = numbers.day;
         self.force = force;
         self.has_older = stands;
         self.older = older;
@@ -211,7 +212,7 @@ fn accept(
         ∗ ⌜ length (now power) ≡ ledger .n ⌝ ∗ ⌜ PricesSmall (fixing .averages) (fixing .prices .finals) ⌝ }
     ensures { λ r. ⌜ r ≡ record {
       answer = acceptedAnswer (fixing .prices);
-      ledger = fixedLedger ledger (numbers .month) (numbers .day) (fixing .sectors);
+      ledger = fixedLedger ledger numbers (fixing .sectors);
     } ⌝
         ∗ ⌜ now (prices .exit) ≡ priceList (ledger .n) fixing ⌝
         ∗ ⌜ now (power .exit) ≡ averagePowerList (ledger .n) fixing ⌝ }
@@ -226,7 +227,7 @@ fn accept(
     write_prices(n, averages, finals, charges, prices);
     write_power(power_averages, power);
     let answer = accepted(fixed);
-    let ledger = ledger.book_fixing(numbers.month, numbers.day, force);
+    let ledger = ledger.book_fixing(numbers, force);
     FixingOutcome { answer, ledger }
 }
 

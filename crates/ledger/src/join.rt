@@ -21,13 +21,14 @@ impl Ledger {
         ensures { λ r. ⌜ r ≡ joinedLedger self ⌝ }
     {
         let n = self.n;
+        let nothing = no_charges();
         self.n = n + 1;
         self.fixed = false;
         self.month = 0;
         self.day = 0;
-        self.force = no_charges();
+        self.force = nothing;
         self.has_older = false;
-        self.older = no_charges();
+        self.older = nothing;
         self.balances[n] = Pesos(0);
         self.counts[n] = 0;
         self

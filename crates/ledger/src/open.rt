@@ -15,8 +15,7 @@ use numbers::units::is_between;
 fn empty(n: usize) -> Ledger
     ensures { λ r. ⌜ r ≡ emptyLedger n ⌝ }
 {
-    let force = no_charges();
-    let older = no_charges();
+    let nothing = no_charges();
     let none = Pesos(0);
     Ledger {
         n,
@@ -24,9 +23,9 @@ fn empty(n: usize) -> Ledger
         fixed: false,
         month: 0,
         day: 0,
-        force,
+        force: nothing,
         has_older: false,
-        older,
+        older: nothing,
         balances: [none; MOST_DISTRIBUTORS],
         counts: [0; MOST_DISTRIBUTORS],
     }

@@ -2,12 +2,13 @@
 use mathlib.Core.Path.{_≡_, refl, _∙_, ap₂}
 use mathlib.Core.Bool.{true, _&&_}
 use borrow.Author.Needs.{needs}
-use Rattle.numbers.specs.declared.refusal.Refusal.the-variants.{Unsound, WrongLength, OutOfTurn}
+use Rattle.numbers.specs.declared.refusal.Refusal.the-variants.{Unsound, WrongLength, OutOfTurn, WrongDay}
 use Rattle.numbers.specs.declared.refusal.Verdict.the-variants.{Passed}
 use Rattle.numbers.proofs.BoolLaws.{told-true, told-false}
 use Rattle.numbers.proofs.CheckLaws.{FirstPass, passes, refused-unless}
 use Rattle.fixing.specs.Required.{RightLengths}
-use Rattle.ledger.specs.Ledger.{anySettled, nextMonth}
+use Rattle.ledger.specs.Calendar.{dayAllowed}
+use Rattle.ledger.specs.Ledger.{anySettled, nextMonth, olderStands}
 use Rattle.ledger.specs.Sound.{sound}
 use Rattle.ledger.specs.Turn.{fixingTurn}
 use Rattle.ledger.specs.Fix.{FixingCall, fixingCallOf, callLengths, fixingChecks}
@@ -71,9 +72,29 @@ module _ (c : tie.Else3) where
   right =
       right-lengths (ledger from .n) (call from) (sound-some _ (whole from)) (sound-few _ (whole from)) (lengths three)
 
-  first : FirstPass 3 (fixingChecks (ledger from) (call from))
+-- the day, by whether an older fixing would stand beside the new one
+module _ (c : tie.After-day-allowed) where
+  abbrev turned : tie.Else3
+  turned = c .before .before
+
+  stands : c .day-allowed .result ≡ dayAllowed (call (from turned) .input .numbers .month)
+      (call (from turned) .input .numbers .day)
+      (olderStands (ledger (from turned)) (call (from turned) .input .numbers .month))
+  stands = rw (c .before .older-stands .ensures) at (c .day-allowed .ensures)
+
+module _ (c : tie.Else4) where
+  abbrev four : tie.Else3
+  four = turned (c .before)
+
+  first : FirstPass 4 (fixingChecks (ledger (from four)) (call (from four)))
   unfolding FirstPass fixingChecks
-  first = (passes Unsound (whole from), (passes WrongLength (lengths three), (passes OutOfTurn turn, tt)))
+  first = (
+    passes Unsound (whole (from four)),
+    (
+      passes WrongLength (lengths (three four)),
+      (passes OutOfTurn (turn four), (passes WrongDay (told-true (stands (c .before)) (c .if4 .left)), tt)),
+    ),
+  )
 
 returns : tie.Need-returns
 unfolding fixingChecks FirstPass
@@ -105,13 +126,26 @@ returns-3 c =
     _ (c .refused3 .ensures)
 
 returns-4 : tie.Need-returns-4
+unfolding fixingChecks FirstPass
 returns-4 c =
+    let t = c .before in
+    let e = turned (t .before) in
+    let s = from e in
+    fixed-refused (ledger s) (call s) WrongDay
+    (refused-unless 3 (fixingChecks (ledger s) (call s)) 16 _ WrongDay _
+    (passes Unsound (whole s), (passes WrongLength (lengths (three e)), (passes OutOfTurn (turn e), tt))) refl
+    (told-false (stands (t .before)) (t .if4 .taken)))
+    _ (c .refused4 .ensures)
+
+returns-5 : tie.Need-returns-5
+returns-5 c =
     let v = c .before .before in
     let g = v .before .before in
-    let e = g .before in
+    let f = g .before in
+    let e = four f in
     fixed-refused (ledger (from e)) (call (from e)) _
-    (verdict-left (ledger (from e)) (call (from e)) (first e) _ (g .fix-input .ensures .worked)
-    ∙ v .verdict .given .1) _ (c .refused4 .ensures)
+    (verdict-left (ledger (from e)) (call (from e)) (first f) _ (g .fix-input .ensures .worked)
+    ∙ v .verdict .given .1) _ (c .refused5 .ensures)
 
 -- an input that passed
 module _ (c : tie.After-enum-told) where
@@ -125,7 +159,8 @@ accept-requires : tie.Need-accept-requires
 accept-requires c κs =
     let t = c .before .before in
     let g = worked t in
-    let e = g .before in
+    let f = g .before in
+    let e = four f in
     let b = ledger (from e) in
     let l = call (from e) in (
       sound-few _ (whole (from e)),
@@ -133,19 +168,20 @@ accept-requires c κs =
         prices-length b l (lengths (three e)),
         (
           power-length b l (lengths (three e)),
-          prices-small _ _ (right e) (input-passes b l (first e) _ (g .fix-input .ensures .worked) (passed t)) _
+          prices-small _ _ (right e) (input-passes b l (first f) _ (g .fix-input .ensures .worked) (passed t)) _
               (g .fix-input .ensures .worked),
         ),
       ),
     )
 
-returns-5 : tie.Need-returns-5
-returns-5 c =
+returns-6 : tie.Need-returns-6
+returns-6 c =
     let a = c .before .before .before in
     let t = a .before .before .before in
     let g = worked t in
-    let e = g .before in
-    fixed-accepted (ledger (from e)) (call (from e)) (first e) _ (g .fix-input .ensures .worked) (right e) (passed t)
+    let f = g .before in
+    let e = four f in
+    fixed-accepted (ledger (from e)) (call (from e)) (first f) _ (g .fix-input .ensures .worked) (right e) (passed t)
     _ _ _ (a .accept .ensures .0) (a .accept .ensures .1 .0) (a .accept .ensures .1 .1)
 
 pub make-fixing-spec : {M : Type 1} → statement M
@@ -160,10 +196,12 @@ make-fixing-spec =
     (λ c κs. search needs) (λ c κs. sound-last _ (whole (two (c .before .before .before)))) (λ c κs. search needs)
     (λ c κs. search needs) (λ c. search needs) (λ c. search needs)
     returns-3
-    (λ c κs. right c)
-    (λ c. search needs) (λ c κs. search needs) (λ c. search needs) (λ c. search needs)
+    (λ c κs. search needs) (λ c κs. search needs) (λ c κs. search needs) (λ c. search needs) (λ c. search needs)
     returns-4
+    (λ c κs. right (four c))
+    (λ c. search needs) (λ c κs. search needs) (λ c. search needs) (λ c. search needs)
+    returns-5
     (λ c. search needs)
     accept-requires
     (λ c. search needs) (λ c. search needs)
-    returns-5)
+    returns-6)

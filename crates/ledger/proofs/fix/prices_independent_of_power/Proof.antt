@@ -34,8 +34,7 @@ module _ (ledger : Ledger) (call : FixingCall) (given : HandedBack) (h : FixingA
   unfolding fixingAnswer
   answered = rw verdict at (h .promise .answered)
 
-  booked : given .ledger ≡ fixedLedger ledger (call .input .numbers .month)
-      (fixingOf (ledger .n) (call .input) .sectors)
+  booked : given .ledger ≡ fixedLedger ledger (call .input .numbers) (fixingOf (ledger .n) (call .input) .sectors)
   unfolding fixingLedger
   booked = rw verdict at (h .promise .booked)
 
@@ -54,8 +53,7 @@ returns c ledger one other same first second p q =
       answer = answered ledger one first p ∙ ap acceptedAnswer (alike .prices) ∙ sym (answered ledger other second q);
       ledger =
           booked ledger one first p
-          ∙ ap₂ (λ (numbers : FixingNumbers) sectors. fixedLedger ledger (numbers .month) sectors) (same .numbers)
-          (alike .sectors)
+          ∙ ap₂ (fixedLedger ledger) (same .numbers) (alike .sectors)
           ∙ sym (booked ledger other second q);
       prices =
           listed ledger one first p

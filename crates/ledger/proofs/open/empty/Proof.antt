@@ -17,7 +17,10 @@ returns c = ap₂ {C = Ledger}
       last = 0;
       fixed = false;
       month = 0;
+      day = 0;
       force = f;
+      «has_older» = false;
+      older = f;
       balances = b;
       counts = noCounts;
     })

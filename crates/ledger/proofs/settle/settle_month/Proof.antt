@@ -9,7 +9,7 @@ use Rattle.settlement.specs.Amount.{billingInRange}
 use Rattle.settlement.specs.Settlement.{positionsInRange}
 use Rattle.settlement.specs.Month.{moneyAt}
 use Rattle.settlement.proofs.MonthLaws.{positions-within}
-use Rattle.ledger.specs.Ledger.{billedUnder}
+use Rattle.ledger.specs.Billed.{billedUnder}
 use Rattle.ledger.specs.Settle.{SettlementCall, settlementCallOf, positionsOf, settlementChecks}
 use Rattle.ledger.specs.declared.ledger.Ledger.{Ledger}
 use Rattle.ledger.proofs.SoundLaws.{sound-few, sound-counts, sound-balances}
@@ -32,12 +32,13 @@ module _ (c : tie.After-present2) where
   abbrev start : tie.Start
   start = c .before .before .before .before .before .before
 
-  under : c .before .before .before .billed-under .result ≡ billedUnder (ledger start)
+  under : c .before .before .before .billed-under .result ≡ billedUnder (ledger start) (start .args .month)
   under = c .before .before .before .billed-under .ensures
 
 tested : (c : tie.After-billing-in-range) →
     c .billing-in-range .result ≡ billingInRange (ledger (start (c .before)) .n)
-    (billedUnder (ledger (start (c .before))) .present) (start (c .before) .args .readings .now)
+    (billedUnder (ledger (start (c .before))) (start (c .before) .args .month) .present)
+    (start (c .before) .args .readings .now)
     (start (c .before) .args .losses .now)
 tested c = rw (under (c .before)) at (c .billing-in-range .ensures)
 
@@ -46,8 +47,8 @@ module _ (c : tie.Else1) where
   abbrev begun : tie.Start
   begun = start (c .before .before)
 
-  billed : billingInRange (ledger begun .n) (billedUnder (ledger begun) .present) (begun .args .readings .now)
-      (begun .args .losses .now) ≡ true
+  billed : billingInRange (ledger begun .n) (billedUnder (ledger begun) (begun .args .month) .present)
+      (begun .args .readings .now) (begun .args .losses .now) ≡ true
   billed = told-true (tested (c .before)) (c .if1 .left)
 
 module _ (c : tie.After-positions) where

@@ -37,25 +37,24 @@ returns-2 : tie.Need-returns-2
 unfolding sound
 returns-2 c = rw (told-false (told (c .before)) (c .if2 .taken), and-false)
 
-places-held-requires : tie.Need-places-held-requires
-places-held-requires c κs =
-    between-high 1 mostDistributors _ (counted (c .before .before .before .before .before .before))
+fixings-sound-requires : tie.Need-fixings-sound-requires
+fixings-sound-requires c κs =
+    between-high 1 mostDistributors _ (counted (c .before .before .before .before .before))
 
 counts-sound-requires : tie.Need-counts-sound-requires
 counts-sound-requires c κs =
-    let e = c .before .before .before .before .before .before in
+    let e = c .before .before .before .before in
     month-facts _ _ (kept (e .before) .month) (dated e) .lastMost
 
 returns-3 : tie.Need-returns-3
 unfolding sound balancesSound
 returns-3 c =
-    let e = c .before .before .before .before .before .before .before .before .before in
+    let e = c .before .before .before .before .before .before .before in
     rw (
       counted (e .before .before .before),
       dated e,
       and-true,
-      c .before .before .before .before .force-sound .ensures,
-      c .before .before .before .before .before .places-held .ensures,
+      c .before .before .before .before .fixings-sound .ensures,
       c .before .before .before .unset-zero .ensures,
       c .before .before .counts-sound .ensures,
       c .before .each-balance-sound .ensures,
@@ -71,8 +70,8 @@ is-sound-spec =
     returns
     (λ c κs. search needs) (λ c κs. search needs)
     returns-2
-    places-held-requires
-    (λ c κs. search needs) (λ c κs. search needs)
+    fixings-sound-requires
+    (λ c κs. search needs)
     counts-sound-requires
     (λ c κs. search needs) (λ c κs. search needs)
     returns-3)
