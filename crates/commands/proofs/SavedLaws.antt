@@ -38,14 +38,15 @@ saving-size ledger =
     let few : keptCount ledger ≤ mostDistributors = kept-most ledger in
     let places : ℕ = keptCount ledger * sectorCount in
     let short : (n : ℕ) (l : List ℕ) → n ≤ 320 → length (take n l) ≤ 320 = λ n l p. rw length-take (omega arith) in
+    let held : (l : List ℕ) → length (take places l) ≤ 320 = λ l. short places l (omega (arith, few)) in
+    let kept : (l : List ℕ) → length (take (keptCount ledger) l) ≤ 320 = λ l. short (keptCount ledger) l
+    (omega (arith, few)) in
     let none : 0 ≤ 320 = omega arith in
     omega (
       arith,
       form-size (bytes "load        ") loadForm (ledgerParts ledger) 320
-          (each-part (λ k. length (heldIn (ledgerParts ledger) k .words) ≤ 320) none none none none
-          (short places _ (omega (arith, few))) (short places _ (omega (arith, few)))
-          (short (keptCount ledger) _ (omega (arith, few))) (short (keptCount ledger) _ (omega (arith, few)))
-          none none none none),
+          (each-part (λ k. length (heldIn (ledgerParts ledger) k .words) ≤ 320) none none none none none none
+          (held _) (held _) (held _) (held _) (kept _) (kept _)),
     )
 
 load-plain : Plain loadName

@@ -42,8 +42,8 @@ unwritten k = listBelow k (λ i. negsuc 0)
 unfoldable pub unwrittenPower : ℕ → List ℕ
 unwrittenPower k = listBelow k (λ i. unwrittenWord)
 
--- "fix MONTH DOLLAR FACTOR FIRST series K .. lines K .. sectors K .. prices K power K": the fixing of these parts, of
--- which an interim one has "inforce K .." before the prices
+-- "fix MONTH DOLLAR FACTOR FIRST DAY series K .. lines K .. sectors K .. prices K power K": the fixing of these parts,
+-- of which an interim one has "inforce K .." before the prices
 unfoldable pub fixingCall : Bool → List Held → FixingCall
 fixingCall isInterim parts =
     fixingCallOf isInterim
@@ -52,9 +52,10 @@ fixingCall isInterim parts =
       dollar = heldIn parts 1 .number;
       «reference_factor» = heldIn parts 2 .number;
       «first_month» = heldIn parts 3 .number;
+      day = heldIn parts 4 .number;
     })
-    (heldIn parts 4 .words) (heldIn parts 5 .words) (heldIn parts 6 .words) (heldIn parts 7 .words)
-    (unwritten (heldIn parts 8 .number)) (unwrittenPower (heldIn parts 9 .number))
+    (heldIn parts 5 .words) (heldIn parts 6 .words) (heldIn parts 7 .words) (heldIn parts 8 .words)
+    (unwritten (heldIn parts 9 .number)) (unwrittenPower (heldIn parts 10 .number))
 
 -- "settle MONTH readings K .. losses K .. transfers K"
 unfoldable pub settlementCall : List Held → SettlementCall

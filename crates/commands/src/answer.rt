@@ -100,7 +100,7 @@ fn call_fixing(
     power: &mut [u64],
 ) -> FixingOutcome
     requires { ⌜ FormHeld (fixingForm «is_interim») parts (length (now words)) ⌝
-        ∗ ⌜ now prices ≡ unwritten (numberOf parts 8) ⌝ ∗ ⌜ now power ≡ unwrittenPower (numberOf parts 9) ⌝ }
+        ∗ ⌜ now prices ≡ unwritten (numberOf parts 9) ⌝ ∗ ⌜ now power ≡ unwrittenPower (numberOf parts 10) ⌝ }
     ensures { λ r. ⌜ FixingPromise ledger (fixingCall «is_interim» (partsIn parts (now (words .entry)))) (r .answer)
         (r .ledger) (now (prices .exit)) (now (power .exit)) ⌝ }
 {
@@ -110,12 +110,13 @@ fn call_fixing(
         dollar: numbers[1],
         reference_factor: numbers[2],
         first_month: numbers[3],
+        day: numbers[4],
     };
-    let series = words_of(parts, words, 4);
-    let lines = words_of(parts, words, 5);
-    let sectors = words_of(parts, words, 6);
+    let series = words_of(parts, words, 5);
+    let lines = words_of(parts, words, 6);
+    let sectors = words_of(parts, words, 7);
     if is_interim {
-        let in_force = words_of(parts, words, 7);
+        let in_force = words_of(parts, words, 8);
         return interim(
             ledger,
             call,
@@ -146,8 +147,8 @@ pub(crate) fn run_fixing(
     let numbers = parts.numbers;
     let mut price_buffer = list_buffer();
     let mut power_buffer = power_buffer();
-    let prices = lent(&mut price_buffer, numbers[8]);
-    let power = lent_power(&mut power_buffer, numbers[9]);
+    let prices = lent(&mut price_buffer, numbers[9]);
+    let power = lent_power(&mut power_buffer, numbers[10]);
     let outcome = call_fixing(is_interim, parts, ledger, words, prices, power);
     let answer = outcome.answer;
     let line = fixing_line(fixing_name(is_interim), answer);

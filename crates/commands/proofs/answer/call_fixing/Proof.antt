@@ -39,8 +39,8 @@ returns-2 c =
     let s = start l in
     rw (
       e .if1 .left,
-      part-none (s .args .words .now) (s .pre .0) 7 (omega arith)
-          (ap (λ b. roomOf (partAt (fixingForm b) 7)) (e .if1 .left)),
+      part-none (s .args .words .now) (s .pre .0) 8 (omega arith)
+          (ap (λ b. roomOf (partAt (fixingForm b) 8)) (e .if1 .left)),
       ← l .before .before .words-of .ensures,
       ← l .before .words-of2 .ensures,
       ← l .words-of3 .ensures,
@@ -53,11 +53,11 @@ pub call-fixing-spec : {M : Type 1} → statement M
 call-fixing-spec =
     tie.close
     (tie.spec
-    (λ c. search needs) (λ c. search needs) (λ c. search needs) (λ c. search needs)
-    (λ c κs. part-lies (c .before .before .before .pre .0) 4 (omega arith))
-    (λ c κs. part-lies (c .before .before .before .before .pre .0) 5 (omega arith))
-    (λ c κs. part-lies (c .before .before .before .before .before .pre .0) 6 (omega arith))
-    (λ c κs. part-lies (c .before .before .before .before .before .before .before .pre .0) 7 (omega arith))
+    (λ c. search needs) (λ c. search needs) (λ c. search needs) (λ c. search needs) (λ c. search needs)
+    (λ c κs. part-lies (c .before .before .before .pre .0) 5 (omega arith))
+    (λ c κs. part-lies (c .before .before .before .before .pre .0) 6 (omega arith))
+    (λ c κs. part-lies (c .before .before .before .before .before .pre .0) 7 (omega arith))
+    (λ c κs. part-lies (c .before .before .before .before .before .before .before .pre .0) 8 (omega arith))
     (λ c κs. search needs) (λ c. search needs) (λ c. search needs)
     returns
     (λ c κs. search needs) (λ c. search needs) (λ c. search needs)

@@ -9,12 +9,12 @@ use Rattle.commands.proofs.answer.run_fixing.Tie as tie
 lent-requires : tie.Need-lent-requires
 lent-requires c κs =
     let l = c .before .before in
-    rw (l .list-buffer .ensures) (l .before .before .before .before .pre .bounded 8 (omega arith))
+    rw (l .list-buffer .ensures) (l .before .before .before .before .pre .bounded 9 (omega arith))
 
 lent-power-requires : tie.Need-lent-power-requires
 lent-power-requires c κs =
     let p = c .before .before .before in
-    rw (p .power-buffer .ensures) (p .before .before .before .before .before .pre .bounded 9 (omega arith))
+    rw (p .power-buffer .ensures) (p .before .before .before .before .before .pre .bounded 10 (omega arith))
 
 returns : tie.Need-returns
 unfolding fixingCall fixingText

@@ -11,8 +11,7 @@ use Rattle.numbers.specs.Sizes.{mostDistributors, sectorPlaces}
 use Rattle.numbers.specs.Units.{noMoney}
 use Rattle.numbers.proofs.units.Pesos as amount
 use Rattle.settlement.specs.Month.{moneyAt}
-use Rattle.ledger.specs.Ledger.{countAt}
-use Rattle.ledger.specs.Sound.{chargeIn}
+use Rattle.ledger.specs.Ledger.{chargeIn, countAt}
 use Rattle.store.proofs.StoreLaws.{mapped}
 use denote.Array.{each}
 use denote.Shadow.{shadow}
@@ -43,17 +42,23 @@ module _ (c : tie.Start) where
   all-balances : length (c .args .ledger .balances) ≡ mostDistributors
   all-balances = search (needs, mapped)
 
-  all-charges : length (c .args .ledger .force .charges) ≡ sectorPlaces
-  all-charges = search needs
+  force-charged : length (c .args .ledger .force .charges) ≡ sectorPlaces
+  force-charged = search needs
 
-  charge-fits : (k : ℕ) → k < sectorPlaces → SFits w64 (chargeIn (c .args .ledger .force) k)
-  charge-fits k p = search (needs, signed-fits, all-charges)
+  force-charges : (k : ℕ) → k < sectorPlaces → SFits w64 (chargeIn (c .args .ledger .force) k)
+  force-charges k p = search (needs, signed-fits, force-charged)
+
+  older-charged : length (c .args .ledger .older .charges) ≡ sectorPlaces
+  older-charged = search needs
+
+  older-charges : (k : ℕ) → k < sectorPlaces → SFits w64 (chargeIn (c .args .ledger .older) k)
+  older-charges k p = search (needs, signed-fits, older-charged)
 
   balance-fits : (i : ℕ) → i < mostDistributors → SFits w64 (moneyAt (c .args .ledger .balances) i)
   balance-fits i p =
       element-fits (λ x. x .0) noMoney (amount.the-field .row .Denot) (amount.the-field .row .own) _
       (c .args .ledger .balances) _
-      (c .good .0 .1 .1 .1 .1 .1 .1 .1 .0 .1 .1) (λ x vs s. record { sfits = s .1 .1 .0 .1 }) i
+      (c .good .0 .1 .1 .1 .1 .1 .1 .1 .1 .1 .1 .0 .1 .1) (λ x vs s. record { sfits = s .1 .1 .0 .1 }) i
       (omega (arith, all-balances))
 
   count-fits : (i : ℕ) → Fits w64 (countAt (c .args .ledger .counts) i)
@@ -66,11 +71,11 @@ returns c =
       n = search needs;
       last = search needs;
       month = search needs;
-      presences = search needs;
-      charged = all-charges c;
+      day = search needs;
+      force = record { presences = search needs; charged = force-charged c; charges = force-charges c };
+      older = record { presences = search needs; charged = older-charged c; charges = older-charges c };
       balanced = all-balances c;
       counted = search needs;
-      charges = charge-fits c;
       balances = balance-fits c;
       counts = λ i p. count-fits c i .fits;
     })
