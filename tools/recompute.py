@@ -74,10 +74,10 @@ def sound(b):
     # "entries past n .. are zero"
     if any(b.balance[b.n:]) or any(b.count[b.n:]):
         return False
-    # W-206: "one older fixing's presences and charges, .. sound by the same rules and only beside one in force"
-    if not sectors_sound(b.n, b.fixed, b.present, b.charge) or not sectors_sound(b.n, b.older, b.older_present, b.older_charge):
+    if not sectors_sound(b.n, b.fixed, b.present, b.charge):
         return False
-    if b.older and not b.fixed:
+    # W-206: the older fixing is "sound by the same rules and only beside one in force"
+    if not sectors_sound(b.n, b.older, b.older_present, b.older_charge) or b.older and not b.fixed:
         return False
     # "everything unset [is] zero"
     if not b.fixed and (b.month != 0 or b.day != 0):
@@ -87,7 +87,7 @@ def sound(b):
     # "month numbers are at most 1,199"
     if b.last > 1199 or b.month > 1199:
         return False
-    # W-206: "A ledger whose kept day lies outside the month of its fixing, or above 1 with no older fixing kept, is unsound."
+    # W-206: unsound if the "kept day lies outside the month of its fixing, or above 1 with no older fixing kept"
     if b.fixed and not 1 <= b.day <= days_of(b.month) or b.day > 1 and not b.older:
         return False
     # "once a month is settled, .. the fixing's month [is] at most last+1"
@@ -499,7 +499,8 @@ def load_command(journal, book):
     book.last, book.fixed, book.month = journal.number(), journal.flag(), journal.number()
     book.day, book.older = journal.number(), journal.flag()
     for held, name, read in ((book.present, b"present", journal.flag), (book.charge, b"charges", journal.signed),
-                             (book.older_present, b"olderpresent", journal.flag), (book.older_charge, b"oldercharges", journal.signed),
+                             (book.older_present, b"olderpresent", journal.flag),
+                             (book.older_charge, b"oldercharges", journal.signed),
                              (book.balance, b"balances", journal.signed), (book.count, b"counts", journal.number)):
         given = journal.list(name, read, len(held))
         held[:len(given)] = given
