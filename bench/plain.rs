@@ -3,6 +3,8 @@
 //!     rustc --edition 2021 -O -C opt-level=3 plain.rs
 //!     ./plain even|mixed fix|settle|both COUNT
 
+use std::borrow::Cow;
+use std::cmp::Ordering;
 use std::hint::black_box;
 use std::ops::RangeInclusive;
 
@@ -47,6 +49,7 @@ enum Refusal {
     UnsoundLedger,
     WrongLength,
     OutOfTurn,
+    FirstDay,
     NoFixing,
     BadInput,
     SeriesValue,
@@ -73,14 +76,51 @@ fn half_away(numerator: i64, denominator: u64) -> i64 {
     }
 }
 
+/// The days of a month, of which number 0 is January 2000.
+fn days_in(month: u64) -> u64 {
+    let year = 2_000 + month / 12;
+    match month % 12 {
+        1 if year % 4 == 0 && (year % 100 != 0 || year % 400 == 0) => 29,
+        1 => 28,
+        3 | 5 | 8 | 10 => 30,
+        _ => 31,
+    }
+}
+
+/// What a fixing leaves in the ledger for each sector.
+#[derive(Debug, Clone, PartialEq, Eq)]
+struct Sectors {
+    present: [bool; MAX_PLACES],
+    charges: [i64; MAX_PLACES],
+}
+
+impl Sectors {
+    const NONE: Sectors = Sectors { present: [false; MAX_PLACES], charges: [0; MAX_PLACES] };
+
+    /// `places` is how many of them may be present.
+    fn are_sound(&self, places: usize) -> bool {
+        let charge_is_sound = |(&present, charge): (&bool, &i64)| {
+            if present {
+                CHARGE_RANGE.contains(charge)
+            } else {
+                *charge == 0
+            }
+        };
+        // Charges past these places are zero too, because their sectors are absent.
+        !self.present[places..].contains(&true) && self.present.iter().zip(&self.charges).all(charge_is_sound)
+    }
+}
+
 #[derive(Debug, Clone, PartialEq, Eq)]
 struct Ledger {
     distributors: usize,
     last_month: u64,
     has_fixing: bool,
     fixing_month: u64,
-    present: [bool; MAX_PLACES],
-    charges: [i64; MAX_PLACES],
+    first_day: u64,
+    has_older: bool,
+    in_force: Sectors,
+    older: Sectors,
     balances: [i64; MAX_DISTRIBUTORS],
     /// The settled months of each distributor.
     counts: [u64; MAX_DISTRIBUTORS],
@@ -96,8 +136,10 @@ impl Ledger {
             last_month: 0,
             has_fixing: false,
             fixing_month: 0,
-            present: [false; MAX_PLACES],
-            charges: [0; MAX_PLACES],
+            first_day: 0,
+            has_older: false,
+            in_force: Sectors::NONE,
+            older: Sectors::NONE,
             balances: [0; MAX_DISTRIBUTORS],
             counts: [0; MAX_DISTRIBUTORS],
         })
@@ -112,24 +154,23 @@ impl Ledger {
         if !(1..=MAX_DISTRIBUTORS).contains(&n) {
             return false;
         }
-        // Charges past n are zero too, because their sectors are absent, and balances, because their counts are zero.
-        if self.present[SECTORS * n..].contains(&true) || self.counts[n..].iter().any(|&count| count != 0) {
+        let places = |is_kept| if is_kept { SECTORS * n } else { 0 };
+        if !self.in_force.are_sound(places(self.has_fixing)) || !self.older.are_sound(places(self.has_older)) {
             return false;
         }
-        let charge_is_sound = |(&present, charge): (&bool, &i64)| {
-            if present {
-                CHARGE_RANGE.contains(charge)
-            } else {
-                *charge == 0
-            }
-        };
-        if !self.present.iter().zip(&self.charges).all(charge_is_sound) {
+        // Balances past n are zero too, because their counts are zero.
+        if self.counts[n..].iter().any(|&count| count != 0) {
             return false;
         }
         if self.last_month > LAST_MONTH || self.fixing_month > LAST_MONTH {
             return false;
         }
-        if !self.has_fixing && (self.fixing_month != 0 || self.present.contains(&true)) {
+        let fixing_is_sound = if self.has_fixing {
+            day_is_allowed(self.first_day, self.fixing_month, self.has_older)
+        } else {
+            self.fixing_month == 0 && self.first_day == 0 && !self.has_older
+        };
+        if !fixing_is_sound {
             return false;
         }
         if self.balances.iter().zip(&self.counts).any(|(&balance, &count)| count == 0 && balance != 0) {
@@ -143,6 +184,37 @@ impl Ledger {
             && self.balances.iter().all(|b| BALANCE_RANGE.contains(b))
             && !(self.balances.iter().any(|&b| b > 0) && self.balances.iter().any(|&b| b < 0))
     }
+
+    /// Whether an older fixing stands beside a new one for a month, and what it leaves.
+    fn older_beside(&self, month: u64) -> (bool, &Sectors) {
+        match month.cmp(&self.fixing_month) {
+            Ordering::Greater if self.has_fixing => (true, &self.in_force),
+            Ordering::Equal if self.has_fixing => (self.has_older, &self.older),
+            _ => (false, &Sectors::NONE),
+        }
+    }
+
+    /// What a month is billed under: in a month that is split by days both fixings, else the one in force.
+    fn billed_under(&self, month: u64) -> Cow<'_, Sectors> {
+        if month != self.fixing_month || self.first_day == 1 {
+            return Cow::Borrowed(&self.in_force);
+        }
+        let days = days_in(month);
+        let before = self.first_day as i64 - 1;
+        let remaining = days as i64 - before;
+        let mut sectors = self.in_force.clone();
+        for place in 0..SECTORS * self.distributors {
+            sectors.present[place] |= self.older.present[place];
+            let sum = self.older.charges[place] * before + self.in_force.charges[place] * remaining;
+            sectors.charges[place] = half_away(sum, days);
+        }
+        Cow::Owned(sectors)
+    }
+}
+
+/// Whether a fixing may start on a day: one of its month, and the first where no older fixing has the days before.
+fn day_is_allowed(day: u64, month: u64, has_older: bool) -> bool {
+    (1..=days_in(month)).contains(&day) && (day == 1 || has_older)
 }
 
 /// The lent words of a fixing.
@@ -151,6 +223,7 @@ struct FixingInput {
     dollar: u64,
     reference_factor: u64,
     first_month: u64,
+    first_day: u64,
     series: Vec<u64>,
     lines: Vec<u64>,
     sector_factors: Vec<u64>,
@@ -392,6 +465,10 @@ fn fix(ledger: &Ledger, input: &FixingInput, prices: &mut [i64], power: &mut [u6
     if month > LAST_MONTH || (ledger.has_settled_month() && month != ledger.last_month + 1) {
         return Err(Refusal::OutOfTurn);
     }
+    let (has_older, older) = ledger.older_beside(month);
+    if !day_is_allowed(input.first_day, month, has_older) {
+        return Err(Refusal::FirstDay);
+    }
     if !DOLLAR_RANGE.contains(&input.dollar)
         || !FACTOR_RANGE.contains(&input.reference_factor)
         || input.first_month > LAST_MONTH
@@ -441,9 +518,11 @@ fn fix(ledger: &Ledger, input: &FixingInput, prices: &mut [i64], power: &mut [u6
     }
 
     let Adjustment { limit, surcharge, rounds, residue, finals } = adjust(&averages[..n], energies);
-    let mut ledger = ledger.clone();
+    let mut ledger = Ledger { older: older.clone(), ..ledger.clone() };
     ledger.has_fixing = true;
     ledger.fixing_month = month;
+    ledger.first_day = input.first_day;
+    ledger.has_older = has_older;
     for i in 0..n {
         let average = averages[i] as i64;
         let final_price = finals[i] as i64;
@@ -453,8 +532,8 @@ fn fix(ledger: &Ledger, input: &FixingInput, prices: &mut [i64], power: &mut [u6
         power[i] = ((power_amounts[i] + energy / 2) / energy) as u64;
         for (sector, &factor) in sector_factors[i].iter().enumerate() {
             let place = SECTORS * i + sector;
-            ledger.present[place] = factor != 0;
-            ledger.charges[place] = half_away(charge * factor as i64, UNIT);
+            ledger.in_force.present[place] = factor != 0;
+            ledger.in_force.charges[place] = half_away(charge * factor as i64, UNIT);
         }
     }
     Ok(Fixing { limit, surcharge, rounds, residue, ledger })
@@ -517,6 +596,7 @@ fn settle(ledger: &Ledger, input: &SettlementInput, transfers: &mut [i64]) -> Re
     if !ledger.has_fixing {
         return Err(Refusal::NoFixing);
     }
+    let billed = ledger.billed_under(month);
     let (readings, _) = input.readings.as_chunks::<4>();
     let reading_is_valid = |(reading, &present): (&[u64; 4], &bool)| {
         if present {
@@ -525,7 +605,7 @@ fn settle(ledger: &Ledger, input: &SettlementInput, transfers: &mut [i64]) -> Re
             *reading == [0; 4]
         }
     };
-    if !readings.iter().zip(&ledger.present).all(reading_is_valid)
+    if !readings.iter().zip(&billed.present).all(reading_is_valid)
         || !input.loss_factors.iter().all(|factor| LOSS_RANGE.contains(factor))
     {
         return Err(Refusal::Reading);
@@ -535,7 +615,7 @@ fn settle(ledger: &Ledger, input: &SettlementInput, transfers: &mut [i64]) -> Re
     let (loss_factors, _) = input.loss_factors.as_chunks::<2>();
     for (i, &[peat, pebt]) in loss_factors.iter().enumerate() {
         let places = SECTORS * i..SECTORS * (i + 1);
-        let amount = collected(&ledger.charges[places.clone()], &readings[places], peat, pebt);
+        let amount = collected(&billed.charges[places.clone()], &readings[places], peat, pebt);
         positions[i] = ledger.balances[i] + amount;
     }
     let positions = &positions[..n];
@@ -583,6 +663,7 @@ fn even_load() -> (FixingInput, SettlementInput) {
         dollar: 100_000,
         reference_factor: 10_000,
         first_month: 0,
+        first_day: 1,
         series: vec![10_000; 240],
         lines: (0..256).flat_map(line).collect(),
         sector_factors: vec![10_000; 320],
@@ -622,6 +703,7 @@ fn mixed_load() -> (FixingInput, SettlementInput) {
         dollar: 85_000,
         reference_factor: 10_000,
         first_month: 0,
+        first_day: 1,
         series: (0..240).map(series_value).collect(),
         lines: (0..256).flat_map(line).collect(),
         sector_factors: (0..320).map(sector_factor).collect(),
@@ -717,6 +799,7 @@ mod tests {
             dollar: 100_000,
             reference_factor: 10_000,
             first_month: 0,
+            first_day: 1,
             series: vec![10_000; 240],
             lines: (0..).zip(&lines).flat_map(line).collect(),
             sector_factors: [10_000, 0, 0, 0, 0, 0, 0, 0].repeat(3),
@@ -887,5 +970,66 @@ mod tests {
         assert!(unsound(|ledger| ledger.balances[3] = 7));
         assert!(unsound(|ledger| (ledger.counts, ledger.balances) = ([0; 40], [0; 40])));
         assert!(!unsound(|ledger| (ledger.counts[1], ledger.balances[1]) = (1, 7)));
+    }
+
+    #[test]
+    fn days_follow_the_calendar() {
+        let days_of_2000 = (0..12).map(days_in).collect::<Vec<_>>();
+        assert_eq!(days_of_2000, [31, 29, 31, 30, 31, 30, 31, 31, 30, 31, 30, 31]);
+        assert_eq!([13, 49, 1_153, 1_189, 1_199, 1_201].map(days_in), [28, 29, 29, 28, 31, 28]);
+    }
+
+    #[test]
+    fn a_month_is_split_by_days() {
+        let (opened, mut input) = classroom();
+        let (mut prices, mut power) = (vec![0; 9], vec![0; 3]);
+        let mut fixed = |ledger: &Ledger, month, day, sectors: &[u64]| {
+            (input.month, input.first_day, input.sector_factors) = (month, day, sectors.repeat(3));
+            fix(ledger, &input, &mut prices, &mut power).map(|fixing| fixing.ledger)
+        };
+        let (first, second) = ([10_000, 0, 5_000, 0, 0, 0, 0, 0], [0, 10_000, 10_000, 0, 0, 0, 0, 0]);
+        // No older fixing stands beside the first one.
+        assert_eq!(fixed(&opened, 30, 2, &first), Err(Refusal::FirstDay));
+        let older = fixed(&opened, 30, 1, &first).unwrap();
+        assert_eq!(fixed(&older, 30, 2, &second), Err(Refusal::FirstDay));
+        assert_eq!(fixed(&older, 29, 2, &second), Err(Refusal::FirstDay));
+        // Month 32 is September 2002.
+        for day in [0, 31, u64::MAX] {
+            assert_eq!(fixed(&older, 32, day, &second), Err(Refusal::FirstDay));
+        }
+        let split = fixed(&older, 32, 16, &second).unwrap();
+        assert_eq!((split.first_day, split.has_older, &split.older), (16, true, &older.in_force));
+        let again = fixed(&split, 32, 30, &first).unwrap();
+        assert_eq!((again.first_day, again.has_older, &again.older), (30, true, &older.in_force));
+        let dropped = fixed(&split, 31, 1, &first).unwrap();
+        assert_eq!((dropped.first_day, dropped.has_older, &dropped.older), (1, false, &Sectors::NONE));
+
+        // Distributor 0: -15,662 and nothing, nothing and -15,662, -7,831 and -15,662, 15 days each.
+        assert_eq!(split.billed_under(32).charges[..4], [-7_831, -7_831, -11_747, 0]);
+        assert_eq!(split.billed_under(32).present[..4], [true, true, true, false]);
+        assert_eq!(*split.billed_under(33), split.in_force);
+        let mut transfers = vec![0; 3];
+        let old_alone = |month| month_of(month, [1_000, 0, 0]);
+        let next = settle(&split, &old_alone(32), &mut transfers).unwrap();
+        assert_eq!(next.balances[..3], [-7_831, 0, 0]);
+        assert_eq!(settle(&next, &old_alone(33), &mut transfers), Err(Refusal::Reading));
+
+        let unsound = |change: fn(&mut Ledger)| {
+            let mut ledger = split.clone();
+            change(&mut ledger);
+            !ledger.is_sound()
+        };
+        assert!(!unsound(|_| ()));
+        assert!(unsound(|ledger| ledger.first_day = 0));
+        assert!(unsound(|ledger| ledger.first_day = 31));
+        assert!(unsound(|ledger| ledger.has_older = false));
+        assert!(unsound(|ledger| (ledger.has_older, ledger.older) = (false, Sectors::NONE)));
+        assert!(unsound(|ledger| ledger.older.present[24] = true));
+        assert!(unsound(|ledger| ledger.older.charges[1] = 1));
+        assert!(unsound(|ledger| ledger.older.charges[0] = 10_500_001));
+        let mut older_alone = opened.clone();
+        assert!(older_alone.is_sound());
+        older_alone.has_older = true;
+        assert!(!older_alone.is_sound());
     }
 }

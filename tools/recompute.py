@@ -6,6 +6,7 @@ opening, joining, fixing, interim fixing, settlement.
 
 prints what each call of a journal (JOURNAL.md) is answered with. No part of the gate; the outputs that the gate compares
 were worked with it."""
+import calendar
 import re
 import sys
 
@@ -22,17 +23,21 @@ def half_away(a, b):
 
 
 class Ledger:
-    """n, last month, fixing present, its month, presence and charge of each sector, balance and count of settled months of
-    each distributor."""
+    """n, last month, fixing present, its month and first day, presence and charge of each sector; W-206: whether an older
+    fixing is kept, and its presences and charges; balance and count of settled months of each distributor."""
 
     def __init__(self, n=0):
-        self.n, self.last, self.fixed, self.month = n, 0, False, 0
-        self.present, self.charge, self.balance, self.count = [False] * 320, [0] * 320, [0] * 40, [0] * 40
+        self.n, self.last, self.fixed, self.month, self.day, self.older = n, 0, False, 0, 0, False
+        self.present, self.charge = [False] * 320, [0] * 320
+        self.older_present, self.older_charge = [False] * 320, [0] * 320
+        self.balance, self.count = [0] * 40, [0] * 40
 
     def copy(self):
         c = Ledger(self.n)
-        c.last, c.fixed, c.month = self.last, self.fixed, self.month
-        c.present, c.charge, c.balance, c.count = list(self.present), list(self.charge), list(self.balance), list(self.count)
+        c.last, c.fixed, c.month, c.day, c.older = self.last, self.fixed, self.month, self.day, self.older
+        c.present, c.charge = list(self.present), list(self.charge)
+        c.older_present, c.older_charge = list(self.older_present), list(self.older_charge)
+        c.balance, c.count = list(self.balance), list(self.count)
         return c
 
     def settled(self):
@@ -44,22 +49,46 @@ def open_ledger(n):
     return (0, Ledger(n)) if 1 <= n <= 40 else (1, Ledger(0))
 
 
+def days_of(month):
+    """W-206: "Days follow the Gregorian calendar"; month 0 is January 2000."""
+    return calendar.monthrange(2000 + month // 12, month % 12 + 1)[1]
+
+
+def sectors_sound(n, kept, present, charge):
+    """What soundness asks of the presences and charges of a fixing, and of those of one that is not kept."""
+    # "entries past n .. are zero"
+    if any(present[8 * n:]) or any(charge[8 * n:]):
+        return False
+    # "charges of absent sectors"
+    if any(c != 0 and not p for p, c in zip(present, charge)):
+        return False
+    # "everything unset [is] zero"
+    if not kept and (any(present) or any(charge)):
+        return False
+    return all(abs(c) <= 10_500_000 for c in charge)
+
+
 def sound(b):
     if not 1 <= b.n <= 40:
         return False
     # "entries past n .. are zero"
-    if any(b.present[8 * b.n:]) or any(b.charge[8 * b.n:]) or any(b.balance[b.n:]) or any(b.count[b.n:]):
+    if any(b.balance[b.n:]) or any(b.count[b.n:]):
         return False
-    # "charges of absent sectors"
-    if any(c != 0 and not p for p, c in zip(b.present, b.charge)):
+    if not sectors_sound(b.n, b.fixed, b.present, b.charge):
+        return False
+    # W-206: the older fixing is "sound by the same rules and only beside one in force"
+    if not sectors_sound(b.n, b.older, b.older_present, b.older_charge) or b.older and not b.fixed:
         return False
     # "everything unset [is] zero"
-    if not b.fixed and (b.month != 0 or any(b.present) or any(b.charge)):
+    if not b.fixed and (b.month != 0 or b.day != 0):
         return False
     if not b.settled() and b.last != 0:
         return False
     # "month numbers are at most 1,199"
     if b.last > 1199 or b.month > 1199:
+        return False
+    # W-206: unsound if the "kept day lies outside the month of its fixing, or above 1 with no older fixing kept"
+    if b.fixed and not 1 <= b.day <= days_of(b.month) or b.day > 1 and not b.older:
         return False
     # "once a month is settled, .. the fixing's month [is] at most last+1"
     if b.settled() and b.month > b.last + 1:
@@ -70,7 +99,7 @@ def sound(b):
     # W-205: "a balance with count zero is zero"
     if any(v != 0 and c == 0 for v, c in zip(b.balance, b.count)):
         return False
-    if any(abs(c) > 10_500_000 for c in b.charge) or any(abs(v) > 10 ** 15 for v in b.balance):
+    if any(abs(v) > 10 ** 15 for v in b.balance):
         return False
     return not (any(v > 0 for v in b.balance) and any(v < 0 for v in b.balance))
 
@@ -224,7 +253,19 @@ def limit_and_rounds(p, e):
     return limit, r, rounds, residue, final
 
 
-def fix(book, month, dollar, factor, first, series, lines, sectors, in_force, prices, power):
+def older_beside(book, month):
+    """W-206: whether an older fixing would stand beside a new one for a month, and its presences and charges."""
+    # "A fixing for a later month makes the one in force the older"
+    if book.fixed and month > book.month:
+        return True, book.present, book.charge
+    # "one for the same month replaces only that in force"
+    if book.fixed and month == book.month:
+        return book.older, book.older_present, book.older_charge
+    # "one for an earlier month drops both"
+    return False, [False] * 320, [0] * 320
+
+
+def fix(book, month, dollar, factor, first, day, series, lines, sectors, in_force, prices, power):
     """(number, values, ledger, prices, power); in_force is None in a regular fixing."""
     keep = (book, prices, power)
     if not sound(book):
@@ -238,6 +279,9 @@ def fix(book, month, dollar, factor, first, series, lines, sectors, in_force, pr
         return 3, (), *keep
     if month > 1199 or (book.settled() and month != book.last + 1):
         return 4, (), *keep
+    older, older_present, older_charge = older_beside(book, month)
+    if not 1 <= day <= days_of(month) or day > 1 and not older:
+        return 16, (), *keep
     rows = [lines[30 * j:30 * j + 30] for j in range(len(lines) // 30)]
     if not 1 <= dollar <= 200_000 or not 5000 <= factor <= 20000 or first > 1199:
         return 6, (), *keep
@@ -280,7 +324,8 @@ def fix(book, month, dollar, factor, first, series, lines, sectors, in_force, pr
     for i in range(n):
         written += [p[i], final[i], final[i] - p[i]]
     new = book.copy()
-    new.fixed, new.month = True, month
+    new.older, new.older_present, new.older_charge = older, older_present, older_charge
+    new.fixed, new.month, new.day = True, month, day
     new.present, new.charge = [False] * 320, [0] * 320
     for k, s in enumerate(sectors):
         i = k // 8
@@ -301,6 +346,17 @@ def shares(sizes, t):
     return out
 
 
+def billed_under(book, month):
+    """The presences and charges that a month is billed under."""
+    if month != book.month or book.day == 1:
+        return book.present, book.charge
+    # W-206: "In a split month a sector present in either is present"; its charge is that of each day in turn, over all days
+    present = [old or new for old, new in zip(book.older_present, book.present)]
+    days = range(1, days_of(month) + 1)
+    each_day = [[old if day < book.day else new for day in days] for old, new in zip(book.older_charge, book.charge)]
+    return present, [half_away(sum(charges), len(days)) for charges in each_day]
+
+
 def settle(book, month, readings, losses, out):
     keep = (book, out)
     if not sound(book):
@@ -319,7 +375,8 @@ def settle(book, month, readings, losses, out):
         return 5, *keep
     if any(v > 2_000_000_000 for v in readings) or any(not 10000 <= v <= 20000 for v in losses):
         return 12, *keep
-    if any(any(readings[4 * k:4 * k + 4]) and not book.present[k] for k in range(8 * n)):
+    present, charge = billed_under(book, month)
+    if any(any(readings[4 * k:4 * k + 4]) and not present[k] for k in range(8 * n)):
         return 12, *keep
     position = []
     for i in range(n):
@@ -328,7 +385,7 @@ def settle(book, month, readings, losses, out):
         for k in range(8 * i, 8 * i + 8):
             bat, iat, bbt, ibt = readings[4 * k:4 * k + 4]
             x = half_away((bat - iat) * peat * 10000 + (bbt - ibt) * peat * pebt, 100_000_000)
-            total += book.charge[k] * x
+            total += charge[k] * x
         position.append(book.balance[i] + half_away(total, 1000))
     if any(abs(v) > 10 ** 15 for v in position):
         return 13, *keep
@@ -388,11 +445,12 @@ class Journal:
 
 
 def fixing_command(journal, book, name):
-    month, dollar, factor, first = (journal.number() for _ in range(4))
+    month, dollar, factor, first, day = (journal.number() for _ in range(5))
     series, lines, sectors = (journal.list(name, journal.number) for name in (b"series", b"lines", b"sectors"))
     in_force = journal.list(b"inforce", journal.number) if name == "interim" else None
     prices, power = [-1] * journal.count(b"prices"), [2 ** 64 - 1] * journal.count(b"power")
-    number, values, book, prices, power = fix(book, month, dollar, factor, first, series, lines, sectors, in_force, prices, power)
+    given = (month, dollar, factor, first, day, series, lines, sectors, in_force, prices, power)
+    number, values, book, prices, power = fix(book, *given)
     if number == 0:
         rows = [f"{i} {prices[3 * i]} {prices[3 * i + 1]} {prices[3 * i + 2]} {power[i]}" for i in range(book.n)]
         return book, [name + " accepted limit %d surcharge %d rounds %d residue %d" % values] + rows
@@ -428,16 +486,21 @@ def join_command(journal, book):
 
 
 def save_command(journal, book):
-    lists = (("present", list(map(int, book.present)), 8), ("charges", book.charge, 8), ("balances", book.balance, 1), ("counts", book.count, 1))
+    lists = (("present", list(map(int, book.present)), 8), ("charges", book.charge, 8),
+             ("olderpresent", list(map(int, book.older_present)), 8), ("oldercharges", book.older_charge, 8),
+             ("balances", book.balance, 1), ("counts", book.count, 1))
     n = 40 if book.n > 40 or any(any(words[each * book.n:]) for _, words, each in lists) else book.n
     rows = [" ".join([name, str(each * n), *map(str, words[:each * n])]) for name, words, each in lists]
-    return book, [f"load {book.n} {book.last} {int(book.fixed)} {book.month}"] + rows
+    return book, [f"load {book.n} {book.last} {int(book.fixed)} {book.month} {book.day} {int(book.older)}"] + rows
 
 
 def load_command(journal, book):
     book = Ledger(journal.number())
     book.last, book.fixed, book.month = journal.number(), journal.flag(), journal.number()
+    book.day, book.older = journal.number(), journal.flag()
     for held, name, read in ((book.present, b"present", journal.flag), (book.charge, b"charges", journal.signed),
+                             (book.older_present, b"olderpresent", journal.flag),
+                             (book.older_charge, b"oldercharges", journal.signed),
                              (book.balance, b"balances", journal.signed), (book.count, b"counts", journal.number)):
         given = journal.list(name, read, len(held))
         held[:len(given)] = given

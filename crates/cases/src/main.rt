@@ -1,5 +1,5 @@
-// Refusals, bounds, unsound ledgers, carried balances, power prices and joins: the journal beside this program,
-// replayed.
+// Refusals, bounds, unsound ledgers, carried balances, power prices, joins and split months: the journal beside this
+// program, replayed.
 use commands::input::journal_buffer;
 use commands::run::replay;
 use libc::STDIN_FILENO;

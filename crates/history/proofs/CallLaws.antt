@@ -1,6 +1,6 @@
 -- One call put to the ledger that follows from a plain ledger: the checks go the same way on both. Assumes nothing.
-use mathlib.Core.Path.{_≡_, refl, _∙_, ap, ap₂}
-use mathlib.Core.Bool.{Bool, true, false, cond, not}
+use mathlib.Core.Path.{_≡_, refl, sym, _∙_, ap, ap₂}
+use mathlib.Core.Bool.{Bool, true, false, cond, not, _&&_, _||_, true≢false}
 use mathlib.Core.List.{List, [], _∷_}
 use mathlib.Core.Option.{Option, none, some}
 use Prim.Native.Nat.{ℕ, _+_, _≤_, _<_}
@@ -14,7 +14,7 @@ use Rattle.numbers.specs.Checks.{Met, Check, metUnless, verdictOf, answeredOr, 
 use Rattle.numbers.specs.declared.refusal.Refusal.{Refusal}
 use Rattle.numbers.specs.declared.refusal.Refusal.the-variants.{Unsound, WrongLength, OutOfTurn, NoFixing, OutOfRange}
 use Rattle.numbers.specs.declared.refusal.Refusal.the-variants.{ValueTooLarge, WrongSector, NoLine, WrongReading}
-use Rattle.numbers.specs.declared.refusal.Refusal.the-variants.{PositionBeyond, NoLineMoved, LedgerFull}
+use Rattle.numbers.specs.declared.refusal.Refusal.the-variants.{PositionBeyond, NoLineMoved, LedgerFull, WrongDay}
 use Rattle.numbers.specs.Sizes.{mostDistributors}
 use Rattle.numbers.proofs.CheckLaws.{AllTold, verdict-told, passed-number}
 use Rattle.numbers.proofs.ListLaws.{filled-at, filled-past, filled-same, filled-next}
@@ -33,8 +33,10 @@ use Rattle.settlement.specs.Amount.{billingInRange}
 use Rattle.settlement.specs.Settlement.{positionOf, positionsInRange, newBalance}
 use Rattle.settlement.specs.Month.{moneyAt, moneyBelow, positionList, settledMonth}
 use Rattle.settlement.proofs.MonthLaws.{money-at, money-next, money-same}
-use Rattle.ledger.specs.Ledger.{countAt, anySettled, nextMonth, billedUnder, fixedLedger, raisedCounts}
-use Rattle.ledger.specs.Ledger.{settledLedger, joinedLedger}
+use Rattle.ledger.specs.Calendar.{dayAllowed}
+use Rattle.ledger.specs.Ledger.{countAt, anySettled, nextMonth, makesOlder, staysOlder, olderStands, olderBeside}
+use Rattle.ledger.specs.Ledger.{fixedLedger, raisedCounts, settledLedger, joinedLedger}
+use Rattle.ledger.specs.Billed.{billedUnder}
 use Rattle.ledger.specs.Sound.{sound}
 use Rattle.ledger.specs.Turn.{fixingTurn, settlementTurn}
 use Rattle.ledger.specs.Fix.{FixingCall, callLengths, fixingChecks, fixingVerdict, fixingAnswer, fixingAnswered}
@@ -50,7 +52,8 @@ use Rattle.ledger.proofs.FixLaws.{fixing-told, answer-told}
 use Rattle.ledger.proofs.SettleLaws.{settlement-told}
 use Rattle.ledger.proofs.JoinLaws.{join-told}
 use Rattle.history.specs.Run.{fixing, settlement, join}
-use Rattle.history.specs.Plain.{Plain, isHeld, heldMonth, heldForce, plainSettled, plainNext, plainUnder, image}
+use Rattle.history.specs.Plain.{Plain, isHeld, heldMonth, heldDay, heldForce, olderFor, plainSettled, plainNext}
+use Rattle.history.specs.Plain.{plainUnder, image}
 use Rattle.history.specs.Plain.{cause, causeAtTerm, causeAtLine, firstCause, fixingCauses, plainFixing}
 use Rattle.history.specs.Plain.{plainAmount, plainPosition, settlementCauses, plainSettlement, plainAnswer}
 use Rattle.history.specs.Plain.{joinCauses, plainJoin, plainAccepts, withOneMore, plainChange, plainStep}
@@ -126,31 +129,66 @@ module _ (plain : Plain) (h : sound (image plain) ≡ true) where
       (λ i p. ap (λ k. not (eqb k 0))
       (filled-at mostDistributors 0 (plain .months) (plain .count) i p (omega (arith, few))))
 
+-- the fixing that is made the older, by its arguments and by its presences and charges
+module _ (n : ℕ) (call : FixingCall) where
+  kept-same : (later same : Bool) (older : Option FixingCall) →
+      ((later || (isHeld older && same)) ≡ isHeld (cond later (some call) (cond same older none)))
+      × (cond later (heldForce n (some call)) (cond (isHeld older && same) (heldForce n older) noCharges) ≡ heldForce n
+      (cond later (some call) (cond same older none)))
+  kept-same true same older = (refl, refl)
+  kept-same false true none = (refl, refl)
+  kept-same false true (some o) = (refl, refl)
+  kept-same false false none = (refl, refl)
+  kept-same false false (some o) = (refl, refl)
+
+older-same : (plain : Plain) (month : ℕ) → sound (image plain) ≡ true →
+    (olderStands (image plain) month ≡ isHeld (olderFor (plain .held) (plain .older) month))
+    × (olderBeside (image plain) month ≡ heldForce (plain .count) (olderFor (plain .held) (plain .older) month))
+unfolding image olderStands olderBeside makesOlder staysOlder olderFor
+older-same plain month h = go (plain .held) (plain .older) (sound-facts (image plain) h .fixings .beside)
+  where
+    go : (held older : Option FixingCall) → (isHeld older ≡ true → isHeld held ≡ true) →
+        (((isHeld held && ltb (heldMonth held) month) || (isHeld older && eqb month (heldMonth held))) ≡ isHeld
+        (olderFor held older month))
+        × (cond (isHeld held && ltb (heldMonth held) month) (heldForce (plain .count) held)
+        (cond (isHeld older && eqb month (heldMonth held)) (heldForce (plain .count) older) noCharges) ≡ heldForce
+        (plain .count) (olderFor held older month))
+    go none none beside = (refl, refl)
+    go none (some o) beside = absurd (true≢false (sym (beside refl)))
+    go (some call) older beside =
+        kept-same (plain .count) call (ltb (call .input .numbers .month) month)
+        (eqb month (call .input .numbers .month)) older
+
 fixing-alike : (plain : Plain) (call : FixingCall) → sound (image plain) ≡ true →
     Alike (fixingChecks (image plain) call) (fixingCauses plain call)
 unfolding image nextMonth plainNext fixingChecks inputChecks tableChecks monthCheck priceChecks boundsCheck fixingCauses
     Alike
 fixing-alike plain call h =
     let n = plain .count in
-    let input = call .input in (
+    let input = call .input in
+    let month = input .numbers .month in
+    let day : Bool → Bool = dayAllowed month (input .numbers .day) in (
       test-same 2 Unsound (sound (image plain)),
       (
         test-same 3 WrongLength (callLengths n call),
         (
-          ap (λ b. told 4 (metUnless (fixingTurn b (plainNext plain) (input .numbers .month)) OutOfTurn))
-              (settled-same plain h) ∙ test-same 4 OutOfTurn
-              (fixingTurn (plainSettled plain) (plainNext plain) (input .numbers .month)),
+          ap (λ b. told 4 (metUnless (fixingTurn b (plainNext plain) month) OutOfTurn)) (settled-same plain h)
+              ∙ test-same 4 OutOfTurn (fixingTurn (plainSettled plain) (plainNext plain) month),
           (
-            test-same 6 OutOfRange (ranged n input),
+            ap (λ b. told 16 (metUnless (day b) WrongDay)) (older-same plain month h .0)
+                ∙ test-same 16 WrongDay (day (isHeld (olderFor (plain .held) (plain .older) month))),
             (
-              test-same 7 ValueTooLarge (valuesInRange (input .series)),
+              test-same 6 OutOfRange (ranged n input),
               (
-                test-same 8 WrongSector (sectorsAllowed n (input .sectors)),
+                test-same 7 ValueTooLarge (valuesInRange (input .series)),
                 (
-                  test-same 9 NoLine (supplied n input),
+                  test-same 8 WrongSector (sectorsAllowed n (input .sectors)),
                   (
-                    term-same (missingPlace input),
-                    (line-same (beyondLine input), (test-same 14 NoLineMoved (someMoved input), tt)),
+                    test-same 9 NoLine (supplied n input),
+                    (
+                      term-same (missingPlace input),
+                      (line-same (beyondLine input), (test-same 14 NoLineMoved (someMoved input), tt)),
+                    ),
                   ),
                 ),
               ),
@@ -178,12 +216,13 @@ fixing-step plain call h =
     ∙ ap (λ b. image (cond b (plainChange plain (fixing call)) plain)) (fixing-same plain call h .accepts)
   where
     go : (b : Bool) → isPassed (fixingVerdict (image plain) call) ≡ b →
-        cond b (fixedLedger (image plain) (call .input .numbers .month)
-        (fixingOf (plain .count) (call .input) .sectors)) (image plain) ≡ image
-        (cond b (plainChange plain (fixing call)) plain)
+        cond b (fixedLedger (image plain) (call .input .numbers) (fixingOf (plain .count) (call .input) .sectors))
+        (image plain) ≡ image (cond b (plainChange plain (fixing call)) plain)
     go true e =
-        ap (λ (x : Fixing). fixedLedger (image plain) (call .input .numbers .month) (x .sectors))
+        let older = older-same plain (call .input .numbers .month) h in
+        ap (λ (x : Fixing). fixedLedger (image plain) (call .input .numbers) (x .sectors))
         (passed-fixing (plain .count) (call .input) (fixing-passed (image plain) call e .passed))
+        ∙ rw (older .0, older .1)
     go false e = refl
 
 -- the positions are the same below n
@@ -217,7 +256,7 @@ module _ (plain : Plain) (call : SettlementCall) (h : sound (image plain) ≡ tr
               test-same 5 NoFixing (isHeld (plain .held)),
               (
                 test-same 12 WrongReading
-                    (billingInRange n (plainUnder plain .present) (call .readings) (call .losses)),
+                    (billingInRange n (plainUnder plain (call .month) .present) (call .readings) (call .losses)),
                 (
                   ap (λ b. told 13 (metUnless b PositionBeyond)) within ∙ test-same 13 PositionBeyond
                       (positionsInRange n (plainPosition plain call)),
@@ -246,7 +285,10 @@ module _ (plain : Plain) (call : SettlementCall) (h : sound (image plain) ≡ tr
             last = call .month;
             fixed = isHeld (plain .held);
             month = heldMonth (plain .held);
+            day = heldDay (plain .held);
             force = heldForce (plain .count) (plain .held);
+            «has_older» = isHeld (plain .older);
+            older = heldForce (plain .count) (plain .older);
             balances = b;
             counts = c;
           })
@@ -294,7 +336,10 @@ module _ (plain : Plain) where
             last = plain .last;
             fixed = false;
             month = 0;
+            day = 0;
             force = noCharges;
+            «has_older» = false;
+            older = noCharges;
             balances = b;
             counts = c;
           })

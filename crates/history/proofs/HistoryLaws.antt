@@ -17,7 +17,8 @@ use Rattle.settlement.specs.Month.{moneyAt, moneyBelow}
 use Rattle.settlement.proofs.MonthLaws.{money-none}
 use Rattle.fixing.specs.Sector.{noCharges}
 use Rattle.fixing.specs.Input.{inputDistributors}
-use Rattle.ledger.specs.Ledger.{billedUnder, noBalances, emptyLedger, openingChecks, openingVerdict, openingLedger}
+use Rattle.ledger.specs.Ledger.{noBalances, emptyLedger, openingChecks, openingVerdict, openingLedger}
+use Rattle.ledger.specs.Billed.{billedUnder}
 use Rattle.ledger.specs.Sound.{sound}
 use Rattle.ledger.specs.Fix.{FixingCall, fixingList, fixingPowerList}
 use Rattle.ledger.specs.Settle.{SettlementCall}
@@ -143,8 +144,18 @@ module _ (n : ℕ) (p : 1 ≤ n) (q : n ≤ mostDistributors) where
   unfolding emptyLedger noBalances image plainOpened
   opened-same =
       opened-is
-      ∙ ap₂ {C = Ledger} (λ b c. record
-      { n = n; last = 0; fixed = false; month = 0; force = noCharges; balances = b; counts = c }) none-same
+      ∙ ap₂ {C = Ledger} (λ b c. record {
+        n = n;
+        last = 0;
+        fixed = false;
+        month = 0;
+        day = 0;
+        force = noCharges;
+        «has_older» = false;
+        older = noCharges;
+        balances = b;
+        counts = c;
+      }) none-same
       (filled-empty mostDistributors 0 n (λ i. 0) (λ i r. refl))
 
   opened-total : total (opened n) ≡ pos 0

@@ -1,7 +1,7 @@
 -- The "plain ledger" (a term of document 01), defined apart from the ledger: it holds the latest accepted fixing's
 -- arguments, not charges, and its checks and steps are written over its own parts. Only the check of soundness goes
 -- through its image, the ledger that follows from it. Joins are "done on the plain ledger in the same way" (W-205 of
--- document 02). Assumes nothing.
+-- document 02), and it "keeps the older fixing by the same rules" (W-206). Assumes nothing.
 use mathlib.Core.Bool.{Bool, true, false, cond, not}
 use mathlib.Core.List.{List, [], _∷_}
 use mathlib.Core.Option.{Option, none, some}
@@ -21,6 +21,8 @@ use Rattle.fixing.specs.declared.sector.SectorCharges.{SectorCharges}
 use Rattle.settlement.specs.Amount.{billingInRange, collectedAmount}
 use Rattle.settlement.specs.Settlement.{positionOf, positionsInRange, newBalance}
 use Rattle.settlement.specs.Month.{moneyBelow}
+use Rattle.ledger.specs.Calendar.{dayAllowed}
+use Rattle.ledger.specs.Billed.{chargesFor}
 use Rattle.ledger.specs.Sound.{sound}
 use Rattle.ledger.specs.Turn.{fixingTurn, settlementTurn}
 use Rattle.ledger.specs.Fix.{FixingCall, callLengths}
@@ -29,19 +31,21 @@ use Rattle.ledger.specs.declared.ledger.Ledger.{Ledger}
 use Rattle.history.specs.Run.{Call, fixing, settlement, join}
 
 -- "It holds n, the count of settled months" of each distributor (02), "the last month, the latest accepted fixing's
--- arguments and n balances"
+-- arguments", those of the older one (02), "and n balances"
 pub record Plain : Type 0 where
   pub count : ℕ
   pub months : ℕ → ℕ
   pub last : ℕ
   pub held : Option FixingCall
+  pub older : Option FixingCall
   pub balance : ℕ → ℤ
 
 -- "at first n, zeros and no fixing"
 unfoldable pub plainOpened : ℕ → Plain
-plainOpened n = record { count = n; months = λ i. 0; last = 0; held = none; balance = λ i. pos 0 }
+plainOpened n = record { count = n; months = λ i. 0; last = 0; held = none; older = none; balance = λ i. pos 0 }
 
--- what follows from the arguments held: whether there is a fixing, its month, its presences and sector charges
+-- what follows from the arguments held: whether there is a fixing, its month, its first day, its presences and sector
+-- charges
 abbrev pub isHeld : Option FixingCall → Bool
 isHeld none = false
 isHeld (some call) = true
@@ -50,19 +54,35 @@ abbrev pub heldMonth : Option FixingCall → ℕ
 heldMonth none = 0
 heldMonth (some call) = call .input .numbers .month
 
+abbrev pub heldDay : Option FixingCall → ℕ
+heldDay none = 0
+heldDay (some call) = call .input .numbers .day
+
 abbrev pub heldForce : ℕ → Option FixingCall → SectorCharges
 heldForce n none = noCharges
 heldForce n (some call) = sectorCharges n (charge (inputDistributors n (call .input))) (call .input .sectors)
 
--- whether any month is settled, the month that comes next, and what a month is billed under: the fixing held
+-- the arguments kept as the older beside a new fixing for a month: for a later one those held, for the same one the older
+-- as before, for an earlier one none
+unfoldable pub olderFor : Option FixingCall → Option FixingCall → ℕ → Option FixingCall
+olderFor none older month = none
+olderFor (some call) older month =
+    cond (ltb (call .input .numbers .month) month) (some call)
+    (cond (eqb month (call .input .numbers .month)) older none)
+
+-- whether any month is settled, the month that comes next, and what a month is billed under: "where days are split, ..
+-- the arguments of the fixing in force and of the older one"
 unfoldable pub plainSettled : Plain → Bool
 plainSettled plain = anyBelow (plain .count) (λ i. not (eqb (plain .months i) 0))
 
 unfoldable pub plainNext : Plain → ℕ
 plainNext plain = plain .last + 1
 
-unfoldable pub plainUnder : Plain → SectorCharges
-plainUnder plain = heldForce (plain .count) (plain .held)
+unfoldable pub plainUnder : Plain → ℕ → SectorCharges
+plainUnder plain month =
+    let n = plain .count in
+    chargesFor n (heldMonth (plain .held)) (heldDay (plain .held)) (heldForce n (plain .older))
+    (heldForce n (plain .held)) month
 
 -- the ledger that follows from the plain one; "unset parts are zero"
 unfoldable pub image : Plain → Ledger
@@ -72,7 +92,10 @@ image plain =
       last = plain .last;
       fixed = isHeld (plain .held);
       month = heldMonth (plain .held);
+      day = heldDay (plain .held);
       force = heldForce (plain .count) (plain .held);
+      «has_older» = isHeld (plain .older);
+      older = heldForce (plain .count) (plain .older);
       balances = moneyBelow (plain .count) (plain .balance);
       counts = filledBelow mostDistributors 0 (plain .count) (plain .months);
     }
@@ -101,9 +124,11 @@ unfoldable pub fixingCauses : Plain → FixingCall → List (Option Answered)
 fixingCauses plain call =
     let n = plain .count in
     let input = call .input in
+    let month = input .numbers .month in
     cause 2 (sound (image plain))
     ∷ cause 3 (callLengths n call)
-    ∷ cause 4 (fixingTurn (plainSettled plain) (plainNext plain) (input .numbers .month))
+    ∷ cause 4 (fixingTurn (plainSettled plain) (plainNext plain) month)
+    ∷ cause 16 (dayAllowed month (input .numbers .day) (isHeld (olderFor (plain .held) (plain .older) month)))
     ∷ cause 6 (ranged n input)
     ∷ cause 7 (valuesInRange (input .series))
     ∷ cause 8 (sectorsAllowed n (input .sectors))
@@ -121,7 +146,7 @@ plainFixing plain call =
 -- the collected amount of each distributor: "works MFAR from its readings, its loss factors and those charges"
 unfoldable pub plainAmount : Plain → SettlementCall → ℕ → ℤ
 plainAmount plain call =
-    collectedAmount (plainUnder plain .charges) (call .readings) (call .losses)
+    collectedAmount (plainUnder plain (call .month) .charges) (call .readings) (call .losses)
 
 unfoldable pub plainPosition : Plain → SettlementCall → ℕ → ℤ
 plainPosition plain call = positionOf (plain .balance) (plainAmount plain call)
@@ -135,7 +160,7 @@ settlementCauses plain call =
     ∷ cause 4 (settlementTurn (plainSettled plain) (plainNext plain) (isHeld (plain .held)) (heldMonth (plain .held))
     (call .month))
     ∷ cause 5 (isHeld (plain .held))
-    ∷ cause 12 (billingInRange n (plainUnder plain .present) (call .readings) (call .losses))
+    ∷ cause 12 (billingInRange n (plainUnder plain (call .month) .present) (call .readings) (call .losses))
     ∷ cause 13 (positionsInRange n (plainPosition plain call))
     ∷ []
 
@@ -173,6 +198,7 @@ plainChange plain (fixing call) =
       months = plain .months;
       last = plain .last;
       held = some call;
+      older = olderFor (plain .held) (plain .older) (call .input .numbers .month);
       balance = plain .balance;
     }
 plainChange plain (settlement call) =
@@ -181,6 +207,7 @@ plainChange plain (settlement call) =
       months = λ i. plain .months i + 1;
       last = call .month;
       held = plain .held;
+      older = plain .older;
       balance = newBalance (plain .count) (plainPosition plain call);
     }
 plainChange plain join =
@@ -189,6 +216,7 @@ plainChange plain join =
       months = withOneMore (plain .count) (plain .months) 0;
       last = plain .last;
       held = none;
+      older = none;
       balance = withOneMore (plain .count) (plain .balance) (pos 0);
     }
 

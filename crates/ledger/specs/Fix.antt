@@ -114,9 +114,8 @@ roundsBelow n (answer.Refused refusal) = true
 -- the ledger handed back: a refused one unchanged
 unfoldable pub fixingLedger : Ledger → FixingCall → Ledger
 fixingLedger ledger call =
-    cond (isPassed (fixingVerdict ledger call))
-    (fixedLedger ledger (call .input .numbers) (fixingOf (ledger .n) (call .input) .sectors))
-    ledger
+    let booked = fixedLedger ledger (call .input .numbers) (fixingOf (ledger .n) (call .input) .sectors) in
+    cond (isPassed (fixingVerdict ledger call)) booked ledger
 
 -- "Fixing writes average, final, charge, distributor by distributor": the three words of one, and word k of the list
 abbrev pub pricePart : ℕ → ℕ → ℤ → ℕ → ℤ
