@@ -75,6 +75,7 @@ fn main() {
     let mut power = [0u64; 3];
     let numbers = FixingNumbers {
         month: 1,
+        day: 1,
         dollar: 100000,
         reference_factor: 10000,
         first_month: 0,

@@ -247,6 +247,7 @@ fn fill(mixed: bool, list: List, words: &mut [u64])
 fn numbers_of(mixed: bool) -> FixingNumbers {
     FixingNumbers {
         month: if mixed { 30 } else { 20 },
+        day: 1,
         dollar: if mixed { 85000 } else { 100000 },
         reference_factor: 10000,
         first_month: 0,
