@@ -23,7 +23,7 @@ joined = joinLedger firstLedger
 
 abbrev coveringCall : FixingCall
 coveringCall =
-    fixingCallOf false (record { month = 2; dollar = 100000; «reference_factor» = 10000; «first_month» = 1 })
+    fixingCallOf false (record { month = 2; day = 1; dollar = 100000; «reference_factor» = 10000; «first_month» = 1 })
     plainSeries (plainLine 0 100000 10 ++ (plainLine 1 83000 10 ++ (plainLine 2 60000 11 ++ plainLine 3 60000 11)))
     (inSectorZero 0 10000 10000 10000 ++ (10000 ∷ replicate 7 0)) [] (replicate 12 (pos 0)) (replicate 4 0)
 

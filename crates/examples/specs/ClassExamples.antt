@@ -39,7 +39,7 @@ lentWords coal cpi = rowOf 0 ++ (rowOf coal ++ (rowOf 0 ++ (rowOf cpi ++ rowOf 0
 
 -- example 3's month is 10, and the table's first month 9
 unfoldable pub indexedNumbers : FixingNumbers
-indexedNumbers = record { month = 10; dollar = 100000; «reference_factor» = 10000; «first_month» = 9 }
+indexedNumbers = record { month = 10; day = 1; dollar = 100000; «reference_factor» = 10000; «first_month» = 9 }
 
 -- example 3's line: coal over 610,160 with weight 6,000, CPI over 10,000 with weight 4,000, each of one month; its
 -- power words pass
