@@ -12,7 +12,7 @@ use Rattle.ledger.specs.Ledger.{openingLedger, presentIn, chargeIn}
 use Rattle.ledger.specs.Billed.{splitCharge, billedUnder}
 use Rattle.ledger.specs.Fix.{FixingCall, fixingCallOf, fixingAnswer, fixingAnswered, fixingLedger}
 use Rattle.ledger.specs.Settle.{SettlementCall, settlementCallOf, settlementLedger}
-use Rattle.ledger.specs.Example.{plainLine, plainSeries, printLedger}
+use Rattle.ledger.specs.Example.{plainLine, plainSeries, printCall, printLedger}
 use Rattle.ledger.specs.declared.ledger.Ledger.{Ledger}
 use Rattle.ledger.proofs.Computed.{ledgerComputed}
 use Rattle.examples.specs.ClassExamples.{settledNumber, firstMoney}
@@ -37,6 +37,15 @@ example-eleventh = refl
 example-alone : fixingAnswered (fixingAnswer (openingLedger 3) eleventhCall) .number ≡ 16
 unfolding ledgerComputed
 example-alone = refl
+
+-- a second fixing for month 2 leaves the print's as the older, one for month 1 leaves none
+example-same-month : chargeIn (fixingLedger split eleventhCall .older) 0 ≡ negsuc 15661
+unfolding ledgerComputed
+example-same-month = refl
+
+example-earlier-month : fixingLedger split printCall .«has_older» ≡ false
+unfolding ledgerComputed
+example-earlier-month = refl
 
 -- sector 0 of each distributor, and sector 1 of distributor 1: whether it is present, and its charge
 abbrev billedSectors : ℕ → List Bool × List ℤ
