@@ -1,2 +1,3 @@
 pub mod ClassExamples
 pub mod JoinExample
+pub mod SplitExample

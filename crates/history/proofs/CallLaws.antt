@@ -35,7 +35,7 @@ use Rattle.settlement.specs.Month.{moneyAt, moneyBelow, positionList, settledMo
 use Rattle.settlement.proofs.MonthLaws.{money-at, money-next, money-same}
 use Rattle.ledger.specs.Calendar.{dayAllowed}
 use Rattle.ledger.specs.Ledger.{countAt, anySettled, nextMonth, makesOlder, staysOlder, olderStands, olderBeside}
-use Rattle.ledger.specs.Ledger.{fixedLedger, raisedCounts, settledLedger, joinedLedger}
+use Rattle.ledger.specs.Ledger.{unfixedLedger, fixedLedger, raisedCounts, settledLedger, joinedLedger}
 use Rattle.ledger.specs.Billed.{billedUnder}
 use Rattle.ledger.specs.Sound.{sound}
 use Rattle.ledger.specs.Turn.{fixingTurn, settlementTurn}
@@ -321,7 +321,7 @@ module _ (plain : Plain) where
   those-before f new i p = rw (lt-ltb i (plain .count) p)
 
   pub join-step : joinLedger (image plain) ≡ image (plainStep plain join)
-  unfolding image joinLedger joinedLedger plainStep plainAccepts plainAnswer plainChange
+  unfolding image joinLedger joinedLedger unfixedLedger plainStep plainAccepts plainAnswer plainChange
   join-step =
       go (isPassed (joinVerdict (image plain))) refl
       ∙ ap (λ b. image (cond b (plainChange plain join) plain)) (join-same .accepts)
@@ -331,18 +331,7 @@ module _ (plain : Plain) where
       go true e =
           let p : plain .count < mostDistributors = join-passed (image plain) e in
           let balance = withOneMore (plain .count) (plain .balance) (pos 0) in
-          ap₂ {C = Ledger} (λ b c. record {
-            n = plain .count + 1;
-            last = plain .last;
-            fixed = false;
-            month = 0;
-            day = 0;
-            force = noCharges;
-            «has_older» = false;
-            older = noCharges;
-            balances = b;
-            counts = c;
-          })
+          ap₂ (unfixedLedger (plain .count + 1) (plain .last))
           (money-next balance (plain .count) (moneyBelow (plain .count) (plain .balance)) (pos 0) p
           (money-same (plain .balance) (plain .count) balance (those-before (plain .balance) (pos 0)))
           (one-more (plain .balance) (pos 0)))

@@ -15,9 +15,8 @@ use Rattle.numbers.proofs.UnitLaws.{between-yes}
 use Rattle.numbers.proofs.ListLaws.{filled-empty}
 use Rattle.settlement.specs.Month.{moneyAt, moneyBelow}
 use Rattle.settlement.proofs.MonthLaws.{money-none}
-use Rattle.fixing.specs.Sector.{noCharges}
 use Rattle.fixing.specs.Input.{inputDistributors}
-use Rattle.ledger.specs.Ledger.{noBalances, emptyLedger, openingChecks, openingVerdict, openingLedger}
+use Rattle.ledger.specs.Ledger.{noBalances, unfixedLedger, emptyLedger, openingChecks, openingVerdict, openingLedger}
 use Rattle.ledger.specs.Billed.{billedUnder}
 use Rattle.ledger.specs.Sound.{sound}
 use Rattle.ledger.specs.Fix.{FixingCall, fixingList, fixingPowerList}
@@ -141,25 +140,14 @@ module _ (n : ℕ) (p : 1 ≤ n) (q : n ≤ mostDistributors) where
   opened-is = rw (between-yes 1 mostDistributors n p q, opened)
 
   opened-same : opened n ≡ image (plainOpened n)
-  unfolding emptyLedger noBalances image plainOpened
+  unfolding emptyLedger unfixedLedger noBalances image plainOpened
   opened-same =
       opened-is
-      ∙ ap₂ {C = Ledger} (λ b c. record {
-        n = n;
-        last = 0;
-        fixed = false;
-        month = 0;
-        day = 0;
-        force = noCharges;
-        «has_older» = false;
-        older = noCharges;
-        balances = b;
-        counts = c;
-      }) none-same
+      ∙ ap₂ (unfixedLedger n 0) none-same
       (filled-empty mostDistributors 0 n (λ i. 0) (λ i r. refl))
 
   opened-total : total (opened n) ≡ pos 0
-  unfolding emptyLedger noBalances signedSumBelow
+  unfolding emptyLedger unfixedLedger noBalances signedSumBelow
   opened-total = ap total opened-is ∙ money-sum 0 (omega arith) (λ i. pos 0)
 
   start : (calls : List Call) → Carried (plainOpened n) calls

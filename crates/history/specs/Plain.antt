@@ -62,8 +62,8 @@ abbrev pub heldForce : ℕ → Option FixingCall → SectorCharges
 heldForce n none = noCharges
 heldForce n (some call) = sectorCharges n (charge (inputDistributors n (call .input))) (call .input .sectors)
 
--- the arguments kept as the older beside a new fixing for a month: for a later one those held, for the same one the older
--- as before, for an earlier one none
+-- the arguments kept as the older beside a new fixing for a month: for a later one those held, for the same one the
+-- older as before, for an earlier one none
 unfoldable pub olderFor : Option FixingCall → Option FixingCall → ℕ → Option FixingCall
 olderFor none older month = none
 olderFor (some call) older month =

@@ -1,9 +1,8 @@
 -- What a sound ledger bills a month under: no charge is beyond ±10,500,000. Assumes nothing.
 use mathlib.Core.Path.{_≡_, refl}
-use mathlib.Core.Bool.{Bool, true, false, cond, _&&_}
+use mathlib.Core.Bool.{Bool, true, false, cond}
 use Prim.Native.Nat.{ℕ, _+_, _-_, _*_, _≤_, _<_}
 use native.Mathlib.Omega.{arith}
-use native.Mathlib.Nat.{mul-le-mul}
 use lib.Dec.{ltb, eqb}
 use lib.IntN.{ℤ, pos, natAbs, _+ℤ_, _*ℤ_}
 use borrow.Author.Tests.{ltb-true}
@@ -11,12 +10,11 @@ use Rattle.numbers.specs.Sizes.{sectorCount}
 use Rattle.numbers.proofs.BoolLaws.{and-right}
 use Rattle.numbers.proofs.RoundingLaws.{away-le}
 use Rattle.numbers.proofs.SignedLaws.{size-add-le, size-mul-le}
-use Rattle.fixing.specs.declared.sector.SectorCharges.{SectorCharges}
 use Rattle.settlement.specs.Amount.{mostCharge, chargeAt}
 use Rattle.ledger.specs.Calendar.{daysOf}
 use Rattle.ledger.specs.Ledger.{chargeIn}
 use Rattle.ledger.specs.Billed.{splitCharge, eitherPresent, splitCharges, isSplit, chargesFor, billedUnder}
-use Rattle.ledger.specs.Required.{mostDays, Divided}
+use Rattle.ledger.specs.Required.{Divided}
 use Rattle.ledger.specs.Sound.{sound}
 use Rattle.ledger.specs.declared.ledger.Ledger.{Ledger}
 use Rattle.ledger.proofs.CalendarLaws.{days-most}

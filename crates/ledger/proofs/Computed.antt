@@ -9,8 +9,8 @@ use Rattle.ledger.specs.Fix.{linesWhole, fixingLengths, inForceLength, f
 use Rattle.ledger.specs.Fix.{acceptedAnswer, fixingAnswer, fixingLedger, priceWord, priceList, fixingList}
 use Rattle.ledger.specs.Calendar.{isLeapYear, daysOf, dayAllowed}
 use Rattle.ledger.specs.Billed.{splitCharge, eitherPresent, splitCharges, isSplit, chargesFor, billedUnder}
-use Rattle.ledger.specs.Ledger.{noBalances, emptyLedger, anySettled, nextMonth, makesOlder, staysOlder}
-use Rattle.ledger.specs.Ledger.{olderStands, olderBeside, fixedLedger, raisedCounts, settledLedger}
+use Rattle.ledger.specs.Ledger.{noBalances, unfixedLedger, emptyLedger, anySettled, nextMonth, makesOlder}
+use Rattle.ledger.specs.Ledger.{staysOlder, olderStands, olderBeside, fixedLedger, raisedCounts, settledLedger}
 use Rattle.ledger.specs.Ledger.{joinedLedger, openingChecks, openingVerdict, openingLedger}
 use Rattle.ledger.specs.Settle.{settlementLengths, positionsOf, settlementChecks, settlementVerdict}
 use Rattle.ledger.specs.Settle.{settlementLedger, settlementList}
@@ -25,10 +25,10 @@ unfoldable pub ledgerComputed : ℕ
 unfolding fixingComputed settlementComputed plainLine plainSeries plainNumbers plainCall printCall printLedger
     firstBilling secondBilling firstLedger linesWhole fixingLengths inForceLength fixingChecks fixingVerdict
     acceptedAnswer fixingAnswer fixingLedger priceWord priceList fixingList isLeapYear daysOf dayAllowed splitCharge
-    eitherPresent splitCharges isSplit chargesFor billedUnder noBalances emptyLedger anySettled nextMonth makesOlder
-    staysOlder olderStands olderBeside fixedLedger raisedCounts settledLedger joinedLedger openingChecks openingVerdict openingLedger
-    settlementLengths positionsOf settlementChecks settlementVerdict settlementLedger settlementList joinChecks
-    joinVerdict joinLedger placesHeld placeTest placeSound forceSound olderSound daySound fixingsSound unsetZero
-    monthsSound countTest countsSound
-    balanceTest balanceSound eachBalance balancesSound sound fixingTurn settlementTurn
+    eitherPresent splitCharges isSplit chargesFor billedUnder noBalances unfixedLedger emptyLedger anySettled
+    nextMonth makesOlder staysOlder olderStands olderBeside fixedLedger raisedCounts settledLedger joinedLedger
+    openingChecks openingVerdict openingLedger settlementLengths positionsOf settlementChecks settlementVerdict
+    settlementLedger settlementList joinChecks joinVerdict joinLedger placesHeld placeTest placeSound forceSound
+    olderSound daySound fixingsSound unsetZero monthsSound countTest countsSound balanceTest balanceSound eachBalance
+    balancesSound sound fixingTurn settlementTurn
 ledgerComputed = 0

@@ -15,7 +15,8 @@ use Rattle.numbers.specs.Bounded.{anyBelow}
 use Rattle.numbers.specs.Signed.{signedSumBelow}
 use Rattle.numbers.specs.Refusal.{isPassed}
 use Rattle.numbers.specs.Rounding.{halfUp}
-use Rattle.numbers.specs.Sizes.{mostDistributors, sectorCount, sectorPlaces}
+use Rattle.numbers.specs.Sizes.{mostDistributors, sectorCount}
+use Rattle.numbers.specs.declared.units.Pesos.{Pesos}
 use Rattle.numbers.proofs.BoolLaws.{and-left, and-right, or-else}
 use Rattle.numbers.proofs.RoundingLaws.{away-size}
 use Rattle.numbers.proofs.SignedLaws.{zero-size, size-mul, signed-sum-add, signed-sum-same, sum-wide}
@@ -35,7 +36,8 @@ use Rattle.settlement.specs.Settlement.{positionOf, newBalance, oneSign}
 use Rattle.settlement.specs.Month.{moneyAt, moneyBelow, positionList, settledMonth}
 use Rattle.settlement.proofs.SettlementLaws.{balances-sign, balances-total}
 use Rattle.settlement.proofs.MonthLaws.{money-at, positions-within, balances-within}
-use Rattle.ledger.specs.Ledger.{presentIn, chargeIn, countAt, anySettled, nextMonth, noBalances, emptyLedger}
+use Rattle.ledger.specs.Ledger.{presentIn, chargeIn, countAt, anySettled, nextMonth, noBalances, noCounts}
+use Rattle.ledger.specs.Ledger.{unfixedLedger, emptyLedger}
 use Rattle.ledger.specs.Ledger.{makesOlder, staysOlder, olderStands, olderBeside, fixedLedger, raisedCounts}
 use Rattle.ledger.specs.Ledger.{settledLedger, joinedLedger}
 use Rattle.ledger.specs.Billed.{billedUnder}
@@ -67,30 +69,24 @@ no-balance count z h = record { uncounted = λ p. h; within = rw h (omega arith)
 no-places : (held : ℕ) → PlacesFacts held noCharges
 no-places held k p = empty-place held _ _ k (nothing-at k p .0) (nothing-at k p .1)
 
--- with nothing fixed the fixings are sound
-nothing-fixed : (ledger : Ledger) → ledger .fixed ≡ false → ledger .«has_older» ≡ false → ledger .day ≡ 0 →
-    ledger .force ≡ noCharges → ledger .older ≡ noCharges → FixingsFacts ledger
-unfolding daySound
-nothing-fixed ledger f o d e g =
-    record {
-      force = rw e (no-places _);
-      older = rw g (no-places _);
-      beside = λ t. absurd (true≢false (sym t ∙ o));
-      day = rw (f, d);
-    }
+nothing-fixed : (n last : ℕ) (balances : List Pesos) (counts : List ℕ) →
+    FixingsFacts (unfixedLedger n last balances counts)
+unfolding unfixedLedger daySound
+nothing-fixed n last balances counts =
+    record { force = no-places _; older = no-places _; beside = λ e. absurd (true≢false (sym e)); day = refl }
 
 none-sign : (f : ℕ → ℤ) → oneSign 0 f ≡ true
 unfolding oneSign anyBelow
 none-sign f = refl
 
 pub opened-sound : (n : ℕ) → 1 ≤ n → n ≤ mostDistributors → sound (emptyLedger n) ≡ true
-unfolding emptyLedger noBalances
+unfolding emptyLedger unfixedLedger noBalances
 opened-sound n p q =
     sound-test (emptyLedger n)
     (record {
       some = p;
       few = q;
-      fixings = nothing-fixed (emptyLedger n) refl refl refl refl refl;
+      fixings = nothing-fixed n 0 noBalances noCounts;
       unset = record { unfixed = λ e. refl; unsettled = λ e. refl };
       month =
           record {
@@ -354,7 +350,7 @@ settlement-keeps ledger call h = go (isPassed (settlementVerdict ledger call)) r
     go false e = h
 
 pub join-keeps : (ledger : Ledger) → sound ledger ≡ true → sound (joinLedger ledger) ≡ true
-unfolding joinLedger joinedLedger anySettled
+unfolding joinLedger joinedLedger unfixedLedger anySettled
 join-keeps ledger h = go (isPassed (joinVerdict ledger)) refl
   where
     accepted : ledger .n < mostDistributors → sound (joinedLedger ledger) ≡ true
@@ -365,7 +361,7 @@ join-keeps ledger h = go (isPassed (joinVerdict ledger)) refl
         (record {
           some = omega arith;
           few = omega (arith, p);
-          fixings = nothing-fixed _ refl refl refl refl refl;
+          fixings = nothing-fixed (ledger .n + 1) (ledger .last) (ledger .balances) (ledger .counts);
           unset = record { unfixed = λ e. refl; unsettled = g .unset .unsettled };
           month = record { lastMost = g .month .lastMost; monthMost = omega arith; due = λ e. omega arith };
           count = λ i r. record { past = λ q. g .count i r .past (omega arith); few = g .count i r .few };
@@ -379,7 +375,7 @@ join-keeps ledger h = go (isPassed (joinVerdict ledger)) refl
 
 -- a join moves no balance
 pub join-balances : (ledger : Ledger) → sound ledger ≡ true → joinLedger ledger .balances ≡ ledger .balances
-unfolding joinLedger joinedLedger
+unfolding joinLedger joinedLedger unfixedLedger
 join-balances ledger h = go (isPassed (joinVerdict ledger)) refl
   where
     go : (b : Bool) → isPassed (joinVerdict ledger) ≡ b → cond b (joinedLedger ledger) ledger .balances ≡ ledger

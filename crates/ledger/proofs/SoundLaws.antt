@@ -20,7 +20,8 @@ use Rattle.settlement.specs.Amount.{mostCharge}
 use Rattle.settlement.specs.Month.{moneyAt}
 use Rattle.settlement.specs.Required.{MoneyWithin}
 use Rattle.ledger.specs.Calendar.{daysOf, dayAllowed}
-use Rattle.ledger.specs.Ledger.{chargeIn, countAt, anySettled, emptyLedger, raisedCounts, settledLedger}
+use Rattle.ledger.specs.Ledger.{chargeIn, countAt, anySettled, unfixedLedger, emptyLedger, raisedCounts}
+use Rattle.ledger.specs.Ledger.{settledLedger}
 use Rattle.ledger.specs.Required.{CountsWithin}
 use Rattle.ledger.specs.Sound.{daySound, sound}
 use Rattle.ledger.specs.declared.ledger.Ledger.{Ledger}
@@ -49,7 +50,7 @@ none-settled ledger h i p =
     (not-false (eqb (countAt (ledger .counts) i) 0) (any-none mostDistributors (isCounted ledger) h i p))
 
 pub opened-settled : (n : ℕ) → anySettled (emptyLedger n) ≡ false
-unfolding anySettled emptyLedger
+unfolding anySettled emptyLedger unfixedLedger
 opened-settled n =
     any-never mostDistributors (isCounted (emptyLedger n))
     (λ i p. rw (getD-replicate {A = ℕ} mostDistributors i 0 0 p))

@@ -1,6 +1,6 @@
 -- The ledger of document 01 ("Taken and handed back by value"), with a count of settled months for each distributor
--- (W-205 of document 02) and an older fixing beside the one in force (W-206): how it opens, and how an accepted fixing, a
--- settled month and a join change it. Assumes nothing.
+-- (W-205 of document 02) and an older fixing beside the one in force (W-206): how it opens, and how an accepted fixing,
+-- a settled month and a join change it. Assumes nothing.
 use mathlib.Core.Path.{_≡_}
 use mathlib.Core.Bool.{Bool, true, false, cond, not, _&&_, _||_}
 use mathlib.Core.List.{List, [], _∷_}
@@ -36,21 +36,25 @@ noBalances = moneyBelow 0 (λ i. pos 0)
 abbrev pub noCounts : List ℕ
 noCounts = replicate mostDistributors 0
 
--- a ledger of n distributors with nothing else set; of none, the all-zero ledger
-unfoldable pub emptyLedger : ℕ → Ledger
-emptyLedger n =
+-- a ledger of n distributors with no fixing, in force or older
+unfoldable pub unfixedLedger : ℕ → ℕ → List Pesos → List ℕ → Ledger
+unfixedLedger n last balances counts =
     record {
       n = n;
-      last = 0;
+      last = last;
       fixed = false;
       month = 0;
       day = 0;
       force = noCharges;
       «has_older» = false;
       older = noCharges;
-      balances = noBalances;
-      counts = noCounts;
+      balances = balances;
+      counts = counts;
     }
+
+-- and with nothing else set; of none, the all-zero ledger
+unfoldable pub emptyLedger : ℕ → Ledger
+emptyLedger n = unfixedLedger n 0 noBalances noCounts
 
 -- one distributor's count of settled months
 abbrev pub countAt : List ℕ → ℕ → ℕ
@@ -120,18 +124,8 @@ settledLedger ledger month balances =
 -- "zero on joining"
 unfoldable pub joinedLedger : Ledger → Ledger
 joinedLedger ledger =
-    record {
-      n = ledger .n + 1;
-      last = ledger .last;
-      fixed = false;
-      month = 0;
-      day = 0;
-      force = noCharges;
-      «has_older» = false;
-      older = noCharges;
-      balances = set (ledger .balances) (ledger .n) noMoney;
-      counts = set (ledger .counts) (ledger .n) 0;
-    }
+    unfixedLedger (ledger .n + 1) (ledger .last) (set (ledger .balances) (ledger .n) noMoney)
+    (set (ledger .counts) (ledger .n) 0)
 
 -- the check of an opening: "opening, n not 1 to 40"
 unfoldable pub openingChecks : ℕ → List Check

@@ -272,9 +272,9 @@ fn make_fixing(
 }
 
 // A fixing of the ledger's distributors for a month, or from a later day of it on, from the dollar, the reference
-// factor, the index series with its first month, the supply lines and the sector factors. Where it is accepted the price
-// list and the power list are written and the fixing is in force in the ledger handed back; where it is refused all three
-// are as they were.
+// factor, the index series with its first month, the supply lines and the sector factors. Where it is accepted the
+// price list and the power list are written and the fixing is in force in the ledger handed back; where it is refused
+// all three are as they were.
 pub fn fix(
     ledger: Ledger,
     numbers: FixingNumbers,

@@ -6,7 +6,6 @@ use borrow.Author.Tests.{eq-eqb}
 use Rattle.numbers.specs.Refusal.{Answered, isPassed}
 use Rattle.numbers.specs.declared.refusal.Verdict.the-variants.{Passed}
 use Rattle.numbers.proofs.CheckLaws.{passed-number, is-passed}
-use Rattle.supply.specs.declared.market.FixingNumbers.{FixingNumbers}
 use Rattle.fixing.specs.Fixing.{fixingOf}
 use Rattle.fixing.proofs.IndependenceLaws.{fixing-same}
 use Rattle.ledger.specs.Ledger.{fixedLedger}

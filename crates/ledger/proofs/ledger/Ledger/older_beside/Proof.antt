@@ -1,5 +1,5 @@
 -- By which of the two tests holds first.
-use mathlib.Core.Path.{_≡_, sym, _∙_}
+use mathlib.Core.Path.{sym, _∙_}
 use borrow.Author.Needs.{needs}
 use Rattle.ledger.specs.Ledger.{olderBeside}
 use Rattle.ledger.proofs.ledger.Ledger.older_beside.Statement.{statement}
