@@ -26,6 +26,10 @@ truthWord false = 0
 abbrev pub wordTruth : ℕ → Bool
 wordTruth word = not (eqb word 0)
 
+-- word k of a list; "parts not given being zero"
+abbrev pub wordAt : List ℕ → ℕ → ℕ
+wordAt words k = getD words k 0
+
 -- where the older fixing, the balances and the counts stand after the fixing in force, and how many words there are; a
 -- fixing has its presences and its charges
 abbrev pub olderFrom : ℕ
@@ -63,10 +67,10 @@ wordOwner k =
 
 -- whether the words past n distributors are zero
 unfoldable pub zeroPast : ℕ → List ℕ → Bool
-zeroPast n words = allBelow keptWords (λ k. ltb (wordOwner k) n || eqb (getD words k 0) 0)
+zeroPast n words = allBelow keptWords (λ k. ltb (wordOwner k) n || eqb (wordAt words k) 0)
 
--- "where N is above 40 or a word past N is not zero, all 320, 320, 320, 320, 40 and 40": for how many
--- distributors words are kept
+-- "where N is above 40 or a word past N is not zero, all 320, 320, 320, 320, 40 and 40": for how many distributors
+-- words are kept
 unfoldable pub keptAmong : ℕ → List ℕ → ℕ
 keptAmong n words = cond (leb n mostDistributors && zeroPast n words) n mostDistributors
 
@@ -95,10 +99,7 @@ pub record Saved (ledger : Ledger) (saved : Parts) (words : List ℕ) : Type 0 w
   pub parts : partsIn saved words ≡ ledgerParts ledger
   pub held : FormHeld loadForm saved (length words)
 
--- "parts not given being zero": word k of a list, and the fixing of its presences and charges
-abbrev pub wordAt : List ℕ → ℕ → ℕ
-wordAt words k = getD words k 0
-
+-- a fixing by the words of its presences and its charges
 unfoldable pub loadedCharges : List ℕ → List ℕ → SectorCharges
 loadedCharges present charges =
     filledPlaces sectorPlaces (λ k. wordTruth (wordAt present k)) (λ k. signedOf (wordAt charges k))

@@ -43,7 +43,8 @@ load-spec =
     (λ c κs. search needs)
     (λ c κs. part-lies (c .before .before .before .before .before .before .before .pre) 10 (omega arith))
     (λ c κs. search needs)
-    (λ c κs. part-lies (c .before .before .before .before .before .before .before .before .before .pre) 11 (omega arith))
+    (λ c κs. part-lies (c .before .before .before .before .before .before .before .before .before .pre) 11
+    (omega arith))
     (λ c κs. search needs) (λ c. search needs) (λ c. search needs) (λ c. search needs) (λ c κs. search needs)
     (λ c. search needs) (λ c. search needs) (λ c. search needs) (λ c κs. search needs)
     returns)

@@ -1,4 +1,5 @@
 -- The invariant: the first i counts are those of the words.
+use mathlib.Core.Path.{refl}
 use Prim.Native.Nat.{_-_}
 use native.Mathlib.Omega.{arith}
 use borrow.Author.Needs.{needs}
@@ -7,7 +8,6 @@ use Rattle.numbers.proofs.ListLaws.{Written, written-none, written-more, writte
 use Rattle.store.specs.Store.{wordAt}
 use Rattle.store.proofs.load.load_counts.Statement.{statement}
 use Rattle.store.proofs.load.load_counts.Tie as tie
-use mathlib.Core.Path.{refl}
 
 abbrev Inv-loop : tie.InvT-loop
 Inv-loop words counts₀ i₀ counts i = Written (wordAt words) mostDistributors counts i
@@ -28,7 +28,6 @@ load-counts-spec =
     Inv-loop
     μ-loop
     (λ c. written-none _ _ _ refl)
-    (λ c κs. search needs) (λ c. omega arith) (λ c. omega (arith, c .before .before .loop .inv .long)) (λ c. omega arith)
-    (λ c. omega arith)
+    (λ c κs. search needs) (λ c. omega arith) (λ c. omega arith) (λ c. omega arith) (λ c. omega arith)
     loop-again
     returns)
