@@ -1,9 +1,14 @@
 -- By which of the two tests holds first.
-use mathlib.Core.Path.{sym, _∙_}
+use mathlib.Core.Path.{_≡_, sym, _∙_}
+use mathlib.Core.Bool.{false}
 use borrow.Author.Needs.{needs}
-use Rattle.ledger.specs.Ledger.{olderBeside}
+use Rattle.ledger.specs.Ledger.{makesOlder, olderBeside}
 use Rattle.ledger.proofs.ledger.Ledger.older_beside.Statement.{statement}
 use Rattle.ledger.proofs.ledger.Ledger.older_beside.Tie as tie
+
+-- where the one in force is not made the older
+unmade : (c : tie.Else1) → makesOlder (c .before .before .args .self) (c .before .before .args .month) ≡ false
+unmade c = sym (c .before .makes-older .ensures) ∙ c .if1 .left
 
 returns : tie.Need-returns
 unfolding olderBeside
@@ -13,20 +18,13 @@ returns-2 : tie.Need-returns-2
 unfolding olderBeside
 returns-2 c =
     let e = c .before in
-    rw (
-      sym (e .before .before .before .makes-older .ensures) ∙ e .before .before .if1 .left,
-      sym (e .before .stays-older .ensures) ∙ e .if2 .taken,
-    )
+    rw (unmade (e .before .before), sym (e .before .stays-older .ensures) ∙ e .if2 .taken)
 
 returns-3 : tie.Need-returns-3
 unfolding olderBeside
 returns-3 c =
     let e = c .before in
-    rw (
-      sym (e .before .before .before .makes-older .ensures) ∙ e .before .before .if1 .left,
-      sym (e .before .stays-older .ensures) ∙ e .if2 .left,
-    )
-    (c .no-charges .ensures)
+    rw (unmade (e .before .before), sym (e .before .stays-older .ensures) ∙ e .if2 .left) (c .no-charges .ensures)
 
 pub older-beside-spec : {M : Type 1} → statement M
 older-beside-spec =
