@@ -65,8 +65,7 @@ fn print(text: &[u8], count: usize) {
 }
 
 fn main() {
-    let opening = open(3);
-    let ledger = opening.ledger;
+    let ledger = open(3).ledger;
     let mut series = [0u64; WORDS];
     series[FIRST_CPI] = 10000;
     let lines = lines();
