@@ -5,10 +5,12 @@ use mathlib.Core.Path.{_≡_, refl}
 use mathlib.Core.Bool.{Bool, true, false}
 use mathlib.Core.List.{List, [], _∷_, _++_}
 use Prim.Native.Nat.{ℕ}
-use lib.ListN.{replicate}
+use lib.ListN.{getD, replicate}
 use lib.IntN.{ℤ, pos, negsuc}
-use Rattle.settlement.specs.Example.{billedReadings, evenLosses}
-use Rattle.ledger.specs.Ledger.{openingLedger, presentIn, chargeIn}
+use Rattle.fixing.specs.Sector.{filledPlaces}
+use Rattle.fixing.specs.declared.sector.SectorCharges.{SectorCharges}
+use Rattle.settlement.specs.Example.{inSectorZero, billedReadings, evenLosses}
+use Rattle.ledger.specs.Ledger.{openingLedger, noBalances, noCounts, presentIn, chargeIn}
 use Rattle.ledger.specs.Billed.{splitCharge, billedUnder}
 use Rattle.ledger.specs.Fix.{FixingCall, fixingCallOf, fixingAnswer, fixingAnswered, fixingLedger}
 use Rattle.ledger.specs.Settle.{SettlementCall, settlementCallOf, settlementLedger}
@@ -17,17 +19,44 @@ use Rattle.ledger.specs.declared.ledger.Ledger.{Ledger}
 use Rattle.ledger.proofs.Computed.{ledgerComputed}
 use Rattle.examples.specs.ClassExamples.{settledNumber, firstMoney}
 
--- the fixing from the 11th on, and the ledger with it
+-- a word for sector 0 of distributors 0 and 2 and for sector 1 of distributor 1
+abbrev inSectorOne : {A : Type 0} → A → A → A → A → List A
+inSectorOne none a b c = (a ∷ replicate 8 none) ++ ((b ∷ replicate 6 none) ++ (c ∷ replicate 7 none))
+
+-- the fixing from the 11th on
 abbrev eleventhCall : FixingCall
 eleventhCall =
     fixingCallOf false
     (record { month = 2; day = 11; dollar = 100000; «reference_factor» = 10000; «first_month» = 1 })
     plainSeries (plainLine 0 90000 10 ++ (plainLine 1 83000 10 ++ plainLine 2 60000 11))
-    ((10000 ∷ replicate 8 0) ++ ((10000 ∷ replicate 6 0) ++ (10000 ∷ replicate 7 0)))
-    [] (replicate 9 (pos 0)) (replicate 3 0)
+    (inSectorOne 0 10000 10000 10000) [] (replicate 9 (pos 0)) (replicate 3 0)
+
+-- the ledger with both: the print's charges are the older ones
+abbrev chargedSectors : List Bool → List ℤ → SectorCharges
+chargedSectors present charges = filledPlaces 24 (λ k. getD present k false) (λ k. getD charges k (pos 0))
 
 abbrev split : Ledger
-split = fixingLedger printLedger eleventhCall
+split =
+    record {
+      n = 3;
+      last = 0;
+      fixed = true;
+      month = 2;
+      day = 11;
+      force =
+          chargedSectors (inSectorOne false true true true)
+          (inSectorOne (pos 0) (negsuc 9048) (negsuc 2048) (pos 10090));
+      «has_older» = true;
+      older =
+          chargedSectors (inSectorZero false true true true)
+          (inSectorZero (pos 0) (negsuc 15661) (pos 1338) (pos 13022));
+      balances = noBalances;
+      counts = noCounts;
+    }
+
+example-split-ledger : fixingLedger printLedger eleventhCall ≡ split
+unfolding ledgerComputed
+example-split-ledger = refl
 
 -- it stands beside the print's, and alone it is refused
 example-eleventh : fixingAnswered (fixingAnswer printLedger eleventhCall) .number ≡ 0
@@ -39,7 +68,7 @@ unfolding ledgerComputed
 example-alone = refl
 
 -- a second fixing for month 2 leaves the print's as the older, one for month 1 leaves none
-example-same-month : chargeIn (fixingLedger split eleventhCall .older) 0 ≡ negsuc 15661
+example-same-month : fixingLedger split eleventhCall .older ≡ split .older
 unfolding ledgerComputed
 example-same-month = refl
 
