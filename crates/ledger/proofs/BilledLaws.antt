@@ -21,7 +21,7 @@ use Rattle.ledger.proofs.CalendarLaws.{days-most}
 use Rattle.ledger.proofs.PlaceLaws.{charge-at}
 use Rattle.ledger.proofs.SoundLaws.{sound-few, sound-day, force-within, older-within}
 
--- a charge divided by days is no greater than the greater of the two
+-- a charge divided by days is within the bound of both
 module _ (days before : ℕ) (old new : ℤ) (some : before < days) (p : natAbs old ≤ mostCharge)
     (q : natAbs new ≤ mostCharge) where
   pub weighed-size : natAbs (old *ℤ pos before +ℤ new *ℤ pos (days - before)) ≤ mostCharge * days

@@ -22,10 +22,11 @@ pub record PricesSmall (averages finals : List PesoPrice) : Type 0 where
   pub average : (i : ℕ) → getD averages i noPrice .0 < 2 ^ 62
   pub final : (i : ℕ) → getD finals i noPrice .0 < 2 ^ 62
 
--- charges of n distributors to be divided by days: those of a sound ledger
+-- no month is longer
 abbrev pub mostDays : ℕ
 mostDays = 31
 
+-- charges of n distributors that may be divided by the days before and those that remain: those of a sound ledger
 pub record Divided (n days before : ℕ) (old new : SectorCharges) : Type 0 where
   pub few : n ≤ mostDistributors
   pub short : days ≤ mostDays
