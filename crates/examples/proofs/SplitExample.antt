@@ -109,6 +109,11 @@ example-billed-split : firstMoney 3 (settlementLedger split (sectorZero 2) .bala
 unfolding ledgerComputed firstMoney
 example-billed-split = refl
 
+-- the older fixing stays kept
+example-older-after : settlementLedger split (sectorZero 2) .«has_older» ≡ true
+unfolding ledgerComputed
+example-older-after = refl
+
 example-absent-after : settledNumber (settlementLedger split (sectorZero 2)) (sectorZero 3) ≡ 12
 unfolding ledgerComputed settledNumber
 example-absent-after = refl

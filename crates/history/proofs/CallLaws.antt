@@ -44,7 +44,6 @@ use Rattle.ledger.specs.Fix.{fixingLedger}
 use Rattle.ledger.specs.Settle.{SettlementCall, billingLengths, settlementChecks, settlementVerdict, settlementLedger}
 use Rattle.ledger.specs.Settle.{positionsOf}
 use Rattle.ledger.specs.Join.{joinChecks, joinVerdict, joinLedger}
-use Rattle.ledger.specs.declared.ledger.Ledger.{Ledger}
 use Rattle.ledger.proofs.SoundFacts.{sound-facts}
 use Rattle.ledger.proofs.MoneyLaws.{range-same, balance-same}
 use Rattle.ledger.proofs.CallLaws.{fixing-passed, join-passed}
@@ -52,7 +51,7 @@ use Rattle.ledger.proofs.FixLaws.{fixing-told, answer-told}
 use Rattle.ledger.proofs.SettleLaws.{settlement-told}
 use Rattle.ledger.proofs.JoinLaws.{join-told}
 use Rattle.history.specs.Run.{fixing, settlement, join}
-use Rattle.history.specs.Plain.{Plain, isHeld, heldMonth, heldDay, heldForce, olderFor, plainSettled, plainNext}
+use Rattle.history.specs.Plain.{Plain, isHeld, heldMonth, heldForce, olderFor, plainSettled, plainNext}
 use Rattle.history.specs.Plain.{plainUnder, image}
 use Rattle.history.specs.Plain.{cause, causeAtTerm, causeAtLine, firstCause, fixingCauses, plainFixing}
 use Rattle.history.specs.Plain.{plainAmount, plainPosition, settlementCauses, plainSettlement, plainAnswer}
@@ -280,25 +279,17 @@ module _ (plain : Plain) (call : SettlementCall) (h : sound (image plain) ≡ tr
           (settledMonth (plain .count) (positionsOf (image plain) call) .balances)) (image plain) ≡ image
           (cond b (plainChange plain (settlement call)) plain)
       go true =
-          ap₂ {C = Ledger} (λ b c. record {
-            n = plain .count;
-            last = call .month;
-            fixed = isHeld (plain .held);
-            month = heldMonth (plain .held);
-            day = heldDay (plain .held);
-            force = heldForce (plain .count) (plain .held);
-            «has_older» = isHeld (plain .older);
-            older = heldForce (plain .count) (plain .older);
-            balances = b;
-            counts = c;
-          })
-          (money-same (newBalance (plain .count) (moneyAt (positionsOf (image plain) call))) (plain .count)
-          (newBalance (plain .count) (plainPosition plain call))
-          (balance-same (plain .count) (moneyAt (positionsOf (image plain) call)) (plainPosition plain call)
-          position-same))
-          (filled-same mostDistributors 0 (plain .count) _ (λ i. plain .months i + 1)
-          (λ i p. ap (λ k. k + 1)
-          (filled-at mostDistributors 0 (plain .months) (plain .count) i p (omega (arith, few plain h)))))
+          rw (
+            money-same (newBalance (plain .count) (moneyAt (positionsOf (image plain) call))) (plain .count)
+                (newBalance (plain .count) (plainPosition plain call))
+                (balance-same (plain .count) (moneyAt (positionsOf (image plain) call)) (plainPosition plain call)
+                position-same),
+            filled-same mostDistributors 0 (plain .count)
+                (λ i. countAt (filledBelow mostDistributors 0 (plain .count) (plain .months)) i + 1)
+                (λ i. plain .months i + 1)
+                (λ i p. ap (λ k. k + 1)
+                (filled-at mostDistributors 0 (plain .months) (plain .count) i p (omega (arith, few plain h)))),
+          )
       go false = refl
 
 -- a join

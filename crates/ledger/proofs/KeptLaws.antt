@@ -16,6 +16,7 @@ use Rattle.numbers.specs.Signed.{signedSumBelow}
 use Rattle.numbers.specs.Refusal.{isPassed}
 use Rattle.numbers.specs.Rounding.{halfUp}
 use Rattle.numbers.specs.Sizes.{mostDistributors, sectorCount}
+use Rattle.numbers.specs.Units.{boundWhere}
 use Rattle.numbers.specs.declared.units.Pesos.{Pesos}
 use Rattle.numbers.proofs.BoolLaws.{and-left, and-right, or-else}
 use Rattle.numbers.proofs.RoundingLaws.{away-size}
@@ -111,7 +112,7 @@ charged-places : (n : ℕ) (d : Distributors) (sectors : List ℕ) → n ≤ mos
     ((i : ℕ) → i < n → natAbs (charge d i) ≤ 2000000) →
     ((k : ℕ) → k < n * sectorCount → factorAt sectors k ≤ mostFactor) →
     PlacesFacts (placesHeld n true) (sectorCharges n (charge d) sectors)
-unfolding placesHeld sectorCharges sectorPresent placeCharge
+unfolding placesHeld boundWhere sectorCharges sectorPresent placeCharge
 charged-places n d sectors few size factor k p = go (decLt k (n * sectorCount))
   where
     go : Dec (k < n * sectorCount) →

@@ -22,7 +22,7 @@ use Rattle.ledger.specs.declared.ledger.Ledger.{Ledger}
 -- the places where a sector may be present: "entries past n .. and everything unset are zero", so that without a fixing
 -- kept there are none
 unfoldable pub placesHeld : ℕ → Bool → ℕ
-placesHeld n kept = cond kept (n * sectorCount) 0
+placesHeld n kept = boundWhere kept (n * sectorCount)
 
 -- one sector's place, a sector being present at the first `held` alone: "charges within ±10,500,000", "charges of
 -- absent sectors .. are zero"

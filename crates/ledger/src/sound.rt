@@ -28,7 +28,7 @@ fn places_held(n: usize, kept: bool) -> usize
     requires { ⌜ n ≤ mostDistributors ⌝ }
     ensures { λ r. ⌜ r ≡ placesHeld n kept ⌝ }
 {
-    if kept { n * SECTORS } else { 0 }
+    bound_where(kept, (n * SECTORS) as u64) as usize
 }
 
 // One sector's place: a sector that is present is at a place held and has a charge within its bounds, an absent one

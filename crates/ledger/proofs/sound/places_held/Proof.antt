@@ -1,4 +1,4 @@
--- Whether a fixing is in force picks the count, as in the definition.
+-- The code is the definition.
 use borrow.Author.Needs.{needs}
 use Rattle.ledger.specs.Sound.{placesHeld}
 use Rattle.ledger.proofs.sound.places_held.Statement.{statement}
@@ -6,11 +6,7 @@ use Rattle.ledger.proofs.sound.places_held.Tie as tie
 
 returns : tie.Need-returns
 unfolding placesHeld
-returns c = rw (c .if1 .taken)
-
-returns-2 : tie.Need-returns-2
-unfolding placesHeld
-returns-2 c = rw (c .if1 .left)
+returns c = c .bound-where .ensures
 
 pub places-held-spec : {M : Type 1} → statement M
-places-held-spec = tie.close (tie.spec (λ c. search needs) returns returns-2)
+places-held-spec = tie.close (tie.spec (λ c. search needs) (λ c κs. search needs) returns)
