@@ -9,4 +9,5 @@ pub mod SignedLaws
 pub mod UnitLaws
 mod Digits
 pub mod SearchLaws
+pub mod RenumberingLaws
 pub mod Computed

@@ -63,6 +63,17 @@ sum-lt (suc k) f g h i p q =
     (λ l. omega (arith, sum-le-sum k f g before))
     i p q
 
+-- a sum of which one part alone counts
+pub sum-single : (k i : ℕ) (f : ℕ → ℕ) → i < k → sumBelow k (λ j. cond (eqb j i) (f j) 0) ≡ f i
+unfolding sumBelow
+sum-single zero i f p = absurd (omega arith)
+sum-single (suc k) i f p =
+    by-last k (λ e. sumBelow k (λ j. cond (eqb j e) (f j) 0) + cond (eqb k e) (f k) 0 ≡ f e)
+    (λ e q. rw (ne-eqb k e (λ h. omega arith)) (omega (arith, sum-single k e f q)))
+    (rw (eq-eqb k k refl) (omega
+    (arith, sum-le k 0 (λ j. cond (eqb j k) (f j) 0) (λ j q. rw (ne-eqb j k (λ h. omega arith)) (omega arith)))))
+    i p
+
 -- the first place at which a test fails
 pub record Fails (t : ℕ → Bool) : Type 0 where
   pub at : ℕ

@@ -88,6 +88,13 @@ unfolding sumBelow
 sum-scale zero c f = omega arith
 sum-scale (suc k) c f = rw (mul-add, sum-scale k c f)
 
+-- a sum of sums, either one first
+pub sum-exchange : (m n : ℕ) (f : ℕ → ℕ → ℕ) →
+    sumBelow m (λ i. sumBelow n (f i)) ≡ sumBelow n (λ j. sumBelow m (λ i. f i j))
+unfolding sumBelow
+sum-exchange zero n f = omega (arith, sum-le n 0 (λ j. 0) (λ j p. omega arith))
+sum-exchange (suc m) n f = omega (arith, sum-exchange m n f, sum-add n (λ j. sumBelow m (λ i. f i j)) (f m))
+
 -- the steps of a function that never falls add up to how far it climbs
 pub sum-steps : (k : ℕ) (g : ℕ → ℕ) → ((j : ℕ) → j < k → g j ≤ g (j + 1)) →
     sumBelow k (λ j. g (j + 1) - g j) + g 0 ≡ g k

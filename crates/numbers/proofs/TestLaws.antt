@@ -123,7 +123,7 @@ any-wide n m t p h =
     rw e at (any-up n (m - n) t (λ i q r. h i q (omega arith)))
 
 -- an index passes, unless each fails
-any-unless : (k : ℕ) (t : ℕ → Bool) → anyBelow k t ≡ not (allBelow k (λ i. not (t i)))
+pub any-unless : (k : ℕ) (t : ℕ → Bool) → anyBelow k t ≡ not (allBelow k (λ i. not (t i)))
 unfolding allBelow anyBelow
 any-unless zero t = refl
 any-unless (suc k) t = rw (any-unless k t) (either (allBelow k (λ i. not (t i))) (t k))

@@ -1,4 +1,5 @@
 pub mod Bounded
+pub mod Renumbering
 pub mod Refusal
 pub mod Required
 pub mod Checks

@@ -4,4 +4,5 @@ pub mod PriceLaws
 pub mod ListedLaws
 pub mod LinePriceLaws
 pub mod EnergyLaws
+pub mod RenumberedLaws
 pub mod Computed

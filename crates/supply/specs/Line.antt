@@ -1,11 +1,13 @@
 -- A supply line of document 01 ("Supply lines") with the power words of W-204 of document 02: of its 30 words these are
--- the places. Assumes nothing.
+-- the places; and lines that name new numbers (W-207). Assumes nothing.
 use mathlib.Core.Path.{_≡_}
-use mathlib.Core.Bool.{Bool, _||_}
+use mathlib.Core.Bool.{Bool, cond, _||_}
 use mathlib.Core.List.{List, [], _∷_}
-use Prim.Native.Nat.{ℕ, _+_, _*_, _/_, _<_}
+use Prim.Native.Nat.{ℕ, _+_, _*_, _/_, _%_, _<_}
 use lib.Dec.{ltb, eqb}
 use lib.ListN.{getD, length}
+use Rattle.numbers.specs.Bounded.{listBelow}
+use Rattle.numbers.specs.Renumbering.{Renumbering, numberBy}
 use Rattle.series.specs.Series.{cpiSeries}
 use Rattle.supply.specs.declared.line.Term.{Term}
 use Rattle.supply.specs.declared.line.Line.{Line}
@@ -110,6 +112,12 @@ termOf line k = getD (line .terms) k noTerm
 -- whether a line uses term k: those below its count, and always the power term
 unfoldable pub termUsed : Line → ℕ → Bool
 termUsed line k = ltb k (line .«term_count») || eqb k powerTerm
+
+-- "lines naming the new numbers in their old places": the first word of each line, its distributor, is renumbered
+unfoldable pub renumberedLines : {n : ℕ} → Renumbering n → List ℕ → List ℕ
+renumberedLines {n = n} r lines =
+    listBelow (length lines)
+    (λ at. cond (eqb (at % lineWords) 0) (numberBy n (r .new) (wordAt lines at)) (wordAt lines at))
 
 -- lines that agree in all but their power words: as many words, and in each line the words before those of power
 pub record SameEnergyWords (one other : List ℕ) : Type 0 where
