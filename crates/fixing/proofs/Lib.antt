@@ -12,5 +12,7 @@ pub mod InputLaws
 pub mod FixingLaws
 pub mod VerdictLaws
 pub mod IndependenceLaws
+mod RenumberedLimitLaws
+pub mod RenumberedLaws
 pub mod Computed
 mod PowerExample

@@ -8,6 +8,7 @@ use lib.ListN.{getD}
 use lib.IntN.{ℤ, pos, _*ℤ_}
 use Rattle.numbers.specs.Bounded.{allBelow, anyBelow, filledBelow}
 use Rattle.numbers.specs.Sizes.{sectorCount, sectorPlaces}
+use Rattle.numbers.specs.Renumbering.{Renumbering, movedAlong}
 use Rattle.numbers.specs.Rounding.{halfAway}
 use Rattle.fixing.specs.declared.sector.SectorCharges.{SectorCharges}
 
@@ -55,3 +56,11 @@ sectorCharges n charge sectors =
 -- nothing in force
 unfoldable pub noCharges : SectorCharges
 noCharges = filledPlaces 0 (λ k. false) (λ k. pos 0)
+
+-- presences and charges moved along with their distributors to new numbers (W-207 of document 02)
+unfoldable pub renumberedCharges : {n : ℕ} → Renumbering n → SectorCharges → SectorCharges
+renumberedCharges r force =
+    record {
+      present = movedAlong r sectorCount false sectorPlaces (force .present);
+      charges = movedAlong r sectorCount (pos 0) sectorPlaces (force .charges);
+    }

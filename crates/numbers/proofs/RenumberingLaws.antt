@@ -8,7 +8,7 @@ use Prim.Native.Nat.{ℕ, zero, suc, _+_, _*_, _/_, _%_, _≤_, _<_}
 use native.Mathlib.Omega.{arith}
 use native.Mathlib.Decide.{ℕ-discrete, decLt}
 use native.Mathlib.Nat.{mod-lt, div-add-mod, mul-add-div-right, mul-add-mod-self-right, div-eq-of-lt, mod-eq-of-lt}
-use native.Mathlib.Nat.{div-lt-iff-lt-mul, le-div-iff-mul-le, mul-le-mul-right}
+use native.Mathlib.Nat.{div-lt-iff-lt-mul, le-div-iff-mul-le, mul-le-mul-right, div-one, mod-one}
 use lib.Dec.{eqb, ltb}
 use lib.ListN.{getD}
 use borrow.Author.Tests.{eq-eqb, ne-eqb, lt-ltb, le-ltb}
@@ -164,6 +164,15 @@ module _ {n : ℕ} (r : Renumbering n) (width : ℕ) where
   unfolding placeBy
   place-at number i k p q = rw (place-of width i k q, place-in width i k q, number-is r number i p)
 
+  -- whose it is then
+  pub place-whose : (number : ℕ → ℕ) (k : ℕ) → k < n * width →
+      placeBy n number width k / width ≡ number (k / width)
+  unfolding placeBy
+  place-whose number k p =
+      let some : 0 < width = some-width n width k p in
+      place-of width (numberBy n number (k / width)) (k % width) (mod-lt k some)
+      ∙ number-is r number (k / width) (div-lt-iff-lt-mul some .1 p)
+
   place-stays : (k : ℕ) → 0 < width → n * width ≤ k → placeBy n (r .old) width k ≡ k
   unfolding placeBy
   place-stays k some p =
@@ -214,3 +223,32 @@ filled-moved {n = n} r width empty size f g some few h =
         ∙ sym (list-at _ size empty k p
         ∙ ap (λ x. getD (filledBelow size empty (n * width) f) x empty) (place-stays r width k some (omega arith))
         ∙ filled-past size empty f (n * width) k (omega arith) p)
+
+-- a list filled for n distributors: what stands at a number, and at the old one of another list
+pub filled-old : {A : Type 0} {n : ℕ} (r : Renumbering n) (size : ℕ) (empty : A) (f g : ℕ → A) → n ≤ size →
+    ((i : ℕ) → i < n → g i ≡ f (r .old i)) → (i : ℕ) → i < n →
+    getD (filledBelow size empty n g) i empty ≡ getD (filledBelow size empty n f) (r .old i) empty
+filled-old {n = n} r size empty f g few h i p =
+    filled-at size empty g n i p (omega arith) ∙ h i p
+    ∙ sym (filled-at size empty f n (r .old i) (r .oldBelow i p) (omega (arith, r .oldBelow i p)))
+
+-- an empty list moved along
+pub empty-moved : {A : Type 0} {n : ℕ} (r : Renumbering n) (width : ℕ) (empty : A) (size : ℕ) (f : ℕ → A) → n ≤ size →
+    movedAlong r width empty (size * width) (filledBelow (size * width) empty 0 f) ≡ filledBelow (size * width) empty 0 f
+unfolding movedAlong
+empty-moved {n = n} r width empty size f few =
+    ext-getD empty _ _ (list-length _ (size * width) ∙ sym (filled-length (size * width) empty f 0))
+    (λ k p. let q : k < size * width = omega (
+      arith,
+      list-length (λ j. getD (filledBelow (size * width) empty 0 f)
+          (placeBy n (r .old) width j) empty) (size * width),
+    ) in
+    list-at _ (size * width) empty k q
+    ∙ filled-past (size * width) empty f 0 (placeBy n (r .old) width k) (omega arith)
+    (place-below width (turned r) size few k q)
+    ∙ sym (filled-past (size * width) empty f 0 k (omega arith) q))
+
+-- a list of one place for each
+pub place-one : (n : ℕ) (number : ℕ → ℕ) (k : ℕ) → placeBy n number 1 k ≡ numberBy n number k
+unfolding placeBy
+place-one n number k = rw (div-one, mod-one) (omega arith)

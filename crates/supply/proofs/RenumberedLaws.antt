@@ -140,48 +140,52 @@ module _ {n : ℕ} (r : Renumbering n) (lines : List ℕ) where
       (all-same (lineCount lines) _ _ (λ j p. line-alike j p (lineInRange n)
       (range-named (whose j p) (lineOf lines j) n (number-test r (lineOf lines j .distributor)))))
 
-  pub missing-renumbered : (lacks : Term → Bool) → firstMissing lacks (renumberedLines r lines) ≡ firstMissing lacks lines
+  missing-renumbered : (lacks : Term → Bool) → firstMissing lacks (renumberedLines r lines) ≡ firstMissing lacks lines
   unfolding firstMissing
   missing-renumbered lacks =
       rw count-renumbered
       (first-same _ _ (lineCount lines) (λ j p. line-alike j p (λ line. missingInLine lacks line j)
       (missing-named (whose j p) (lineOf lines j) lacks j)))
 
-  module _ (mean : Term → ℕ) (numbers : FixingNumbers) (inForce : List ℕ) where
-    answer-renumbered : (j : ℕ) → j < lineCount lines →
-        answerAt mean numbers (renumberedLines r lines) inForce j ≡ answerAt mean numbers lines inForce j
-    unfolding answerAt
-    answer-renumbered j p =
-        line-alike j p (λ line. priceAnswer mean numbers line (priceInForce inForce j))
-        (answer-named (whose j p) (lineOf lines j) mean numbers (priceInForce inForce j))
-
-    pub beyond-renumbered : firstBeyond mean numbers (renumberedLines r lines) inForce ≡ firstBeyond mean numbers lines inForce
-    unfolding firstBeyond beyondIn
-    beyond-renumbered =
-        rw count-renumbered
-        (first-same _ _ (lineCount lines) (λ j p. ap₂ (beyondAt j) (answer-renumbered j p)
-        (line-alike j p (powerAllowed mean) (allowed-named (whose j p) (lineOf lines j) mean))))
-
-    pub some-moved-renumbered : anyLineMoved mean (renumberedLines r lines) inForce ≡ anyLineMoved mean lines inForce
+  module _ (mean : Term → ℕ) where
+    some-moved-renumbered : (inForce : List ℕ) →
+        anyLineMoved mean (renumberedLines r lines) inForce ≡ anyLineMoved mean lines inForce
     unfolding anyLineMoved anyMoved
-    some-moved-renumbered =
+    some-moved-renumbered inForce =
         rw count-renumbered
         (any-same (lineCount lines) _ _ (λ j p. ap (moved (priceInForce inForce j))
         (line-alike j p (lineIndexed mean) (indexed-named (whose j p) (lineOf lines j) mean))))
 
-    pub references-renumbered : referenceList mean numbers (renumberedLines r lines) inForce ≡ referenceList mean numbers
-        lines inForce
-    unfolding referenceList referencePrice
-    references-renumbered =
-        rw count-renumbered
-        (filled-same mostLines noPrice (lineCount lines) _ _ (λ j p. ap priceOr (answer-renumbered j p)))
-
-    pub power-renumbered : powerList mean numbers (renumberedLines r lines) ≡ powerList mean numbers lines
+    pub power-renumbered : (numbers : FixingNumbers) →
+        powerList mean numbers (renumberedLines r lines) ≡ powerList mean numbers lines
     unfolding powerList powerPrice
-    power-renumbered =
+    power-renumbered numbers =
         rw count-renumbered
         (filled-same mostLines noPower (lineCount lines) _ _ (λ j p. ap {B = PowerPrice} (λ x. record { 0 = x })
         (line-alike j p (linePower mean numbers) (power-named (whose j p) (lineOf lines j) mean numbers))))
+
+    module _ (numbers : FixingNumbers) (inForce : List ℕ) where
+      answer-renumbered : (j : ℕ) → j < lineCount lines →
+          answerAt mean numbers (renumberedLines r lines) inForce j ≡ answerAt mean numbers lines inForce j
+      unfolding answerAt
+      answer-renumbered j p =
+          line-alike j p (λ line. priceAnswer mean numbers line (priceInForce inForce j))
+          (answer-named (whose j p) (lineOf lines j) mean numbers (priceInForce inForce j))
+
+      beyond-renumbered : firstBeyond mean numbers (renumberedLines r lines) inForce ≡ firstBeyond mean numbers lines
+          inForce
+      unfolding firstBeyond beyondIn
+      beyond-renumbered =
+          rw count-renumbered
+          (first-same _ _ (lineCount lines) (λ j p. ap₂ (beyondAt j) (answer-renumbered j p)
+          (line-alike j p (powerAllowed mean) (allowed-named (whose j p) (lineOf lines j) mean))))
+
+      pub references-renumbered : referenceList mean numbers (renumberedLines r lines) inForce ≡ referenceList mean
+          numbers lines inForce
+      unfolding referenceList referencePrice
+      references-renumbered =
+          rw count-renumbered
+          (filled-same mostLines noPrice (lineCount lines) _ _ (λ j p. ap priceOr (answer-renumbered j p)))
 
   -- the checks of the index table, with the same line and term
   pub table-renumbered : (table : List (List ℕ)) (numbers : FixingNumbers) (inForce : List ℕ) →
@@ -191,5 +195,5 @@ module _ {n : ℕ} (r : Renumbering n) (lines : List ℕ) where
       rw (
         missing-renumbered (lacksMonth table numbers),
         beyond-renumbered (termMean table numbers) numbers inForce,
-        some-moved-renumbered (termMean table numbers) numbers inForce,
+        some-moved-renumbered (termMean table numbers) inForce,
       )
