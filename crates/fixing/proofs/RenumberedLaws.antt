@@ -147,9 +147,9 @@ none-renumbered r few =
 
 module _ {n : ℕ} (r : Renumbering n) (one other : FixingInput) (h : RenumberedInput r one other) where
   -- it meets the same causes, with the same line and term
-  pub checks-renumbered : inputChecks n other ≡ inputChecks n one
+  pub input-checks : inputChecks n other ≡ inputChecks n one
   unfolding inputChecks inputInRange
-  checks-renumbered =
+  input-checks =
       rw (
         h .numbers,
         h .series,

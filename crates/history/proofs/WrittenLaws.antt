@@ -3,7 +3,7 @@
 use mathlib.Core.Path.{_≡_, refl, _∙_, ap, ap₂}
 use mathlib.Core.Bool.{true}
 use mathlib.Core.List.{List}
-use Prim.Native.Nat.{ℕ, zero, suc, _+_, _-_, _*_, _/_, _%_, _≤_, _<_}
+use Prim.Native.Nat.{ℕ, zero, suc, _+_, _-_, _*_, _≤_, _<_}
 use native.Mathlib.Omega.{arith}
 use lib.ListN.{length, getD}
 use lib.IntN.{ℤ, pos, _-ℤ_, _*ℤ_}
@@ -23,11 +23,12 @@ use Rattle.fixing.proofs.LimitLaws.{final-limit, rounds-few, collects, smallest
 use Rattle.fixing.proofs.FixingLaws.{final-at, charge-at}
 use Rattle.fixing.proofs.PowerLaws.{input-power}
 use Rattle.ledger.specs.Sound.{sound}
-use Rattle.ledger.specs.Fix.{FixingCall, fixingVerdict, fixingList, priceList, pricePart, priceWord}
+use Rattle.ledger.specs.Fix.{FixingCall, fixingVerdict, fixingList, priceList, priceWord}
 use Rattle.ledger.specs.Fix.{averagePowerList, fixingPowerList}
 use Rattle.ledger.specs.declared.ledger.Ledger.{Ledger}
 use Rattle.ledger.proofs.SoundFacts.{sound-facts}
 use Rattle.ledger.proofs.CallLaws.{fixing-passed, right-lengths, passed-range}
+use Rattle.ledger.proofs.FixLaws.{word-at}
 use Rattle.fixing.proofs.VerdictLaws.{passed-fixing}
 use Rattle.history.specs.History.{writtenFinal, WrittenPrices, WrittenPower}
 
@@ -50,17 +51,6 @@ module _ (d : Distributors) (f g : ℕ → ℤ) (h : (i : ℕ) → i < d .count 
   largest-same some =
       greatest-same (d .count - 1) (λ i. f i -ℤ pos (d .average i)) (λ i. g i -ℤ pos (d .average i))
       (λ i p. ap (λ (z : ℤ). z -ℤ pos (d .average i)) (h i (omega arith)))
-
--- the three words of distributor i
-module _ (n : ℕ) (averages finals : List PesoPrice) (charges : List ℤ) (i : ℕ) (p : i < n) where
-  word-at : (j k : ℕ) → j ≡ i * 3 + k → k < 3 →
-      getD (listBelow (n * 3) (priceWord averages finals charges)) j (pos 0) ≡ pricePart (getD averages i noPrice .0)
-      (getD finals i noPrice .0) (getD charges i (pos 0)) k
-  unfolding priceWord
-  word-at j k e q =
-      let whole : j / 3 ≡ i = omega arith in
-      let part : j % 3 ≡ k = omega arith in
-      list-at (priceWord averages finals charges) (n * 3) (pos 0) j (omega arith) ∙ rw (whole, part)
 
 -- a fixing that was accepted
 module _ (ledger : Ledger) (call : FixingCall) (h : sound ledger ≡ true)

@@ -2,16 +2,21 @@
 use mathlib.Core.Path.{_≡_, refl, sym, _∙_, ap}
 use mathlib.Core.Bool.{true}
 use mathlib.Core.List.{List}
-use Prim.Native.Nat.{ℕ, _*_}
-use lib.ListN.{length}
-use lib.IntN.{ℤ}
+use Prim.Native.Nat.{ℕ, _+_, _*_, _/_, _%_, _<_}
+use native.Mathlib.Omega.{arith}
+use lib.ListN.{getD, length}
+use lib.IntN.{ℤ, pos}
 use borrow.Author.Tests.{eqb-true, lt-ltb}
+use Rattle.numbers.specs.Bounded.{listBelow}
 use Rattle.numbers.specs.Refusal.{verdictAnswered, isPassed}
 use Rattle.numbers.specs.Checks.{verdictOf, answeredBy}
 use Rattle.numbers.specs.declared.refusal.Refusal.{Refusal}
 use Rattle.numbers.specs.declared.refusal.Refusal.the-variants.{Unsound, WrongLength, OutOfTurn, WrongDay}
 use Rattle.numbers.specs.declared.refusal.Verdict.{Verdict}
 use Rattle.numbers.specs.declared.refusal.Verdict.the-variants.{Passed, Refused}
+use Rattle.numbers.specs.Units.{noPrice}
+use Rattle.numbers.specs.declared.units.PesoPrice.{PesoPrice}
+use Rattle.numbers.proofs.ListLaws.{list-at}
 use Rattle.numbers.proofs.CheckLaws.{FirstPass, AllTold, check-told, verdict-told, verdict-from}
 use Rattle.fixing.specs.Input.{inputVerdict, inputDistributors}
 use Rattle.fixing.specs.Required.{RightLengths}
@@ -26,11 +31,22 @@ use Rattle.ledger.specs.Sound.{sound}
 use Rattle.ledger.specs.Turn.{fixingTurn}
 use Rattle.ledger.specs.Fix.{FixingCall, callLengths, fixingChecks, fixingVerdict, acceptedAnswer, answerBy}
 use Rattle.ledger.specs.Fix.{fixingAnswer, fixingAnswered, roundsBelow, fixingLedger, priceList, fixingList}
-use Rattle.ledger.specs.Fix.{averagePowerList, fixingPowerList, FixingPromise}
+use Rattle.ledger.specs.Fix.{pricePart, priceWord, averagePowerList, fixingPowerList, FixingPromise}
 use Rattle.ledger.specs.declared.ledger.Ledger.{Ledger}
 use Rattle.ledger.specs.declared.fix.FixingAnswer.the-variants as answer
 use Rattle.ledger.specs.declared.fix.FixingOutcome.{FixingOutcome}
 use Rattle.ledger.proofs.CallLaws.{fixing-passed, length-parts}
+
+-- the three words of distributor i
+module _ (n : ℕ) (averages finals : List PesoPrice) (charges : List ℤ) (i : ℕ) (p : i < n) where
+  pub word-at : (j k : ℕ) → j ≡ i * 3 + k → k < 3 →
+      getD (listBelow (n * 3) (priceWord averages finals charges)) j (pos 0) ≡ pricePart (getD averages i noPrice .0)
+      (getD finals i noPrice .0) (getD charges i (pos 0)) k
+  unfolding priceWord
+  word-at j k e q =
+      let whole : j / 3 ≡ i = omega arith in
+      let part : j % 3 ≡ k = omega arith in
+      list-at (priceWord averages finals charges) (n * 3) (pos 0) j (omega arith) ∙ rw (whole, part)
 
 module _ (ledger : Ledger) (call : FixingCall) where
   -- the lent lists' lengths by cause 3

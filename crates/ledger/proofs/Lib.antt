@@ -12,4 +12,5 @@ pub mod MoneyLaws
 pub mod CallLaws
 pub mod JoinLaws
 pub mod KeptLaws
+pub mod RenumberedLaws
 pub mod Computed
