@@ -1,3 +1,5 @@
 pub mod CallLaws
 pub mod WrittenLaws
 pub mod HistoryLaws
+mod RenumberedLedgerLaws
+mod RenumberedLaws

@@ -1,3 +1,4 @@
 pub mod Run
 pub mod Plain
 pub mod History
+pub mod Renumbered

@@ -6,9 +6,10 @@ use Prim.Native.Nat.{ℕ, _+_, _*_, _/_, _%_, _<_}
 use native.Mathlib.Omega.{arith}
 use lib.ListN.{getD, length}
 use lib.IntN.{ℤ, pos}
-use borrow.Author.Tests.{eqb-true, lt-ltb}
+use lib.Dec.{eqb}
+use borrow.Author.Tests.{eqb-true, eq-eqb, lt-ltb}
 use Rattle.numbers.specs.Bounded.{listBelow}
-use Rattle.numbers.specs.Refusal.{verdictAnswered, isPassed}
+use Rattle.numbers.specs.Refusal.{Answered, verdictAnswered, isPassed}
 use Rattle.numbers.specs.Checks.{verdictOf, answeredBy}
 use Rattle.numbers.specs.declared.refusal.Refusal.{Refusal}
 use Rattle.numbers.specs.declared.refusal.Refusal.the-variants.{Unsound, WrongLength, OutOfTurn, WrongDay}
@@ -17,7 +18,8 @@ use Rattle.numbers.specs.declared.refusal.Verdict.the-variants.{Passed, Refused
 use Rattle.numbers.specs.Units.{noPrice}
 use Rattle.numbers.specs.declared.units.PesoPrice.{PesoPrice}
 use Rattle.numbers.proofs.ListLaws.{list-at}
-use Rattle.numbers.proofs.CheckLaws.{FirstPass, AllTold, check-told, verdict-told, verdict-from}
+use Rattle.numbers.proofs.CheckLaws.{FirstPass, AllTold, check-told, verdict-told, verdict-from, passed-number}
+use Rattle.numbers.proofs.CheckLaws.{is-passed}
 use Rattle.fixing.specs.Input.{inputVerdict, inputDistributors}
 use Rattle.fixing.specs.Required.{RightLengths}
 use Rattle.fixing.specs.Prices.{fixedPrices, returnedValues}
@@ -32,6 +34,7 @@ use Rattle.ledger.specs.Turn.{fixingTurn}
 use Rattle.ledger.specs.Fix.{FixingCall, callLengths, fixingChecks, fixingVerdict, acceptedAnswer, answerBy}
 use Rattle.ledger.specs.Fix.{fixingAnswer, fixingAnswered, roundsBelow, fixingLedger, priceList, fixingList}
 use Rattle.ledger.specs.Fix.{pricePart, priceWord, averagePowerList, fixingPowerList, FixingPromise}
+use Rattle.ledger.specs.Fix.{HandedBack, HandsBack, IsAccepted}
 use Rattle.ledger.specs.declared.ledger.Ledger.{Ledger}
 use Rattle.ledger.specs.declared.fix.FixingAnswer.the-variants as answer
 use Rattle.ledger.specs.declared.fix.FixingOutcome.{FixingOutcome}
@@ -94,6 +97,15 @@ module _ (ledger : Ledger) (call : FixingCall) where
       (returnedValues (inputDistributors (ledger .n) (call .input)))
   unfolding fixingVerdict
   numbered-by = answer-told ∙ verdict-told (fixingChecks ledger call) _ fixing-told
+
+  -- what is handed back with number 0 passed every check
+  pub accepted-passed : (given : HandedBack) → HandsBack ledger call given → IsAccepted given →
+      fixingVerdict ledger call ≡ Passed
+  accepted-passed given promise number =
+      is-passed (fixingVerdict ledger call)
+      (passed-number _ (fixingVerdict ledger call)
+      ∙ ap (λ (x : Answered). eqb (x .number) 0) (sym (ap fixingAnswered (promise .answered) ∙ answer-told))
+      ∙ eq-eqb _ 0 number)
 
   -- what is promised of a refusal: ledger and lists as they were
   pub fixed-refused : (refusal : Refusal) → verdictOf (fixingChecks ledger call) ≡ Refused refusal →

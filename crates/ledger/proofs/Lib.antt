@@ -12,5 +12,4 @@ pub mod MoneyLaws
 pub mod CallLaws
 pub mod JoinLaws
 pub mod KeptLaws
-pub mod RenumberedLaws
 pub mod Computed

@@ -159,16 +159,23 @@ pub record FixingPromise (ledger : Ledger) (call : FixingCall) (given : FixingAn
   pub listed : list ≡ fixingList ledger call
   pub powerListed : power ≡ fixingPowerList ledger call
 
--- what a fixing hands back, and that it was accepted
+-- what a fixing hands back as it promises, and that it was accepted
 pub record HandedBack : Type 0 where
   pub answer : FixingAnswer
   pub ledger : Ledger
   pub prices : List ℤ
   pub power : List ℕ
 
+abbrev pub HandsBack : Ledger → FixingCall → HandedBack → Type 0
+HandsBack ledger call given =
+    FixingPromise ledger call (given .answer) (given .ledger) (given .prices) (given .power)
+
+abbrev pub IsAccepted : HandedBack → Type 0
+IsAccepted given = fixingAnswered (given .answer) .number ≡ 0
+
 pub record FixingAccepted (ledger : Ledger) (call : FixingCall) (given : HandedBack) : Type 0 where
-  pub promise : FixingPromise ledger call (given .answer) (given .ledger) (given .prices) (given .power)
-  pub number : fixingAnswered (given .answer) .number ≡ 0
+  pub promise : HandsBack ledger call given
+  pub number : IsAccepted given
 
 -- all but the power list is the same
 pub record SameButPowerList (one other : HandedBack) : Type 0 where

@@ -1,33 +1,22 @@
 -- What each call hands back is worked from the parts of its fixing that are worked from energy.
 use mathlib.Core.Path.{_≡_, sym, _∙_, ap, ap₂}
-use mathlib.Core.Bool.{true}
-use lib.Dec.{eqb}
-use borrow.Author.Tests.{eq-eqb}
-use Rattle.numbers.specs.Refusal.{Answered, isPassed}
+use Rattle.numbers.specs.Refusal.{isPassed}
 use Rattle.numbers.specs.declared.refusal.Verdict.the-variants.{Passed}
-use Rattle.numbers.proofs.CheckLaws.{passed-number, is-passed}
 use Rattle.fixing.specs.Fixing.{fixingOf}
 use Rattle.fixing.proofs.IndependenceLaws.{fixing-same}
 use Rattle.ledger.specs.Ledger.{fixedLedger}
-use Rattle.ledger.specs.Fix.{FixingCall, fixingVerdict, acceptedAnswer, fixingAnswer, fixingAnswered}
+use Rattle.ledger.specs.Fix.{FixingCall, fixingVerdict, acceptedAnswer, fixingAnswer}
 use Rattle.ledger.specs.Fix.{fixingLedger, priceList, fixingList, HandedBack, FixingAccepted}
 use Rattle.ledger.specs.declared.ledger.Ledger.{Ledger}
 use Rattle.ledger.proofs.CallLaws.{fixing-passed}
-use Rattle.ledger.proofs.FixLaws.{answer-told}
+use Rattle.ledger.proofs.FixLaws.{accepted-passed}
 use Rattle.ledger.proofs.fix.prices_independent_of_power.Statement.{statement}
 use Rattle.ledger.proofs.fix.prices_independent_of_power.Tie as tie
 
 -- an accepted call
 module _ (ledger : Ledger) (call : FixingCall) (given : HandedBack) (h : FixingAccepted ledger call given) where
-  passed : isPassed (fixingVerdict ledger call) ≡ true
-  passed =
-      passed-number _ (fixingVerdict ledger call)
-      ∙ ap (λ (x : Answered). eqb (x .number) 0)
-      (sym (ap fixingAnswered (h .promise .answered) ∙ answer-told ledger call))
-      ∙ eq-eqb _ 0 (h .number)
-
   verdict : fixingVerdict ledger call ≡ Passed
-  verdict = is-passed (fixingVerdict ledger call) passed
+  verdict = accepted-passed ledger call given (h .promise) (h .number)
 
   answered : given .answer ≡ acceptedAnswer (fixingOf (ledger .n) (call .input) .prices)
   unfolding fixingAnswer
@@ -46,8 +35,8 @@ unfolding priceList
 returns c ledger one other same first second p q =
     let alike =
     fixing-same (ledger .n) (one .input) (other .input) same
-    (fixing-passed ledger one (passed ledger one first p) .passed)
-    (fixing-passed ledger other (passed ledger other second q) .passed) in
+    (fixing-passed ledger one (ap isPassed (verdict ledger one first p)) .passed)
+    (fixing-passed ledger other (ap isPassed (verdict ledger other second q)) .passed) in
     record {
       answer = answered ledger one first p ∙ ap acceptedAnswer (alike .prices) ∙ sym (answered ledger other second q);
       ledger =
