@@ -1,20 +1,17 @@
 -- An input whose lines name new numbers and whose sector factors are moved along (W-207 of document 02): it passes the
 -- same checks, and each distributor has the same averages, prices and charges under its new number. Assumes nothing.
 use mathlib.Core.Path.{_≡_, refl, sym, _∙_, ap, ap₂}
-use mathlib.Core.Bool.{Bool, false, cond, not, _&&_}
-use mathlib.Core.List.{List, _∷_}
+use mathlib.Core.Bool.{false, cond, not, _&&_}
+use mathlib.Core.List.{List}
 use Prim.Native.Nat.{ℕ, _+_, _*_, _/_, _≤_, _<_}
 use native.Mathlib.Omega.{arith}
 use lib.Dec.{leb, eqb}
 use lib.ListN.{getD}
 use lib.IntN.{ℤ, pos}
-use Rattle.numbers.specs.Bounded.{filledBelow}
-use Rattle.numbers.specs.Checks.{check}
 use Rattle.numbers.specs.Renumbering.{Renumbering, placeBy, movedAlong}
 use Rattle.numbers.specs.Rounding.{halfUp}
 use Rattle.numbers.specs.Sizes.{mostDistributors, sectorCount, sectorPlaces}
 use Rattle.numbers.specs.Units.{noPrice, noPower, noEnergy}
-use Rattle.numbers.specs.declared.refusal.Refusal.the-variants.{OutOfRange, ValueTooLarge, WrongSector, NoLine}
 use Rattle.numbers.specs.declared.refusal.Verdict.the-variants.{Passed}
 use Rattle.numbers.specs.declared.units.PesoPrice.{PesoPrice}
 use Rattle.numbers.specs.declared.units.PowerPrice.{PowerPrice}
@@ -22,10 +19,9 @@ use Rattle.numbers.specs.declared.units.Energy.{Energy}
 use Rattle.numbers.specs.declared.units.UnsignedPesos.{UnsignedPesos}
 use Rattle.numbers.proofs.SumLaws.{sum-same}
 use Rattle.numbers.proofs.TestLaws.{any-same}
-use Rattle.numbers.proofs.ListLaws.{list-at, filled-at}
+use Rattle.numbers.proofs.ListLaws.{list-at}
 use Rattle.numbers.proofs.RenumberingLaws.{named, all-renumbered, places, place-at, place-whose, moved-at}
 use Rattle.numbers.proofs.RenumberingLaws.{filled-old, filled-moved, empty-moved}
-use Rattle.series.specs.Series.{valuesInRange}
 use Rattle.supply.specs.Line.{lineCount, lineOf, renumberedLines}
 use Rattle.supply.specs.Range.{inputInRange}
 use Rattle.supply.specs.declared.line.Line.{Line}
@@ -33,14 +29,13 @@ use Rattle.supply.proofs.RenumberedLaws.{count-renumbered, line-renumbered, ran
 use Rattle.supply.proofs.RenumberedLaws.{references-renumbered, power-renumbered}
 use Rattle.fixing.specs.Average.{ownPart, ownSum, suppliedEnergy, linesAmount, averagePrice, hasLine}
 use Rattle.fixing.specs.Average.{everyoneSupplied, energyList, averageList}
-use Rattle.fixing.specs.Power.{powerOf, powerAverages}
-use Rattle.fixing.specs.Limit.{Distributors, limit, surcharge, rounds, residue, finalPrice, charge}
+use Rattle.fixing.specs.Power.{powerAverages}
+use Rattle.fixing.specs.Limit.{Distributors, limit, surcharge, rounds, residue, charge}
 use Rattle.fixing.specs.Prices.{distributors, finalPrices, chargeList, fixedPrices}
 use Rattle.fixing.specs.Sector.{mostFactor, factorAt, sectorPresent, hasSector, sectorsAllowed, sectorCharge}
 use Rattle.fixing.specs.Sector.{placeCharge, filledPlaces, sectorCharges, noCharges, renumberedCharges}
-use Rattle.fixing.specs.Input.{FixingInput, indexTable, inputMean, ranged, supplied, inputChecks, inputVerdict}
+use Rattle.fixing.specs.Input.{FixingInput, indexTable, inputMean, inputChecks, inputVerdict}
 use Rattle.fixing.specs.Input.{inputReferences, inputPowerPrices, inputPower, inputAverages, inputEnergies}
-use Rattle.fixing.specs.Input.{inputDistributors}
 use Rattle.fixing.specs.Fixing.{acceptedFixing, fixingOf}
 use Rattle.fixing.specs.declared.fix.Fixing.{Fixing}
 use Rattle.fixing.specs.declared.sector.SectorCharges.{SectorCharges}

@@ -1,6 +1,6 @@
--- The limit and the rounds of renumbered distributors (W-207 of document 02): each round has the same surcharge and the
--- same distributors above the limit under their new numbers, by induction on the rounds; so limit, surcharge, rounds and
--- residue are the same, and each distributor has the same final price and charge. Assumes nothing.
+-- The limit and the rounds of renumbered distributors (W-207 of document 02): each round has the same surcharge, and
+-- puts the same distributors above the limit under their new numbers, by induction on the rounds. So limit, surcharge,
+-- rounds and residue are the same, and each distributor has the same final price and charge. Assumes nothing.
 use mathlib.Core.Path.{_≡_, refl, _∙_, ap, ap₂}
 use mathlib.Core.Bool.{Bool, cond, not, _&&_, _||_}
 use mathlib.Core.Option.{none, some}

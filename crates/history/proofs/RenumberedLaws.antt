@@ -1,155 +1,71 @@
 -- A fixing of renumbered distributors hands back the same, each under its new number (W-207 of document 02): an unsound
--- ledger and lists of other lengths stay and are refused as they were; in all other cases every check has the same
--- answer, and what is accepted is the same by the laws of fixing and ledger. Assumes nothing.
-use mathlib.Core.Path.{_≡_, refl, sym, _∙_, ap, ap₂}
-use mathlib.Core.Bool.{Bool, true, false, cond, true≢false}
-use mathlib.Core.List.{List}
-use Prim.Native.Nat.{ℕ, _*_, _≤_, _<_}
+-- ledger and lists of other lengths stay, and are refused as they were; in all other cases every check has the same
+-- answer, and what is accepted is the same by the laws of fixing. Assumes nothing.
+use mathlib.Core.Path.{_≡_, refl, sym, _∙_, ap}
+use mathlib.Core.Bool.{Bool, true, false, cond}
+use Prim.Native.Nat.{ℕ, _+_, _*_, _≤_, _<_}
 use native.Mathlib.Omega.{arith}
 use lib.Dec.{eqb}
-use lib.ListN.{length}
-use lib.IntN.{pos}
+use lib.ListN.{getD, length}
+use lib.IntN.{ℤ, pos}
 use borrow.Author.Tests.{eqb-true}
 use Rattle.numbers.specs.Checks.{verdictOf}
-use Rattle.numbers.specs.Refusal.{Answered, isPassed, verdictAnswered}
+use Rattle.numbers.specs.Refusal.{isPassed}
 use Rattle.numbers.specs.Renumbering.{Renumbering, movedAlong, StandUnder}
-use Rattle.numbers.specs.Sizes.{mostDistributors, sectorCount, sectorPlaces}
-use Rattle.numbers.specs.Units.{noMoney}
+use Rattle.numbers.specs.Sizes.{mostDistributors, sectorCount}
+use Rattle.numbers.specs.Units.{noPrice, noPower}
 use Rattle.numbers.specs.declared.refusal.Refusal.the-variants.{Unsound, WrongLength}
 use Rattle.numbers.specs.declared.refusal.Verdict.{Verdict}
 use Rattle.numbers.specs.declared.refusal.Verdict.the-variants.{Passed, Refused}
+use Rattle.numbers.specs.declared.units.PesoPrice.{PesoPrice}
+use Rattle.numbers.specs.declared.units.PowerPrice.{PowerPrice}
 use Rattle.numbers.proofs.CheckLaws.{FirstPass, passes, refused-unless}
-use Rattle.numbers.proofs.ListLaws.{list-length}
-use Rattle.numbers.proofs.RenumberingLaws.{moved-stands}
+use Rattle.numbers.proofs.ListLaws.{list-at}
+use Rattle.numbers.proofs.RenumberingLaws.{moved-length}
 use Rattle.supply.specs.Line.{renumberedLines}
 use Rattle.supply.proofs.RenumberedLaws.{lines-length}
-use Rattle.fixing.specs.Input.{FixingInput}
-use Rattle.fixing.specs.Sector.{renumberedCharges}
-use Rattle.fixing.specs.declared.sector.SectorCharges.{SectorCharges}
-use Rattle.fixing.proofs.RenumberedLaws.{RenumberedInput}
-use Rattle.ledger.specs.Sound.{sound}
-use Rattle.ledger.specs.Fix.{FixingCall, linesWhole, callLengths, fixingChecks, fixingVerdict, fixingAnswer, fixingLedger}
-use Rattle.ledger.specs.Fix.{fixingList, fixingPowerList, HandedBack, HandsBack, IsAccepted}
-use Rattle.ledger.specs.Ledger.{fixedLedger}
+use Rattle.fixing.specs.Input.{FixingInput, inputVerdict}
 use Rattle.fixing.specs.Fixing.{fixingOf}
+use Rattle.fixing.specs.declared.fix.Fixing.{Fixing}
+use Rattle.fixing.proofs.RenumberedLaws.{RenumberedInput, RenumberedFixing, input-checks, fixing-renumbered}
+use Rattle.ledger.specs.Ledger.{nextMonth, makesOlder, staysOlder, olderStands, fixedLedger}
+use Rattle.ledger.specs.Sound.{sound}
+use Rattle.ledger.specs.Fix.{FixingCall, linesWhole, fixingLengths, inForceLength, callLengths, fixingChecks}
+use Rattle.ledger.specs.Fix.{fixingVerdict, acceptedAnswer, fixingAnswer, fixingLedger, pricePart, priceList}
+use Rattle.ledger.specs.Fix.{fixingList, averagePowerList, fixingPowerList, HandedBack, HandsBack}
 use Rattle.ledger.specs.declared.ledger.Ledger.{Ledger}
 use Rattle.ledger.proofs.SoundFacts.{sound-facts}
 use Rattle.ledger.proofs.CallLaws.{fixing-passed, length-parts}
-use Rattle.ledger.proofs.FixLaws.{accepted-passed}
+use Rattle.ledger.proofs.FixLaws.{word-at, accepted-passed}
 use Rattle.ledger.proofs.KeptLaws.{fixing-keeps}
-use Rattle.history.proofs.RenumberedLedgerLaws.{RenumberedLedger, SameLengths, lengths-same, sound-renumbered}
-use Rattle.history.proofs.RenumberedLedgerLaws.{verdict-renumbered, answer-renumbered, ledger-renumbered, prices-renumbered}
-use Rattle.history.proofs.RenumberedLedgerLaws.{power-renumbered}
-use Rattle.history.specs.Renumbered.{renumberedInput, RenumberedCall, renumberedLedger, ChargesUnder}
-use Rattle.history.specs.Renumbered.{EntriesUnder, SameUnder}
+use Rattle.history.specs.Renumbered.{renumberedInput, RenumberedCall, movedLedger, renumberedLedger}
+use Rattle.history.specs.Renumbered.{SameUnder}
+use Rattle.history.proofs.RenumberedLedgerLaws.{any-settled-moved, sound-moved, beside-moved, entries-moved}
 
-moved-length : {n : ℕ} (r : Renumbering n) (width size : ℕ) (list : List ℕ) →
-    length (movedAlong r width 0 size list) ≡ size
-unfolding movedAlong
-moved-length r width size list = list-length _ size
+-- what an accepted fixing wrote of distributor i
+module _ (ledger : Ledger) (call : FixingCall) (v : fixingVerdict ledger call ≡ Passed) (i k : ℕ) (p : i < ledger .n)
+  where
+    abbrev worked : Fixing
+    worked = fixingOf (ledger .n) (call .input)
 
--- every list keeps its length
-module _ {n : ℕ} (r : Renumbering n) (call given : FixingCall) (c : RenumberedCall r call given) where
-  lengths : SameLengths call given
-  unfolding renumberedInput
-  lengths =
-      record {
-        isInterim = c .isInterim;
-        series = ap (λ (x : FixingInput). length (x .series)) (c .input);
-        lines = ap (λ (x : FixingInput). length (x .lines)) (c .input) ∙ lined (linesWhole (call .input .lines));
-        sectors =
-            ap (λ (x : FixingInput). length (x .sectors)) (c .input)
-            ∙ charged (eqb (length (call .input .sectors)) (n * sectorCount)) refl;
-        inForce = ap (λ (x : FixingInput). length (x .inForce)) (c .input);
-        prices = c .prices;
-        power = c .power;
-      }
-    where
-      lined : (b : Bool) →
-          length (cond b (renumberedLines r (call .input .lines)) (call .input .lines)) ≡ length (call .input .lines)
-      lined true = lines-length r (call .input .lines)
-      lined false = refl
+    word-in : k < 3 →
+        getD (fixingList ledger call) (i * 3 + k) (pos 0) ≡ pricePart (getD (worked .averages) i noPrice .0)
+        (getD (worked .prices .finals) i noPrice .0) (getD (worked .charges) i (pos 0)) k
+    unfolding fixingList priceList
+    word-in q =
+        rw v
+        (word-at (ledger .n) (worked .averages) (worked .prices .finals) (worked .charges) i p (i * 3 + k) k refl q)
 
-      charged : (b : Bool) → eqb (length (call .input .sectors)) (n * sectorCount) ≡ b →
-          length (cond b (movedAlong r sectorCount 0 (n * sectorCount) (call .input .sectors)) (call .input .sectors))
-          ≡ length (call .input .sectors)
-      charged true e =
-          moved-length r sectorCount (n * sectorCount) (call .input .sectors)
-          ∙ sym (eqb-true (length (call .input .sectors)) (n * sectorCount) e)
-      charged false e = refl
+    power-in : k < 1 → getD (fixingPowerList ledger call) (i * 1 + k) 0 ≡ getD (worked .power) i noPower .0
+    unfolding fixingPowerList averagePowerList
+    power-in q =
+        let place : i * 1 + k ≡ i = omega arith in
+        rw (v, place) (list-at (λ j. getD (worked .power) j noPower .0) (ledger .n) 0 i p)
 
-  -- and where all are right, lines and sector factors are renumbered
-  renumbered : callLengths n call ≡ true → RenumberedInput r (call .input) (given .input)
-  unfolding renumberedInput
-  renumbered right =
-      let parts = length-parts n call right in
-      record {
-        numbers = ap (λ (x : FixingInput). x .numbers) (c .input);
-        series = ap (λ (x : FixingInput). x .series) (c .input);
-        lines = ap (λ (x : FixingInput). x .lines) (c .input) ∙ rw (parts .1);
-        sectors = ap (λ (x : FixingInput). x .sectors) (c .input) ∙ rw (parts .2);
-        inForce = ap (λ (x : FixingInput). x .inForce) (c .input);
-      }
-
--- a sound ledger is moved along
-module _ {n : ℕ} (r : Renumbering n) (ledger : Ledger) (e : ledger .n ≡ n) (whole : sound ledger ≡ true) where
-  moved-ledger : RenumberedLedger r ledger (renumberedLedger r ledger)
-  unfolding renumberedLedger
-  moved-ledger =
-      rw whole
-      (record {
-        counted = e;
-        same = e;
-        last = refl;
-        fixed = refl;
-        month = refl;
-        day = refl;
-        force = refl;
-        hasOlder = refl;
-        older = refl;
-        balances = refl;
-        counts = refl;
-      })
-
-  ledger-is : (other : Ledger) → RenumberedLedger r ledger other → other ≡ renumberedLedger r ledger
-  unfolding renumberedLedger
-  ledger-is other h =
-      rw (
-        whole,
-        h .same ∙ sym e,
-        h .last,
-        h .fixed,
-        h .month,
-        h .day,
-        h .force,
-        h .hasOlder,
-        h .older,
-        h .balances,
-        h .counts,
-      )
-
-  -- and each distributor's entries stand under its new number
-  entries-under : n ≤ mostDistributors → EntriesUnder r ledger (renumberedLedger r ledger)
-  unfolding renumberedLedger renumberedCharges
-  entries-under few =
-      let charges : (force : SectorCharges) → ChargesUnder r force (renumberedCharges r force) =
-      λ force. record {
-        present = moved-stands r sectorCount false sectorPlaces (force .present) (omega arith);
-        charges = moved-stands r sectorCount (pos 0) sectorPlaces (force .charges) (omega arith);
-      } in
-      rw whole
-      (record {
-        force = charges (ledger .force);
-        older = charges (ledger .older);
-        balances = moved-stands r 1 noMoney mostDistributors (ledger .balances) (omega arith);
-        counts = moved-stands r 1 0 mostDistributors (ledger .counts) (omega arith);
-      })
-
--- an unsound ledger stays
-unsound-stays : {n : ℕ} (r : Renumbering n) (ledger : Ledger) → sound ledger ≡ false →
-    renumberedLedger r ledger ≡ ledger
-unfolding renumberedLedger
-unsound-stays r ledger e = rw e
+part-same : (k : ℕ) {average given : PesoPrice} {final other : PesoPrice} {charge third : ℤ} → given ≡ average →
+    other ≡ final → third ≡ charge →
+    pricePart (given .0) (other .0) third k ≡ pricePart (average .0) (final .0) charge k
+part-same k e f g = rw (e, f, g)
 
 -- what is refused before the input is looked at
 module _ (ledger : Ledger) (call : FixingCall) where
@@ -164,102 +80,207 @@ module _ (ledger : Ledger) (call : FixingCall) where
       refused-unless 1 (fixingChecks ledger call) 3 (callLengths (ledger .n) call) WrongLength _
       (passes Unsound whole, tt) refl
 
+-- a renumbered call: every list keeps its length, and where all are right, lines and sector factors are renumbered
+module _ {n : ℕ} (r : Renumbering n) (call given : FixingCall) (c : RenumberedCall r call given) where
+  lines-kept : length (given .input .lines) ≡ length (call .input .lines)
+  unfolding renumberedInput
+  lines-kept = ap (λ (x : FixingInput). length (x .lines)) (c .input) ∙ go (linesWhole (call .input .lines))
+    where
+      go : (b : Bool) →
+          length (cond b (renumberedLines r (call .input .lines)) (call .input .lines)) ≡ length (call .input .lines)
+      go true = lines-length r (call .input .lines)
+      go false = refl
+
+  sectors-kept : length (given .input .sectors) ≡ length (call .input .sectors)
+  unfolding renumberedInput
+  sectors-kept =
+      ap (λ (x : FixingInput). length (x .sectors)) (c .input)
+      ∙ go (eqb (length (call .input .sectors)) (n * sectorCount)) refl
+    where
+      go : (b : Bool) → eqb (length (call .input .sectors)) (n * sectorCount) ≡ b →
+          length (cond b (movedAlong r sectorCount 0 (n * sectorCount) (call .input .sectors)) (call .input .sectors))
+          ≡ length (call .input .sectors)
+      go true e =
+          moved-length r sectorCount 0 (n * sectorCount) (call .input .sectors)
+          ∙ sym (eqb-true (length (call .input .sectors)) (n * sectorCount) e)
+      go false e = refl
+
+  lengths-kept : callLengths n given ≡ callLengths n call
+  unfolding renumberedInput fixingLengths linesWhole inForceLength
+  lengths-kept =
+      rw (
+        lines-kept,
+        sectors-kept,
+        ap (λ (x : FixingInput). x .series) (c .input),
+        ap (λ (x : FixingInput). x .inForce) (c .input),
+        c .isInterim,
+        c .prices,
+        c .power,
+      )
+
+  renumbered : callLengths n call ≡ true → RenumberedInput r (call .input) (given .input)
+  unfolding renumberedInput
+  renumbered right =
+      let parts = length-parts n call right in
+      record {
+        numbers = ap (λ (x : FixingInput). x .numbers) (c .input);
+        series = ap (λ (x : FixingInput). x .series) (c .input);
+        lines = ap (λ (x : FixingInput). x .lines) (c .input) ∙ rw (parts .1);
+        sectors = ap (λ (x : FixingInput). x .sectors) (c .input) ∙ rw (parts .2);
+        inForce = ap (λ (x : FixingInput). x .inForce) (c .input);
+      }
+
 module _ (ledger : Ledger) (r : Renumbering (ledger .n)) (call given : FixingCall) (c : RenumberedCall r call given)
   where
-    abbrev other : Ledger
-    other = renumberedLedger r ledger
+    -- a sound ledger and lists of right lengths
+    module _ (whole : sound ledger ≡ true) (right : callLengths (ledger .n) call ≡ true) where
+      few : ledger .n ≤ mostDistributors
+      few = sound-facts ledger whole .few
 
-    -- where it is accepted, the ledger is sound and the lists of right lengths
+      input : RenumberedInput r (call .input) (given .input)
+      input = renumbered r call given c right
+
+      checks-same : fixingChecks (movedLedger r ledger) given ≡ fixingChecks ledger call
+      unfolding fixingChecks nextMonth olderStands makesOlder staysOlder movedLedger
+      checks-same =
+          rw (
+            sound-moved ledger r few,
+            lengths-kept r call given c,
+            any-settled-moved ledger r few,
+            input-checks r (call .input) (given .input) input,
+            input .numbers,
+          )
+
+    -- and where it is accepted
     module _ (passed : fixingVerdict ledger call ≡ Passed) where
       whole : sound ledger ≡ true
       whole = fixing-passed ledger call (ap isPassed passed) .whole
 
-      few : ledger .n ≤ mostDistributors
-      few = sound-facts ledger whole .few
+      right : callLengths (ledger .n) call ≡ true
+      right = fixing-passed ledger call (ap isPassed passed) .lengths
 
-      moved : RenumberedLedger r ledger other
-      moved = moved-ledger r ledger refl whole
+      input-passed : inputVerdict (ledger .n) (call .input) ≡ Passed
+      input-passed = fixing-passed ledger call (ap isPassed passed) .passed
 
-      same : SameLengths call given
-      same = lengths r call given c
+      verdict : fixingVerdict (movedLedger r ledger) given ≡ Passed
+      unfolding fixingVerdict
+      verdict = ap verdictOf (checks-same whole right) ∙ passed
 
-      input : RenumberedInput r (call .input) (given .input)
-      input = renumbered r call given c (fixing-passed ledger call (ap isPassed passed) .lengths)
+      fixing : RenumberedFixing r (fixingOf (ledger .n) (call .input)) (fixingOf (ledger .n) (given .input))
+      unfolding inputVerdict
+      fixing =
+          let same = input whole right in
+          fixing-renumbered r (call .input) (given .input) same (few whole right) input-passed
+          (ap verdictOf (input-checks r (call .input) (given .input) same) ∙ input-passed)
 
-      accepted-answer : fixingAnswer other given ≡ fixingAnswer ledger call
-      accepted-answer = answer-renumbered r few ledger other moved call given same input passed
+      accepted-answer : fixingAnswer (movedLedger r ledger) given ≡ fixingAnswer ledger call
+      unfolding fixingAnswer acceptedAnswer movedLedger
+      accepted-answer = rw (passed, verdict, fixing .limit, fixing .surcharge, fixing .rounds, fixing .residue)
 
-      accepted-ledger : fixingLedger other given ≡ renumberedLedger r (fixingLedger ledger call)
-      accepted-ledger =
-          let booked = ledger-renumbered r few ledger other moved call given same input passed in
-          ledger-is r (fixingLedger ledger call) (booked .counted) (fixing-keeps ledger call whole)
-          (fixingLedger other given) booked
+      booked : fixingLedger (movedLedger r ledger) given ≡ movedLedger r (fixingLedger ledger call)
+      unfolding fixingLedger fixedLedger olderStands makesOlder staysOlder movedLedger
+      booked =
+          rw (
+            passed,
+            verdict,
+            fixing .sectors,
+            input whole right .numbers,
+            beside-moved ledger r (few whole right) (call .input .numbers .month),
+          )
 
-      accepted-prices : StandUnder r 3 (pos 0) (fixingList ledger call) (fixingList other given)
-      accepted-prices = prices-renumbered r few ledger other moved call given same input passed
+      accepted-prices : StandUnder r 3 (pos 0) (fixingList ledger call) (fixingList (movedLedger r ledger) given)
+      unfolding movedLedger
+      accepted-prices i k p q =
+          let new = r .newBelow i p in
+          let at = r .new i in
+          let back = r .oldNew i p in
+          let before = fixingOf (ledger .n) (call .input) in
+          word-in (movedLedger r ledger) given verdict at k new q
+          ∙ part-same k
+          (fixing .average at new ∙ ap (λ j. getD (before .averages) j noPrice) back)
+          (fixing .final at new ∙ ap (λ j. getD (before .prices .finals) j noPrice) back)
+          (fixing .charge at new ∙ ap (λ j. getD (before .charges) j (pos 0)) back)
+          ∙ sym (word-in ledger call passed i k p q)
 
-      accepted-power : StandUnder r 1 0 (fixingPowerList ledger call) (fixingPowerList other given)
-      accepted-power = power-renumbered r few ledger other moved call given same input passed
+      accepted-power : StandUnder r 1 0 (fixingPowerList ledger call) (fixingPowerList (movedLedger r ledger) given)
+      unfolding movedLedger
+      accepted-power i k p q =
+          let new = r .newBelow i p in
+          power-in (movedLedger r ledger) given verdict (r .new i) k new q
+          ∙ ap (λ (x : PowerPrice). x .0) (fixing .power (r .new i) new
+          ∙ ap (λ j. getD (fixingOf (ledger .n) (call .input) .power) j noPower) (r .oldNew i p))
+          ∙ sym (power-in ledger call passed i k p q)
+
+    abbrev other : Ledger
+    other = renumberedLedger r ledger
+
+    other-moved : sound ledger ≡ true → other ≡ movedLedger r ledger
+    unfolding renumberedLedger
+    other-moved e = rw e
+
+    other-stays : sound ledger ≡ false → other ≡ ledger
+    unfolding renumberedLedger
+    other-stays e = rw e
 
     verdict-same : fixingVerdict other given ≡ fixingVerdict ledger call
+    unfolding fixingVerdict movedLedger
     verdict-same = go (sound ledger) refl (callLengths (ledger .n) call) refl
       where
         go : (a : Bool) → sound ledger ≡ a → (b : Bool) → callLengths (ledger .n) call ≡ b →
             fixingVerdict other given ≡ fixingVerdict ledger call
         go false e b f =
-            ap (λ l. fixingVerdict l given) (unsound-stays r ledger e)
+            ap (λ l. fixingVerdict l given) (other-stays e)
             ∙ unsound-refused ledger given e ∙ sym (unsound-refused ledger call e)
         go true e false f =
-            let few = sound-facts ledger e .few in
-            let moved = moved-ledger r ledger refl e in
-            length-refused other given (sound-renumbered r few ledger other moved ∙ e)
-            (ap (λ n. callLengths n given) (moved .same) ∙ lengths-same (ledger .n) call given (lengths r call given c) ∙ f)
+            ap (λ l. fixingVerdict l given) (other-moved e)
+            ∙ length-refused (movedLedger r ledger) given (sound-moved ledger r (sound-facts ledger e .few) ∙ e)
+            (lengths-kept r call given c ∙ f)
             ∙ sym (length-refused ledger call e f)
-        go true e true f =
-            verdict-renumbered r (sound-facts ledger e .few) ledger other (moved-ledger r ledger refl e) call given
-            (lengths r call given c) (renumbered r call given c f)
+        go true e true f = ap (λ l. fixingVerdict l given) (other-moved e) ∙ ap verdictOf (checks-same e f)
 
     answer-same : fixingAnswer other given ≡ fixingAnswer ledger call
     unfolding fixingAnswer
     answer-same = go (fixingVerdict ledger call) refl
       where
         go : (v : Verdict) → fixingVerdict ledger call ≡ v → fixingAnswer other given ≡ fixingAnswer ledger call
-        go Passed e = accepted-answer e
+        go Passed e = ap (λ l. fixingAnswer l given) (other-moved (whole e)) ∙ accepted-answer e
         go (Refused refusal) e = rw (verdict-same, e)
 
     ledger-same : fixingLedger other given ≡ renumberedLedger r (fixingLedger ledger call)
-    unfolding fixingLedger
+    unfolding fixingLedger renumberedLedger
     ledger-same = go (fixingVerdict ledger call) refl
       where
         go : (v : Verdict) → fixingVerdict ledger call ≡ v →
             fixingLedger other given ≡ renumberedLedger r (fixingLedger ledger call)
-        go Passed e = accepted-ledger e
+        go Passed e =
+            ap (λ l. fixingLedger l given) (other-moved (whole e)) ∙ booked e
+            ∙ sym (rw (fixing-keeps ledger call (whole e)))
         go (Refused refusal) e = rw (verdict-same, e)
 
-    count-kept : fixingLedger ledger call .n ≡ ledger .n
-    unfolding fixingLedger fixedLedger
-    count-kept = go (isPassed (fixingVerdict ledger call))
+    sound-before : sound (fixingLedger ledger call) ≡ true → sound ledger ≡ true
+    unfolding fixingLedger
+    sound-before h = go (fixingVerdict ledger call) refl
       where
-        go : (b : Bool) →
-            cond b (fixedLedger ledger (call .input .numbers) (fixingOf (ledger .n) (call .input) .sectors)) ledger .n
-            ≡ ledger .n
-        go true = refl
-        go false = refl
+        go : (v : Verdict) → fixingVerdict ledger call ≡ v → sound ledger ≡ true
+        go Passed e = whole e
+        go (Refused refusal) e = rw e at h
 
     pub same-under : (first second : HandedBack) → HandsBack ledger call first → HandsBack other given second →
         SameUnder r first second
+    unfolding renumberedLedger
     same-under first second p q =
         let ledgers : second .ledger ≡ renumberedLedger r (first .ledger) =
         q .booked ∙ ledger-same ∙ ap (renumberedLedger r) (sym (p .booked)) in
         record {
           answer = q .answered ∙ answer-same ∙ sym (p .answered);
           ledger = ledgers;
-          entries = λ whole.
-              let e : first .ledger .n ≡ ledger .n = ap (λ (l : Ledger). l .n) (p .booked) ∙ count-kept in
-              rw ledgers
-              (entries-under r (first .ledger) e whole (omega (arith, e, sound-facts (first .ledger) whole .few)));
+          entries = λ e.
+              let before = sound-facts ledger (sound-before (ap sound (sym (p .booked)) ∙ e)) in
+              rw (ledgers, e) (entries-moved r (before .few) (first .ledger));
           prices = λ a.
-              rw (p .listed, q .listed) (accepted-prices (accepted-passed ledger call first p a));
+              let e = accepted-passed ledger call first p a in
+              rw (p .listed, q .listed, other-moved (whole e)) (accepted-prices e);
           power = λ a.
-              rw (p .powerListed, q .powerListed) (accepted-power (accepted-passed ledger call first p a));
+              let e = accepted-passed ledger call first p a in
+              rw (p .powerListed, q .powerListed, other-moved (whole e)) (accepted-power e);
         }

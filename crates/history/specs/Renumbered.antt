@@ -39,10 +39,9 @@ pub record RenumberedCall {n : ℕ} (r : Renumbering n) (one other : FixingCall)
   pub prices : length (other .prices) ≡ length (one .prices)
   pub power : length (other .power) ≡ length (one .power)
 
--- "the ledger's entries moved along"; "unsound ledgers .. stay as they are"
-unfoldable pub renumberedLedger : {n : ℕ} → Renumbering n → Ledger → Ledger
-renumberedLedger r ledger =
-    let moved : Ledger =
+-- "the ledger's entries moved along"
+unfoldable pub movedLedger : {n : ℕ} → Renumbering n → Ledger → Ledger
+movedLedger r ledger =
     record {
       n = ledger .n;
       last = ledger .last;
@@ -54,8 +53,11 @@ renumberedLedger r ledger =
       older = renumberedCharges r (ledger .older);
       balances = movedAlong r 1 noMoney mostDistributors (ledger .balances);
       counts = movedAlong r 1 0 mostDistributors (ledger .counts);
-    } in
-    cond (sound ledger) moved ledger
+    }
+
+-- "unsound ledgers .. stay as they are"
+unfoldable pub renumberedLedger : {n : ℕ} → Renumbering n → Ledger → Ledger
+renumberedLedger r ledger = cond (sound ledger) (movedLedger r ledger) ledger
 
 -- each distributor's presences and charges stand under its new number
 pub record ChargesUnder {n : ℕ} (r : Renumbering n) (one other : SectorCharges) : Type 0 where
@@ -71,8 +73,8 @@ pub record EntriesUnder {n : ℕ} (r : Renumbering n) (one other : Ledger) : Typ
 
 -- what two fixings hand back that differ in the distributors' numbers alone
 pub record SameUnder {n : ℕ} (r : Renumbering n) (one other : HandedBack) : Type 0 where
-  -- "the same limit, surcharge, rounds and residue"; "Where a fixing is refused, the renumbered one is refused too, with
-  -- the same number", and the same line and term
+  -- "the same limit, surcharge, rounds and residue"; "Where a fixing is refused, the renumbered one is refused too,
+  -- with the same number", and with the same line and term
   pub answer : other .answer ≡ one .answer
   -- the ledger handed back is the ledger handed back renumbered
   pub ledger : other .ledger ≡ renumberedLedger r (one .ledger)

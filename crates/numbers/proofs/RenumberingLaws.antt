@@ -1,8 +1,8 @@
--- Laws of a renumbering: a sum, an all and an any below n are the same over what is renumbered, and so over the places
--- of a list that has some for each distributor. A function is renumbered where it has at each number what the other
--- has at the old one. Assumes nothing.
-use mathlib.Core.Path.{_≡_, refl, sym, _∙_, ap, ap₂}
-use mathlib.Core.Bool.{Bool, true, false, cond, not}
+-- Laws of a renumbering: a sum, an all and an any below n of a renumbered function are those of the function, and so
+-- over the places of a list that has some for each distributor. A function is renumbered if it has at each number what
+-- the other has at the old one. Assumes nothing.
+use mathlib.Core.Path.{_≡_, sym, _∙_, ap}
+use mathlib.Core.Bool.{Bool, cond, not}
 use mathlib.Core.List.{List}
 use Prim.Native.Nat.{ℕ, zero, suc, _+_, _*_, _/_, _%_, _≤_, _<_}
 use native.Mathlib.Omega.{arith}
@@ -10,7 +10,7 @@ use native.Mathlib.Decide.{ℕ-discrete, decLt}
 use native.Mathlib.Nat.{mod-lt, div-add-mod, mul-add-div-right, mul-add-mod-self-right, div-eq-of-lt, mod-eq-of-lt}
 use native.Mathlib.Nat.{div-lt-iff-lt-mul, le-div-iff-mul-le, mul-le-mul-right, div-one, mod-one}
 use lib.Dec.{eqb, ltb}
-use lib.ListN.{getD}
+use lib.ListN.{getD, length}
 use borrow.Author.Tests.{eq-eqb, ne-eqb, lt-ltb, le-ltb}
 use Rattle.numbers.specs.Bounded.{sumBelow, allBelow, anyBelow, listBelow, filledBelow}
 use Rattle.numbers.specs.Renumbering.{Renumbering, numberBy, placeBy, movedAlong, StandUnder}
@@ -189,6 +189,10 @@ module _ {n : ℕ} (r : Renumbering n) (width : ℕ) where
 
 -- what stands at a place of a list that was moved along
 module _ {A : Type 0} {n : ℕ} (r : Renumbering n) (width : ℕ) (empty : A) (size : ℕ) (list : List A) where
+  pub moved-length : length (movedAlong r width empty size list) ≡ size
+  unfolding movedAlong
+  moved-length = list-length _ size
+
   pub moved-at : (k : ℕ) → k < size →
       getD (movedAlong r width empty size list) k empty ≡ getD list (placeBy n (r .old) width k) empty
   unfolding movedAlong
@@ -233,8 +237,10 @@ filled-old {n = n} r size empty f g few h i p =
     ∙ sym (filled-at size empty f n (r .old i) (r .oldBelow i p) (omega (arith, r .oldBelow i p)))
 
 -- an empty list moved along
-pub empty-moved : {A : Type 0} {n : ℕ} (r : Renumbering n) (width : ℕ) (empty : A) (size : ℕ) (f : ℕ → A) → n ≤ size →
-    movedAlong r width empty (size * width) (filledBelow (size * width) empty 0 f) ≡ filledBelow (size * width) empty 0 f
+pub empty-moved : {A : Type 0} {n : ℕ} (r : Renumbering n) (width : ℕ) (empty : A) (size : ℕ) (f : ℕ → A) →
+    n ≤ size →
+    movedAlong r width empty (size * width) (filledBelow (size * width) empty 0 f) ≡ filledBelow (size * width) empty 0
+    f
 unfolding movedAlong
 empty-moved {n = n} r width empty size f few =
     ext-getD empty _ _ (list-length _ (size * width) ∙ sym (filled-length (size * width) empty f 0))

@@ -27,9 +27,9 @@ use Rattle.supply.specs.Range.{linesInRange}
 use Rattle.supply.specs.Months.{lacksMonth, missingTerm, missingInLine, firstMissing, monthCheck}
 use Rattle.supply.specs.Price.{termMean, indexFactor, lineIndexed, indexedAllowed, priceInForce, moved}
 use Rattle.supply.specs.Price.{linePurchase, lineReference, referenceAnswer, priceAnswer, answerAt, powerIndexed}
-use Rattle.supply.specs.Price.{powerPurchase, powerAllowed, linePower, beyondAt, beyondIn, firstBeyond, boundsCheck}
-use Rattle.supply.specs.Price.{anyMoved, anyLineMoved, priceChecks, priceOr, referencePrice, referenceList}
-use Rattle.supply.specs.Price.{powerPrice, powerList, tableChecks}
+use Rattle.supply.specs.Price.{powerPurchase, powerAllowed, linePower, beyondAt, beyondIn, firstBeyond}
+use Rattle.supply.specs.Price.{boundsCheck, anyMoved, anyLineMoved, priceChecks, priceOr, referencePrice}
+use Rattle.supply.specs.Price.{referenceList, powerPrice, powerList, tableChecks}
 use Rattle.supply.specs.declared.line.Term.{Term}
 use Rattle.supply.specs.declared.line.Line.{Line}
 use Rattle.supply.specs.declared.market.FixingNumbers.{FixingNumbers}
@@ -68,14 +68,15 @@ distributor-word : (words : List ℕ) (j : ℕ) → wordAt words (j * lineWords 
 unfolding lineOf
 distributor-word words j = simp add-zero
 
--- what is worked from a line or tested in it, but whether its distributor is below n, has nothing to do with whose it is
+-- what is worked from a line or tested in it does not depend on whose it is, but for whether that is below n
 module _ (d : ℕ) (line : Line) where
   range-named : (n : ℕ) → ltb d n ≡ ltb (line .distributor) n →
       lineInRange n (withDistributor d line) ≡ lineInRange n line
   unfolding lineInRange headInRange powerInRange termsAllowed weightsAllowed weightTotal
   range-named n h = rw h
 
-  missing-named : (lacks : Term → Bool) (j : ℕ) → missingInLine lacks (withDistributor d line) j ≡ missingInLine lacks line j
+  missing-named : (lacks : Term → Bool) (j : ℕ) →
+      missingInLine lacks (withDistributor d line) j ≡ missingInLine lacks line j
   unfolding missingInLine missingTerm termUsed
   missing-named lacks j = refl
 
@@ -93,7 +94,8 @@ module _ (d : ℕ) (line : Line) where
     unfolding powerAllowed powerPurchase powerIndexed linePurchase
     allowed-named = refl
 
-    power-named : (numbers : FixingNumbers) → linePower mean numbers (withDistributor d line) ≡ linePower mean numbers line
+    power-named : (numbers : FixingNumbers) →
+        linePower mean numbers (withDistributor d line) ≡ linePower mean numbers line
     unfolding linePower powerPurchase powerIndexed linePurchase
     power-named numbers = refl
 
