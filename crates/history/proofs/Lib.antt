@@ -3,3 +3,4 @@ pub mod WrittenLaws
 pub mod HistoryLaws
 mod RenumberedLedgerLaws
 mod RenumberedLaws
+mod RenumberedExample
