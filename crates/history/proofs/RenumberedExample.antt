@@ -1,5 +1,5 @@
--- The print of document 01 with its distributors renumbered, by computation: 0 is 1 now, 1 is 2, 2 is 0. What is not below
--- n stays, and so does a list of another length. Assumes nothing.
+-- Three distributors renumbered in turn, by computation: 0 is 1 now, 1 is 2, 2 is 0. What is not below n stays, and so
+-- does a list of another length. Assumes nothing.
 use mathlib.Core.Path.{_≡_, refl}
 use mathlib.Core.List.{List, [], _∷_, _++_}
 use Prim.Native.Nat.{ℕ, _<_}
@@ -59,7 +59,7 @@ money a b c past =
     record { 0 = pos a } ∷ record { 0 = pos b } ∷ record { 0 = pos c } ∷ record { 0 = pos past } ∷ replicate 36 noMoney
 
 -- balances and counts; the entries past n stay
-example-entries : movedLedger rotation (unfixedLedger 3 7 (money 5 0 9 4) (8 ∷ 0 ∷ 1 ∷ 6 ∷ replicate 36 0)) ≡ unfixedLedger 3 7 (money 9 5 0 4)
-    (1 ∷ 8 ∷ 0 ∷ 6 ∷ replicate 36 0)
+example-entries : movedLedger rotation (unfixedLedger 3 7 (money 5 0 9 4) (8 ∷ 0 ∷ 1 ∷ 6 ∷ replicate 36 0))
+    ≡ unfixedLedger 3 7 (money 9 5 0 4) (1 ∷ 8 ∷ 0 ∷ 6 ∷ replicate 36 0)
 unfolding ledgerComputed numberBy placeBy movedAlong renumberedCharges movedLedger rotation money
 example-entries = refl

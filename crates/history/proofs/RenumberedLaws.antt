@@ -80,8 +80,20 @@ module _ (ledger : Ledger) (call : FixingCall) where
       refused-unless 1 (fixingChecks ledger call) 3 (callLengths (ledger .n) call) WrongLength _
       (passes Unsound whole, tt) refl
 
--- a renumbered call: every list keeps its length, and where all are right, lines and sector factors are renumbered
+-- a renumbered call: where all lengths are right, lines and sector factors are renumbered; every list keeps its length
 module _ {n : ℕ} (r : Renumbering n) (call given : FixingCall) (c : RenumberedCall r call given) where
+  renumbered : callLengths n call ≡ true → RenumberedInput r (call .input) (given .input)
+  unfolding renumberedInput
+  renumbered right =
+      let parts = length-parts n call right in
+      record {
+        numbers = ap (λ (x : FixingInput). x .numbers) (c .input);
+        series = ap (λ (x : FixingInput). x .series) (c .input);
+        lines = ap (λ (x : FixingInput). x .lines) (c .input) ∙ rw (parts .1);
+        sectors = ap (λ (x : FixingInput). x .sectors) (c .input) ∙ rw (parts .2);
+        inForce = ap (λ (x : FixingInput). x .inForce) (c .input);
+      }
+
   lines-kept : length (given .input .lines) ≡ length (call .input .lines)
   unfolding renumberedInput
   lines-kept = ap (λ (x : FixingInput). length (x .lines)) (c .input) ∙ go (linesWhole (call .input .lines))
@@ -117,18 +129,6 @@ module _ {n : ℕ} (r : Renumbering n) (call given : FixingCall) (c : Renumbered
         c .prices,
         c .power,
       )
-
-  renumbered : callLengths n call ≡ true → RenumberedInput r (call .input) (given .input)
-  unfolding renumberedInput
-  renumbered right =
-      let parts = length-parts n call right in
-      record {
-        numbers = ap (λ (x : FixingInput). x .numbers) (c .input);
-        series = ap (λ (x : FixingInput). x .series) (c .input);
-        lines = ap (λ (x : FixingInput). x .lines) (c .input) ∙ rw (parts .1);
-        sectors = ap (λ (x : FixingInput). x .sectors) (c .input) ∙ rw (parts .2);
-        inForce = ap (λ (x : FixingInput). x .inForce) (c .input);
-      }
 
 module _ (ledger : Ledger) (r : Renumbering (ledger .n)) (call given : FixingCall) (c : RenumberedCall r call given)
   where

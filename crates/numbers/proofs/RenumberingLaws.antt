@@ -11,6 +11,7 @@ use native.Mathlib.Nat.{mod-lt, div-add-mod, mul-add-div-right, mul-add-mod-self
 use native.Mathlib.Nat.{div-lt-iff-lt-mul, le-div-iff-mul-le, mul-le-mul-right, div-one, mod-one}
 use lib.Dec.{eqb, ltb}
 use lib.ListN.{getD, length}
+use lib.Seq.{ext-getD}
 use borrow.Author.Tests.{eq-eqb, ne-eqb, lt-ltb, le-ltb}
 use Rattle.numbers.specs.Bounded.{sumBelow, allBelow, anyBelow, listBelow, filledBelow}
 use Rattle.numbers.specs.Renumbering.{Renumbering, numberBy, placeBy, movedAlong, StandUnder}
@@ -18,7 +19,6 @@ use Rattle.numbers.proofs.BoolLaws.{same-tests}
 use Rattle.numbers.proofs.SumLaws.{sum-same, sum-exchange}
 use Rattle.numbers.proofs.SearchLaws.{sum-single}
 use Rattle.numbers.proofs.TestLaws.{all-at, all-of, any-unless}
-use lib.Seq.{ext-getD}
 use Rattle.numbers.proofs.ListLaws.{list-length, list-at, filled-length, filled-at, filled-past}
 
 -- the same, the other way
