@@ -1,5 +1,5 @@
 -- Laws of the sum below a bound. Assumes nothing.
-use mathlib.Core.Path.{_≡_, refl, ap}
+use mathlib.Core.Path.{_≡_, refl}
 use Prim.Native.Nat.{ℕ, zero, suc, _+_, _-_, _*_, _≤_, _<_}
 use native.Mathlib.Numerals.{add-one}
 use native.Mathlib.Omega.{arith}
@@ -83,6 +83,17 @@ unfolding sumBelow
 sum-add zero f g = refl
 sum-add (suc k) f g = omega (arith, sum-add k f g)
 
+-- part by part at most, and once less: the sum less
+pub sum-less : (k : ℕ) (f g : ℕ → ℕ) → ((j : ℕ) → j < k → f j ≤ g j) → (i : ℕ) → i < k → f i < g i →
+    sumBelow k f < sumBelow k g
+sum-less k f g h i p less =
+    omega (
+      arith,
+      sum-same k g (λ j. f j + (g j - f j)) (λ j q. omega (arith, h j q)),
+      sum-add k f (λ j. g j - f j),
+      sum-part k (λ j. g j - f j) i p,
+    )
+
 pub sum-scale : (k c : ℕ) (f : ℕ → ℕ) → sumBelow k (λ j. c * f j) ≡ c * sumBelow k f
 unfolding sumBelow
 sum-scale zero c f = omega arith
@@ -94,13 +105,3 @@ pub sum-exchange : (m n : ℕ) (f : ℕ → ℕ → ℕ) →
 unfolding sumBelow
 sum-exchange zero n f = omega (arith, sum-le n 0 (λ j. 0) (λ j p. omega arith))
 sum-exchange (suc m) n f = omega (arith, sum-exchange m n f, sum-add n (λ j. sumBelow m (λ i. f i j)) (f m))
-
--- the steps of a function that never falls add up to how far it climbs
-pub sum-steps : (k : ℕ) (g : ℕ → ℕ) → ((j : ℕ) → j < k → g j ≤ g (j + 1)) →
-    sumBelow k (λ j. g (j + 1) - g j) + g 0 ≡ g k
-unfolding sumBelow
-sum-steps zero g h = omega arith
-sum-steps (suc k) g h =
-    let ih : sumBelow k (λ j. g (j + 1) - g j) + g 0 ≡ g k = sum-steps k g (λ j p. h j (omega arith)) in
-    let e : g (k + 1) ≡ g (suc k) = ap g (add-one k) in
-    omega (arith, h k (omega arith))

@@ -9,11 +9,12 @@ use Rattle.settlement.specs.Example.{inSectorZero, billed, billedReading
 use Rattle.settlement.specs.Month.{moneyBelow, positionList, settledMonth}
 use Rattle.settlement.specs.Settlement.{positionOf, positionsInRange, owing, owed, transferred, paid, received}
 use Rattle.settlement.specs.Settlement.{transfer, newBalance, oneSign}
-use Rattle.settlement.specs.Share.{sideTotal, sharedBefore, share}
+use Rattle.settlement.specs.Share.{sideTotal, shareFloor, shareRemainder, pesosLeft, comesBefore, rank}
+use Rattle.settlement.specs.Share.{oddPeso, share}
 
 unfoldable pub settlementComputed : ℕ
 unfolding numbersComputed readingAllowed sectorAllowed readingsAllowed lossesAllowed billingInRange
     highNet lowNet energyWithLosses collectedAmount inSectorZero billed billedReadings evenLosses moneyBelow
     positionList settledMonth positionOf positionsInRange owing owed transferred paid received transfer newBalance
-    oneSign sideTotal sharedBefore share
+    oneSign sideTotal shareFloor shareRemainder pesosLeft comesBefore rank oddPeso share
 settlementComputed = 0

@@ -1,4 +1,5 @@
 pub mod AmountLaws
+pub mod RankLaws
 pub mod ShareLaws
 pub mod SettlementLaws
 pub mod MonthLaws

@@ -1,99 +1,190 @@
 -- The three laws of the shares, by which all later proofs go, for every side and every transferred total that is at
--- most the side's. Assumes nothing.
-use mathlib.Core.Path.{_≡_, refl, sym, _∙_}
-use mathlib.Core.Bool.{Bool, true, false, cond}
-use Prim.Native.Nat.{ℕ, zero, suc, _+_, _*_, _/_, _≤_, _<_}
+-- most the side's; and that no odd peso goes to one without a remainder. Assumes nothing.
+use mathlib.Core.Path.{_≡_, ap, ap₂}
+use mathlib.Core.Bool.{cond}
+use Prim.Native.Nat.{ℕ, zero, suc, _+_, _*_, _/_, _%_, _≤_, _<_}
 use native.Mathlib.Omega.{arith}
-use native.Mathlib.Nat.{div-zero, div-mul-le-self, lt-div-mul-add, le-div-iff-mul-le, div-lt-iff-lt-mul, mul-div-cancel}
-use native.Mathlib.Nat.{mul-div-cancel-left, mul-le-mul-right, mul-zero, zero-div, le-of-suc-le-suc}
-use lib.Dec.{eqb}
-use borrow.Author.Tests.{eqb-true}
+use native.Mathlib.Decide.{decLt}
+use native.Mathlib.Nat.{div-add-mod, mod-lt, mul-le-mul-right, le-of-mul-le-mul-right}
+use lib.Dec.{ltb}
+use borrow.Author.Tests.{eq-eqb, ne-eqb, lt-ltb, le-ltb}
 use Rattle.numbers.specs.Bounded.{sumBelow}
-use Rattle.numbers.proofs.SumLaws.{sum-step, sum-same, sum-mono, sum-steps}
-use Rattle.settlement.specs.Share.{sideTotal, sharedBefore, share}
-
--- the floor t * c / total with one size s more: it does not fall, and grows by s at most
-floor-up : (t total c s : ℕ) → t * c / total ≤ t * (c + s) / total
-floor-up t zero c s = rw (div-zero (t * c)) (omega arith)
-floor-up t (suc total) c s =
-    le-div-iff-mul-le {k = suc total} (omega arith) .1 (omega (arith, div-mul-le-self (t * c) (suc total)))
-
-floor-step : (t total c s : ℕ) → t ≤ total → t * (c + s) / total ≤ t * c / total + s
-floor-step t zero c s h = rw (div-zero (t * (c + s))) (omega arith)
-floor-step t (suc total) c s h =
-    le-of-suc-le-suc
-    (div-lt-iff-lt-mul {k = suc total} {y = suc (t * c / suc total + s)} (omega arith) .1
-    (omega (arith, lt-div-mul-add {a = t * c} {b = suc total} (omega arith), mul-le-mul-right s h)))
-
--- the floor at the whole side is t, and the floors of the whole are the running totals
-floor-end : (t total : ℕ) → t ≤ total → t * total / total ≡ t
-floor-end t zero h = div-zero (t * 0) ∙ omega arith
-floor-end t (suc total) h = mul-div-cancel t (omega arith)
-
-floor-whole : (total c : ℕ) → c ≤ total → total * c / total ≡ c
-floor-whole zero c h = div-zero (0 * c) ∙ omega arith
-floor-whole (suc total) c h = mul-div-cancel-left c (omega arith)
-
--- a side of total 0 is no case of its own, since a quotient by 0 is 0
-before-is : (n : ℕ) (size : ℕ → ℕ) (t k : ℕ) → sharedBefore n size t k ≡ t * sumBelow k size / sideTotal n size
-unfolding sharedBefore
-before-is n size t k = go (eqb (sideTotal n size) 0) refl
-  where
-    go : (b : Bool) → eqb (sideTotal n size) 0 ≡ b →
-        cond b 0 (t * sumBelow k size / sideTotal n size) ≡ t * sumBelow k size / sideTotal n size
-    go true e = rw (eqb-true (sideTotal n size) 0 e) (sym (div-zero (t * sumBelow k size)))
-    go false e = refl
+use Rattle.numbers.proofs.SumLaws.{sum-same, sum-le, sum-mono, sum-add, sum-scale, sum-le-sum, sum-less}
+use Rattle.settlement.specs.Share.{sideTotal, shareFloor, shareRemainder, pesosLeft, rank}
+use Rattle.settlement.specs.Share.{oddPeso, share}
+use Rattle.settlement.proofs.RankLaws.{one-most, rank-same, ranks-below, rank-without}
 
 -- two sides that agree below n have the same shares
-before-same : (n : ℕ) (f g : ℕ → ℕ) (t k : ℕ) → ((j : ℕ) → j < n → f j ≡ g j) → k ≤ n →
-    sharedBefore n f t k ≡ sharedBefore n g t k
-unfolding sharedBefore sideTotal
-before-same n f g t k h p = rw (sum-same n f g h, sum-same k f g (λ j q. h j (omega arith)))
+module _ (n : ℕ) (f g : ℕ → ℕ) (t : ℕ) (h : (j : ℕ) → j < n → f j ≡ g j) where
+  total-same : sideTotal n f ≡ sideTotal n g
+  unfolding sideTotal
+  total-same = sum-same n f g h
+
+  floor-same : (i : ℕ) → i < n → shareFloor n f t i ≡ shareFloor n g t i
+  unfolding shareFloor
+  floor-same i p = ap₂ (λ x y. t * x / y) (h i p) total-same
+
+  remainder-same : (i : ℕ) → i < n → shareRemainder n f t i ≡ shareRemainder n g t i
+  unfolding shareRemainder
+  remainder-same i p = ap₂ (λ x y. t * x % y) (h i p) total-same
+
+  left-same : pesosLeft n f t ≡ pesosLeft n g t
+  unfolding pesosLeft
+  left-same = rw (sum-same n (shareFloor n f t) (shareFloor n g t) floor-same)
 
 pub share-same : (n : ℕ) (f g : ℕ → ℕ) (t i : ℕ) → ((j : ℕ) → j < n → f j ≡ g j) → i < n → share n f t i ≡ share n g t i
-unfolding share
+unfolding share oddPeso
 share-same n f g t i h p =
-    rw (before-same n f g t (i + 1) h (omega arith), before-same n f g t i h (omega arith))
+    rw (
+      total-same n f g t h,
+      floor-same n f g t h i p,
+      rank-same n (shareRemainder n f t) (shareRemainder n g t) (remainder-same n f g t h) i p,
+      left-same n f g t h,
+    )
+
+odd-most : (n : ℕ) (size : ℕ → ℕ) (transferred i : ℕ) → oddPeso n size transferred i ≤ 1
+unfolding oddPeso
+odd-most n size transferred i =
+    one-most (ltb (rank n (shareRemainder n size transferred) i) (pesosLeft n size transferred))
 
 module _ (n : ℕ) (size : ℕ → ℕ) (transferred : ℕ) (h : transferred ≤ sideTotal n size) where
-  abbrev before : ℕ → ℕ
-  before = sharedBefore n size transferred
+  abbrev floor : ℕ → ℕ
+  floor = shareFloor n size transferred
 
-  pub before-next : (k : ℕ) → before (k + 1) ≡ transferred * (sumBelow k size + size k) / sideTotal n size
-  before-next k = rw (before-is n size transferred (k + 1), sum-step k size)
+  abbrev remainder : ℕ → ℕ
+  remainder = shareRemainder n size transferred
 
-  pub before-up : (k : ℕ) → k < n → before k ≤ before (k + 1)
-  before-up k p =
-      rw (before-next k, before-is n size transferred k)
-      (floor-up transferred (sideTotal n size) (sumBelow k size) (size k))
+  abbrev total : ℕ
+  total = sideTotal n size
 
-  pub before-none : before 0 ≡ 0
+  abbrev left : ℕ
+  left = pesosLeft n size transferred
+
+  -- a side without a total has no size and no share
+  share-none : total ≡ 0 → (i : ℕ) → share n size transferred i ≡ 0
+  unfolding share
+  share-none e i = rw (eq-eqb total 0 e)
+
+  pub share-is : 0 < total → (i : ℕ) → share n size transferred i ≡ floor i + oddPeso n size transferred i
+  unfolding share
+  share-is some i = rw (ne-eqb total 0 (omega arith))
+
+  -- floor and remainder make up T * size, and so do those of the first k
+  divided : (i : ℕ) → floor i * total + remainder i ≡ transferred * size i
+  unfolding shareFloor shareRemainder
+  divided i = omega (arith, div-add-mod (transferred * size i) total)
+
+  divided-below : (k : ℕ) → sumBelow k floor * total + sumBelow k remainder ≡ transferred * sumBelow k size
   unfolding sumBelow
-  before-none = before-is n size transferred 0 ∙ rw (mul-zero transferred) (zero-div (sideTotal n size))
+  divided-below zero = omega arith
+  divided-below (suc k) = omega (arith, divided-below k, divided k)
 
-  before-all : before n ≡ transferred
-  unfolding sideTotal
-  before-all = before-is n size transferred n ∙ floor-end transferred (sumBelow n size) h
+  module _ (some : 0 < total) where
+    remainder-less : (i : ℕ) → remainder i < total
+    unfolding shareRemainder
+    remainder-less i = mod-lt (transferred * size i) some
+
+    pub floors-most : (k : ℕ) → k ≤ n → sumBelow k floor ≤ transferred
+    unfolding sideTotal
+    floors-most k p =
+        le-of-mul-le-mul-right
+        (omega (arith, divided-below n, mul-le-mul-right total (sum-mono k n floor p)))
+        some
+
+    left-total : left * total ≡ sumBelow n remainder
+    unfolding pesosLeft sideTotal
+    left-total =
+        let e : left + sumBelow n floor ≡ transferred = omega (arith, floors-most n (omega arith)) in
+        omega (arith, ap (λ x. x * total) e, divided-below n)
+
+    left-most : left ≤ n
+    left-most =
+        le-of-mul-le-mul-right
+        (omega (arith, left-total, sum-le n total remainder (λ i p. omega (arith, remainder-less i))))
+        some
+
+    -- fewer pesos are left than there are remainders, so none goes to one without
+    left-few : left ≤ sumBelow n (λ j. cond (ltb 0 (remainder j)) 1 0)
+    left-few =
+        le-of-mul-le-mul-right
+        (omega (
+          arith,
+          left-total,
+          sum-le-sum n remainder (λ j. total * cond (ltb 0 (remainder j)) 1 0) (λ j p. go j),
+          sum-scale n total (λ j. cond (ltb 0 (remainder j)) 1 0),
+        ))
+        some
+      where
+        go : (j : ℕ) → remainder j ≤ total * cond (ltb 0 (remainder j)) 1 0
+        go j = by (decLt 0 (remainder j))
+          where
+            by : Dec (0 < remainder j) → remainder j ≤ total * cond (ltb 0 (remainder j)) 1 0
+            by (yes p) = rw (lt-ltb 0 (remainder j) p) (omega (arith, remainder-less j))
+            by (no p) = omega arith
+
+    pub odd-none : (i : ℕ) → remainder i ≡ 0 → oddPeso n size transferred i ≡ 0
+    unfolding oddPeso
+    odd-none i e = rw (le-ltb (rank n remainder i) left (omega (arith, rank-without remainder n i e, left-few)))
+
+    odd-total : sumBelow n (oddPeso n size transferred) ≡ left
+    unfolding oddPeso
+    odd-total = ranks-below remainder n left left-most
+
+    shares-total-some : sumBelow n (share n size transferred) ≡ transferred
+    unfolding pesosLeft
+    shares-total-some =
+        omega (
+          arith,
+          sum-same n (share n size transferred) (λ i. floor i + oddPeso n size transferred i) (λ i p. share-is some i),
+          sum-add n floor (oddPeso n size transferred),
+          odd-total,
+          floors-most n (omega arith),
+        )
+
+    -- a floor is at most the size, and less where there is a remainder
+    floor-most : (i : ℕ) → floor i ≤ size i
+    floor-most i = le-of-mul-le-mul-right (omega (arith, divided i, mul-le-mul-right (size i) h)) some
+
+    floor-less : (i : ℕ) → 0 < remainder i → floor i < size i
+    floor-less i p = go (decLt (floor i) (size i))
+      where
+        go : Dec (floor i < size i) → floor i < size i
+        go (yes q) = q
+        go (no q) =
+            let most : size i ≤ floor i = omega arith in
+            absurd (omega (arith, divided i, mul-le-mul-right (size i) h, mul-le-mul-right total most))
+
+    share-most-some : (i : ℕ) → share n size transferred i ≤ size i
+    share-most-some i = go (decLt 0 (remainder i))
+      where
+        go : Dec (0 < remainder i) → share n size transferred i ≤ size i
+        go (yes p) = omega (arith, share-is some i, odd-most n size transferred i, floor-less i p)
+        go (no p) = omega (arith, share-is some i, odd-none i (omega arith), floor-most i)
 
   -- they add up to what is transferred
   pub shares-total : sumBelow n (share n size transferred) ≡ transferred
-  unfolding share
-  shares-total = omega (arith, sum-steps n before before-up, before-none, before-all)
+  shares-total = go (decLt 0 total)
+    where
+      go : Dec (0 < total) → sumBelow n (share n size transferred) ≡ transferred
+      go (yes some) = shares-total-some some
+      go (no none) =
+          omega
+          (arith, sum-le n 0 (share n size transferred) (λ i p. omega (arith, share-none (omega arith) i)))
 
   -- each is at most its size
   pub share-most : (i : ℕ) → i < n → share n size transferred i ≤ size i
-  unfolding share
-  share-most i p =
-      rw (before-next i, before-is n size transferred i)
-      (omega (arith, floor-step transferred (sideTotal n size) (sumBelow i size) (size i) h))
+  share-most i p = go (decLt 0 total)
+    where
+      go : Dec (0 < total) → share n size transferred i ≤ size i
+      go (yes some) = share-most-some some i
+      go (no none) = omega (arith, share-none (omega arith) i)
 
-  before-whole : transferred ≡ sideTotal n size → (k : ℕ) → k ≤ n → before k ≡ sumBelow k size
-  unfolding sideTotal
-  before-whole e k p =
-      before-is n size transferred k ∙ rw e (floor-whole (sumBelow n size) (sumBelow k size) (sum-mono k n size p))
-
-  -- where the whole side is transferred they are the sizes
+  -- where the whole side is transferred they are the sizes: were one less, they would add up to less
   pub share-whole : transferred ≡ sideTotal n size → (i : ℕ) → i < n → share n size transferred i ≡ size i
-  unfolding share
-  share-whole e i p =
-      omega (arith, before-whole e i (omega arith), before-whole e (i + 1) (omega arith), sum-step i size)
+  unfolding sideTotal
+  share-whole e i p = go (decLt (share n size transferred i) (size i))
+    where
+      go : Dec (share n size transferred i < size i) → share n size transferred i ≡ size i
+      go (yes less) =
+          absurd (omega (arith, sum-less n (share n size transferred) size share-most i p less, shares-total))
+      go (no same) = omega (arith, share-most i p)

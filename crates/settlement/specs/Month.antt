@@ -9,9 +9,10 @@ use Rattle.numbers.specs.Units.{noMoney}
 use Rattle.numbers.specs.Sizes.{mostDistributors}
 use Rattle.numbers.specs.declared.units.Pesos.{Pesos}
 use Rattle.settlement.specs.Amount.{collectedAmount}
-use Rattle.settlement.specs.Share.{share}
+use Rattle.settlement.specs.Share.{shareFloor, shareRemainder, pesosLeft, share}
 use Rattle.settlement.specs.Settlement.{positionOf, transfer, newBalance}
 use Rattle.settlement.specs.declared.month.SettledMonth.{SettledMonth}
+use Rattle.settlement.specs.declared.share.DividedSide.{DividedSide}
 
 -- what stands at i of a list of money
 abbrev pub moneyAt : List Pesos → ℕ → ℤ
@@ -41,6 +42,16 @@ sizesBelow n size = filledBelow mostDistributors 0 n size
 -- the shares of one side as a list
 unfoldable pub shareList : ℕ → List ℕ → ℕ → List ℕ
 shareList n sizes transferred = filledBelow mostDistributors 0 n (share n (λ i. getD sizes i 0) transferred)
+
+-- a side's floors and remainders as lists, and the pesos that the floors leave
+unfoldable pub dividedSide : ℕ → List ℕ → ℕ → DividedSide
+dividedSide n sizes transferred =
+    let size : ℕ → ℕ = λ i. getD sizes i 0 in
+    record {
+      floors = filledBelow mostDistributors 0 n (shareFloor n size transferred);
+      remainders = filledBelow mostDistributors 0 n (shareRemainder n size transferred);
+      left = pesosLeft n size transferred;
+    }
 
 -- transfers and new balances, where each pays and receives so much
 unfoldable pub movedMonth : ℕ → List Pesos → List ℕ → List ℕ → SettledMonth

@@ -1,117 +1,143 @@
 -- A side that is transferred whole has its sizes for shares. The invariant of any other: the shares of those passed are
--- written; running is the total of their sizes, before that of their shares.
-use mathlib.Core.Path.{_≡_, refl, sym, _∙_, ap, ap₂}
-use Prim.Native.Nat.{ℕ, _≤_, _-_, _+_, _*_, _/_}
+-- written.
+use mathlib.Core.Path.{_≡_, sym, _∙_, ap}
+use mathlib.Core.Bool.{Bool, cond}
+use mathlib.Core.Logic.{⊎-elim}
+use Prim.Native.Nat.{ℕ, _≤_, _<_, _-_, _+_}
 use lib.ListN.{getD}
 use Rattle.numbers.specs.Sizes.{mostDistributors}
-use Rattle.numbers.specs.Bounded.{sumBelow, filledBelow}
-use Rattle.numbers.specs.declared.division.Division.{Division}
-use Rattle.numbers.proofs.SumLaws.{sum-step}
-use Rattle.numbers.proofs.ListLaws.{filled-none, filled-next}
-use Rattle.settlement.specs.Share.{sideTotal, sharedBefore, share}
-use Rattle.settlement.specs.Month.{shareList}
-use Rattle.settlement.proofs.ShareLaws.{before-none, before-next, before-up}
-use Rattle.settlement.proofs.MonthLaws.{running-most, shares-whole}
+use Rattle.numbers.specs.Bounded.{filledBelow}
+use Rattle.numbers.proofs.ListLaws.{filled-none, filled-at, filled-next}
+use Rattle.settlement.specs.Share.{sideTotal, shareFloor, shareRemainder, pesosLeft, rank, oddPeso, share}
+use Rattle.settlement.specs.Month.{shareList, dividedSide}
+use Rattle.settlement.specs.declared.share.DividedSide.{DividedSide}
+use Rattle.settlement.proofs.RankLaws.{rank-same}
+use Rattle.settlement.proofs.ShareLaws.{share-is, share-most}
+use Rattle.settlement.proofs.MonthLaws.{shares-whole}
 use Rattle.settlement.proofs.share.shares.Statement.{statement}
 use Rattle.settlement.proofs.share.shares.Tie as tie
 use native.Mathlib.Omega.{arith}
+use borrow.Author.Tests.{lt-ltb, le-ltb}
 
 abbrev Inv-loop : tie.InvT-loop
-Inv-loop n sizes total transferred shares₀ running₀ before₀ i₀ shares running before i =
-    (i ≤ n) × (shares ≡ filledBelow mostDistributors 0 i (share n (λ j. getD sizes j 0) transferred)) ×
-    (running ≡ sumBelow i (λ j. getD sizes j 0)) × (before ≡ sharedBefore n (λ j. getD sizes j 0) transferred i)
+Inv-loop n sizes total transferred divided floors remainders shares₀ i₀ shares i =
+    (i ≤ n) × (shares ≡ filledBelow mostDistributors 0 i (share n (λ j. getD sizes j 0) transferred))
 
 abbrev μ-loop : tie.MeasureT-loop
-μ-loop n sizes total transferred shares₀ running₀ before₀ i₀ shares running before i = n - i
+μ-loop n sizes total transferred divided floors remainders shares₀ i₀ shares i = n - i
 
--- the side's total, and that no more is transferred
+-- the side: its sizes and total, and that no more is transferred
 module _ (s : tie.Start Inv-loop μ-loop) where
-  total : s .args .total ≡ sideTotal (s .args .n) (λ j. getD (s .args .sizes .now) j 0)
-  total = s .pre .1 .0
+  abbrev n : ℕ
+  n = s .args .n
 
-  enough : s .args .transferred ≤ sideTotal (s .args .n) (λ j. getD (s .args .sizes .now) j 0)
-  enough = omega (arith, total, s .pre .1 .1)
-
--- a turn: the size at hand, the bounds of the totals
-module _ (c : tie.After-running Inv-loop μ-loop) where
-  abbrev l : tie.At-loop Inv-loop μ-loop
-  l = c .before .before
-
-  abbrev s : tie.Start Inv-loop μ-loop
-  s = l .before .before
+  abbrev t : ℕ
+  t = s .args .transferred
 
   abbrev size : ℕ → ℕ
   size j = getD (s .args .sizes .now) j 0
 
-  running : l .loop .running + size (l .loop .i) ≡ sumBelow (l .loop .i + 1) size
-  running = rw (sum-step (l .loop .i) size) (omega (arith, l .loop .inv .2))
+  total : s .args .total ≡ sideTotal n size
+  total = s .pre .1 .0
 
-  most : sumBelow (l .loop .i + 1) size ≤ 40000000000000000
-  most = running-most (s .args .n) (s .args .sizes .now) (s .pre .0) (l .loop .i + 1) (omega arith)
-
-  whole : sideTotal (s .args .n) size ≤ 40000000000000000
-  unfolding sideTotal
-  whole = running-most (s .args .n) (s .args .sizes .now) (s .pre .0) (s .args .n) (omega arith)
-
--- the floor with the own size, and that it does not fall
-module _ (c : tie.After-multiply-divide Inv-loop μ-loop) where
-  abbrev r : tie.After-running Inv-loop μ-loop
-  r = c .before
-
-  shared : c .multiply-divide .result .quotient ≡ sharedBefore (s r .args .n) (size r) (s r .args .transferred)
-      (l r .loop .i + 1)
-  shared =
-      ap (λ (d : Division). d .quotient) (c .multiply-divide .ensures)
-      ∙ ap₂ (λ x y. s r .args .transferred * (x + size r (l r .loop .i)) / y) (l r .loop .inv .2) (total (s r))
-      ∙ sym (before-next (s r .args .n) (size r) (s r .args .transferred) (enough (s r)) (l r .loop .i))
-
-  up : sharedBefore (s r .args .n) (size r) (s r .args .transferred) (l r .loop .i) ≤ sharedBefore (s r .args .n)
-      (size r) (s r .args .transferred) (l r .loop .i + 1)
-  up = before-up (s r .args .n) (size r) (s r .args .transferred) (enough (s r)) (l r .loop .i) (omega arith)
+  enough : t ≤ sideTotal n size
+  enough = omega (arith, total, s .pre .1 .1)
 
 returns : tie.Need-returns Inv-loop μ-loop
 returns c =
-    let t = c .before in
-    let s = t .before in
-    shares-whole (s .args .n) (s .args .sizes .now) (s .args .transferred) (s .pre .0) (omega (arith, total s))
+    let s = c .before .before in
+    shares-whole (n s) (s .args .sizes .now) (t s) (s .pre .0) (omega (arith, total s))
+
+divide-side-requires : tie.Need-divide-side-requires Inv-loop μ-loop
+divide-side-requires c κs = (c .before .pre .0, (c .before .pre .1 .0, omega arith))
 
 loop-holds : tie.Need-loop-holds Inv-loop μ-loop
-unfolding sumBelow
-loop-holds c =
-    let s = c .before in
-    let size : ℕ → ℕ = λ j. getD (s .args .sizes .now) j 0 in (
-      omega arith,
-      filled-none mostDistributors 0 (share (s .args .n) size (s .args .transferred)),
-      refl,
-      sym (before-none (s .args .n) size (s .args .transferred) (enough s)),
+loop-holds c = (omega arith, filled-none mostDistributors 0 _)
+
+rank-of-requires : tie.Need-rank-of-requires Inv-loop μ-loop
+rank-of-requires c κs =
+    let s = c .before .before .before .before .before .before .before in
+    omega (arith, s .pre .0 .few)
+
+abbrev one : Bool → ℕ
+one b = cond b 1 0
+
+-- a turn: the floor and the odd peso at hand are the share
+module _ (c : tie.Joined2 Inv-loop μ-loop) where
+  abbrev r : tie.After-rank-of Inv-loop μ-loop
+  r = c .before .before
+
+  abbrev l : tie.At-loop Inv-loop μ-loop
+  l = r .before .before .before
+
+  abbrev d : tie.After-divide-side Inv-loop μ-loop
+  d = l .before .before .before
+
+  abbrev s : tie.Start Inv-loop μ-loop
+  s = d .before .before
+
+  abbrev i : ℕ
+  i = l .loop .i
+
+  inside : i < mostDistributors
+  inside = omega (arith, s .pre .0 .few)
+
+  floor : getD (d .divide-side .result .floors) i 0 ≡ shareFloor (n s) (size s) (t s) i
+  unfolding dividedSide
+  floor =
+      ap (λ (p : DividedSide). getD (p .floors) i 0) (d .divide-side .ensures)
+      ∙ filled-at mostDistributors 0 (shareFloor (n s) (size s) (t s)) (n s) i (omega arith) inside
+
+  ranked : r .rank-of .result ≡ rank (n s) (shareRemainder (n s) (size s) (t s)) i
+  unfolding dividedSide
+  ranked =
+      r .rank-of .ensures
+      ∙ rank-same (n s) (λ j. getD (d .divide-side .result .remainders) j 0) (shareRemainder (n s) (size s) (t s))
+      (λ j p.
+      ap (λ (p : DividedSide). getD (p .remainders) j 0) (d .divide-side .ensures)
+      ∙ filled-at mostDistributors 0 (shareRemainder (n s) (size s) (t s)) (n s) j p (omega (arith, s .pre .0 .few)))
+      i (omega arith)
+
+  left : d .divide-side .result .left ≡ pesosLeft (n s) (size s) (t s)
+  unfolding dividedSide
+  left = ap (λ (p : DividedSide). p .left) (d .divide-side .ensures)
+
+  odd : c .if2 .odd ≡ oddPeso (n s) (size s) (t s) i
+  unfolding oddPeso
+  odd =
+      let before = rank (n s) (shareRemainder (n s) (size s) (t s)) i in
+      let pesos = pesosLeft (n s) (size s) (t s) in
+      ⊎-elim
+      (λ w. w .1 ∙ ap one (sym (lt-ltb before pesos (omega (arith, ranked, left, w .0 .taken)))))
+      (λ w. w .1 ∙ ap one (sym (le-ltb before pesos (omega (arith, ranked, left, w .0 .left)))))
+      (c .if2 .came)
+
+  at-hand : getD (d .divide-side .result .floors) i 0 + c .if2 .odd ≡ share (n s) (size s) (t s) i
+  at-hand = omega (arith, floor, odd, share-is (n s) (size s) (t s) (enough s) (omega (arith, total s)) i)
+
+add-shares : tie.Need-add-shares Inv-loop μ-loop
+add-shares c =
+    let j = c .before in
+    omega (
+      arith,
+      at-hand j,
+      share-most (n (s j)) (size (s j)) (t (s j)) (enough (s j)) (i j) (omega arith),
+      s j .pre .0 .within (i j) (omega arith),
     )
 
-add-running : tie.Need-add-running Inv-loop μ-loop
-add-running c = omega (arith, running c, most c)
-
-multiply-divide-requires : tie.Need-multiply-divide-requires Inv-loop μ-loop
-multiply-divide-requires c κs = omega (arith, running c, most c, whole c, total (s c), s c .pre .1 .1)
-
-sub-shares : tie.Need-sub-shares Inv-loop μ-loop
-sub-shares c = omega (arith, shared c, up c)
-
 loop-again : tie.Need-loop-again Inv-loop μ-loop
-unfolding share
 loop-again c =
-    let r = c .before in (
+    let j = c .before in (
       omega arith,
-      filled-next mostDistributors 0 (l r .loop .i) (share (s r .args .n) (size r) (s r .args .transferred))
-          (l r .loop .shares) _ (omega arith)
-          (l r .loop .inv .1) (ap₂ (λ x y. x - y) (shared c) (l r .loop .inv .3)),
-      running r,
-      shared c,
+      filled-next mostDistributors 0 (i j) (share (n (s j)) (size (s j)) (t (s j))) (l j .loop .shares) _ (inside j)
+          (l j .loop .inv .1) (at-hand j),
     )
 
 returns-2 : tie.Need-returns-2 Inv-loop μ-loop
 unfolding shareList
 returns-2 c =
     let l = c .before in
-    let e : l .loop .i ≡ l .before .before .args .n = omega arith in
+    let e : l .loop .i ≡ l .before .before .before .before .before .args .n = omega arith in
     rw e at (l .loop .inv .1)
 
 pub shares-spec : {M : Type 1} → statement M
@@ -121,11 +147,11 @@ shares-spec =
     Inv-loop
     μ-loop
     returns
+    divide-side-requires
     loop-holds
+    rank-of-requires
     (λ c. omega arith) (λ c. omega arith)
-    add-running
-    multiply-divide-requires
-    sub-shares
+    add-shares
     (λ c. omega arith) (λ c. omega arith) (λ c. omega arith) (λ c. omega arith)
     loop-again
     returns-2)
