@@ -4,7 +4,7 @@
 //!     ./plain even|mixed fix|settle|both COUNT
 
 use std::borrow::Cow;
-use std::cmp::Ordering;
+use std::cmp::{Ordering, Reverse};
 use std::hint::black_box;
 use std::ops::RangeInclusive;
 
@@ -539,26 +539,27 @@ fn fix(ledger: &Ledger, input: &FixingInput, prices: &mut [i64], power: &mut [u6
     Ok(Fixing { limit, surcharge, rounds, residue, ledger })
 }
 
-/// One side of the settlement, those who owe or those who are owed, taken in ascending number.
-struct Side {
-    total: u64,
-    running: u64,
-    given: u64,
-}
-
-impl Side {
-    fn new(total: u64) -> Side {
-        Side { total, running: 0, given: 0 }
+/// The shares of one side, those who owe or those who are owed, in the transferred sum: rounded down, and what is left
+/// goes out one peso each to the largest remainders, the lower number first among equals.
+fn shares(sizes: &[u64], transferred: u64) -> [u64; MAX_DISTRIBUTORS] {
+    let mut shares = [0; MAX_DISTRIBUTORS];
+    let total = sizes.iter().sum::<u64>() as u128;
+    if total == 0 {
+        return shares;
     }
-
-    /// The share of the next position on this side in the transferred sum.
-    fn share(&mut self, size: u64, transferred: u64) -> i64 {
-        self.running += size;
-        let up_to_here = (transferred as u128 * self.running as u128 / self.total as u128) as u64;
-        let share = up_to_here - self.given;
-        self.given = up_to_here;
-        share as i64
+    let mut order = [(Reverse(0), 0); MAX_DISTRIBUTORS];
+    let order = &mut order[..sizes.len()];
+    for (i, &size) in sizes.iter().enumerate() {
+        let product = transferred as u128 * size as u128;
+        shares[i] = (product / total) as u64;
+        order[i] = (Reverse((product % total) as u64), i);
     }
+    let left = transferred - shares.iter().sum::<u64>();
+    order.sort_unstable();
+    for &(_, i) in &order[..left as usize] {
+        shares[i] += 1;
+    }
+    shares
 }
 
 /// What a distributor collected in a month by its charges.
@@ -623,17 +624,17 @@ fn settle(ledger: &Ledger, input: &SettlementInput, transfers: &mut [i64]) -> Re
         return Err(Refusal::Position);
     }
 
-    let mut owing = Side::new(positions.iter().filter(|&&p| p > 0).map(|p| p.unsigned_abs()).sum());
-    let mut owed = Side::new(positions.iter().filter(|&&p| p < 0).map(|p| p.unsigned_abs()).sum());
-    let transferred = owing.total.min(owed.total);
+    let (mut owing, mut owed) = ([0; MAX_DISTRIBUTORS], [0; MAX_DISTRIBUTORS]);
+    for (i, &position) in positions.iter().enumerate() {
+        let side = if position > 0 { &mut owing } else { &mut owed };
+        side[i] = position.unsigned_abs();
+    }
+    let transferred = owing.iter().sum::<u64>().min(owed.iter().sum());
+    let paid = shares(&owing[..n], transferred);
+    let received = shares(&owed[..n], transferred);
     let mut ledger = ledger.clone();
     for (i, &position) in positions.iter().enumerate() {
-        let size = position.unsigned_abs();
-        transfers[i] = match position.signum() {
-            1 => -owing.share(size, transferred),
-            -1 => owed.share(size, transferred),
-            _ => 0,
-        };
+        transfers[i] = received[i] as i64 - paid[i] as i64;
         ledger.balances[i] = position + transfers[i];
     }
     for count in &mut ledger.counts[..n] {
@@ -842,6 +843,13 @@ mod tests {
         let again = settle(&second, &month_of(31, [0; 3]), &mut transfers);
         assert_eq!(again, Err(Refusal::OutOfTurn));
         assert_eq!(fix(&second, &input, &mut prices, &mut power).err(), Some(Refusal::OutOfTurn));
+    }
+
+    #[test]
+    fn odd_pesos_go_to_the_largest_remainders() {
+        assert_eq!(shares(&[1, 1, 1, 0], 2)[..4], [1, 1, 0, 0]);
+        assert_eq!(shares(&[0, 5, 2, 1], 5)[..4], [0, 3, 1, 1]);
+        assert_eq!(shares(&[0, 0], 0)[..2], [0, 0]);
     }
 
     #[test]

@@ -335,14 +335,14 @@ def fix(book, month, dollar, factor, first, day, series, lines, sectors, in_forc
 
 
 def shares(sizes, t):
-    total, running, out = sum(sizes), 0, []
-    for s in sizes:
-        if total == 0:
-            out.append(0)
-            continue
-        before = t * running // total
-        running += s
-        out.append(t * running // total - before)
+    total = sum(sizes)
+    if total == 0:
+        return [0] * len(sizes)
+    out = [t * s // total for s in sizes]
+    # W-208: "what is left of T goes out one peso each to the largest remainders, the lower distributor first among equals"
+    order = sorted(range(len(sizes)), key=lambda i: (-(t * sizes[i] % total), i))
+    for i in order[:t - sum(out)]:
+        out[i] += 1
     return out
 
 

@@ -137,10 +137,11 @@ classExamples =
           (settlementLedger firstLedger secondBilling .balances));
       printed = pos 0 ∷ pos 1302 ∷ negsuc 120 ∷ negsuc 1180 ∷ pos 0 ∷ pos 1217 ∷ pos 11841 ∷ [];
     }
+    -- "Example 11 becomes transfers -1, -1, 0, +2" (W-208)
     ∷ record {
       number = 11;
       computed = listBelow 4 (transfer 4 oddPosition);
-      printed = pos 0 ∷ negsuc 0 ∷ negsuc 0 ∷ pos 2 ∷ [];
+      printed = negsuc 0 ∷ negsuc 0 ∷ pos 0 ∷ pos 2 ∷ [];
     }
     ∷ record { number = 12; computed = whole (plainNumber 1000 ∷ plainNumber 999 ∷ []); printed = whole (0 ∷ 11 ∷ []) }
     ∷ []

@@ -1,30 +1,35 @@
 -- Laws of the open call of settlement: what a month that is due is worked from, and what is promised where the call
--- refuses and where it settles. Assumes nothing.
+-- refuses and where it settles; an accepted month's balances and transfers one by one. Assumes nothing.
 use mathlib.Core.Path.{_≡_, refl, sym, _∙_, ap}
 use mathlib.Core.Bool.{true, false}
 use mathlib.Core.List.{List, []}
-use Prim.Native.Nat.{_*_}
+use Prim.Native.Nat.{ℕ, _*_, _<_}
+use native.Mathlib.Omega.{arith}
 use lib.Dec.{eqb}
-use lib.ListN.{length, drop}
-use lib.IntN.{ℤ}
+use lib.ListN.{length, drop, getD}
+use lib.IntN.{ℤ, pos}
 use borrow.Author.Tests.{eqb-true}
 use Rattle.numbers.specs.Bounded.{listBelow}
 use Rattle.numbers.specs.Checks.{verdictOf}
+use Rattle.numbers.specs.Refusal.{isPassed}
+use Rattle.numbers.specs.Sizes.{mostDistributors}
 use Rattle.numbers.specs.declared.refusal.Refusal.{Refusal}
 use Rattle.numbers.specs.declared.refusal.Refusal.the-variants.{Unsound, WrongLength, OutOfTurn, NoFixing, WrongReading}
 use Rattle.numbers.specs.declared.refusal.Refusal.the-variants.{PositionBeyond}
 use Rattle.numbers.specs.declared.refusal.Verdict.the-variants.{Passed, Refused}
 use Rattle.numbers.specs.declared.units.Pesos.{Pesos}
 use Rattle.numbers.proofs.BoolLaws.{and-three}
+use Rattle.numbers.proofs.ListLaws.{list-at}
 use Rattle.numbers.proofs.CheckLaws.{FirstPass, AllTold, passes, check-told, verdict-from, verdict-passed}
 use Rattle.numbers.proofs.CheckLaws.{refused-unless, judged}
 use Rattle.fixing.specs.declared.sector.SectorCharges.{SectorCharges}
 use Rattle.settlement.specs.Amount.{billingInRange}
 use Rattle.settlement.specs.Required.{BillingLists, Billed}
-use Rattle.settlement.specs.Settlement.{positionsInRange}
+use Rattle.settlement.specs.Settlement.{positionsInRange, transfer, newBalance}
 use Rattle.settlement.specs.Month.{moneyAt, settledMonth}
 use Rattle.settlement.specs.declared.month.SettledMonth.{SettledMonth}
 use Rattle.settlement.proofs.AmountLaws.{billing-facts}
+use Rattle.settlement.proofs.MonthLaws.{money-at}
 use Rattle.ledger.specs.Ledger.{anySettled, nextMonth, settledLedger}
 use Rattle.ledger.specs.Billed.{billedUnder}
 use Rattle.ledger.specs.Sound.{sound}
@@ -35,6 +40,7 @@ use Rattle.ledger.specs.Required.{Due}
 use Rattle.ledger.specs.declared.ledger.Ledger.{Ledger}
 use Rattle.ledger.specs.declared.ledger.Outcome.{Outcome}
 use Rattle.ledger.proofs.SoundLaws.{sound-few}
+use Rattle.ledger.proofs.CallLaws.{settlement-passed}
 use Rattle.ledger.proofs.BilledLaws.{sound-charges}
 
 module _ (ledger : Ledger) (call : SettlementCall) where
@@ -158,3 +164,34 @@ module _ (ledger : Ledger) (call : SettlementCall) where
                 booked = q ∙ ap (λ (s : SettledMonth). settledLedger ledger (call .month) (s .balances)) month ∙ rw v;
                 listed = r ∙ ap (λ (s : SettledMonth). listBelow (ledger .n) (moneyAt (s .transfers))) month ∙ rw v;
               }
+
+-- what an accepted settlement hands back for distributor i: the balance and the transfer that the definitions settle
+module _ (ledger next : Ledger) (call : SettlementCall) (list : List ℤ)
+    (promise : SettlementPromise ledger call Passed next list) (i : ℕ) (p : i < ledger .n) where
+  abbrev settled : SettledMonth
+  settled = settledMonth (ledger .n) (positionsOf ledger call)
+
+  passed : settlementVerdict ledger call ≡ Passed
+  unfolding settlementVerdict
+  passed = sym (promise .judged .answered)
+
+  inside : i < mostDistributors
+  inside =
+      let few = sound-few ledger (settlement-passed ledger call (ap isPassed passed) .due .whole) in
+      omega (arith, few)
+
+  pub settled-balance : moneyAt (next .balances) i ≡ newBalance (ledger .n) (moneyAt (positionsOf ledger call)) i
+  unfolding settlementLedger settledLedger settledMonth
+  settled-balance =
+      let booked : next .balances ≡ settled .balances = ap (λ (l : Ledger). l .balances) (rw passed at
+      (promise .booked)) in
+      ap (λ l. moneyAt l i) booked
+      ∙ money-at (newBalance (ledger .n) (moneyAt (positionsOf ledger call))) (ledger .n) i p inside
+
+  pub settled-transfer : getD list i (pos 0) ≡ transfer (ledger .n) (moneyAt (positionsOf ledger call)) i
+  unfolding settlementList settledMonth
+  settled-transfer =
+      let listed : list ≡ listBelow (ledger .n) (moneyAt (settled .transfers)) = rw passed at (promise .listed) in
+      ap (λ l. getD l i (pos 0)) listed
+      ∙ list-at (moneyAt (settled .transfers)) (ledger .n) (pos 0) i p
+      ∙ money-at (transfer (ledger .n) (moneyAt (positionsOf ledger call))) (ledger .n) i p inside

@@ -4,13 +4,13 @@ ghost use mathlib.Core.Bool.{true};
 ghost use mathlib.Core.List.{List};
 ghost use mathlib.Core.Path.{_≡_};
 ghost use Prim.Native.Nat.{ℕ, _≤_, _<_};
-ghost use lib.IntN.{ℤ};
-ghost use lib.ListN.{length};
+ghost use lib.IntN.{ℤ, pos};
+ghost use lib.ListN.{length, getD};
 ghost use Rattle.numbers.specs.Bounded.{listBelow};
 ghost use Rattle.numbers.specs.declared.refusal.Verdict.the-variants.{Passed};
 ghost use Rattle.numbers.specs.Sizes.{mostDistributors};
 ghost use Rattle.settlement.specs.Month.{moneyAt};
-ghost use Rattle.settlement.specs.Settlement.{onSmallerSide};
+ghost use Rattle.settlement.specs.Settlement.{onSmallerSide, NoSignTurned};
 ghost use Rattle.ledger.specs.Ledger.{raisedCounts, settledLedger};
 ghost use Rattle.ledger.specs.Turn.{settlementTurn};
 ghost use Rattle.ledger.specs.Settle.{SettlementCall, settlementCallOf, settlementLengths, positionsOf};
@@ -167,4 +167,12 @@ pub fn smaller_side_clears()
         SettlementPromise ledger call Passed next list → (i : ℕ) → i < ledger .n →
         onSmallerSide (ledger .n) (moneyAt (positionsOf ledger call)) i ≡ true →
         SettledInFull ledger call next list i) ⌝ }
+{}
+
+// "A share is never more than its position's size, so that no sign turns" (document 02), of whatever `settle` hands back
+// where it accepts. The function does nothing; its ensures is the statement.
+pub fn no_sign_turns()
+    ensures { λ r. ⌜ ((ledger next : Ledger) (call : SettlementCall) (list : List ℤ) →
+        SettlementPromise ledger call Passed next list → (i : ℕ) → i < ledger .n →
+        NoSignTurned (moneyAt (positionsOf ledger call) i) (getD list i (pos 0)) (moneyAt (next .balances) i)) ⌝ }
 {}

@@ -3,21 +3,32 @@
 -- grows. Assumes nothing.
 use mathlib.Core.Path.{_≡_, refl, _∙_, ap, ap₂}
 use mathlib.Core.Bool.{Bool, true, false, not, Bool·beq, and-false}
-use Prim.Native.Nat.{ℕ, _+_, _-_, _≤_, _<_}
+use Prim.Native.Nat.{ℕ, zero, suc, _+_, _-_, _≤_, _<_}
 use native.Mathlib.Omega.{arith}
 use native.Mathlib.Decide.{decLe}
-use lib.IntN.{ℤ, pos, subℕ, natAbs, _+ℤ_, +ℤ-idr, +ℤ-invr}
+use lib.IntN.{ℤ, pos, negsuc, subℕ, natAbs, _+ℤ_, +ℤ-idr, +ℤ-invr}
 use lib.Signed.{ltZ}
-use borrow.Author.Tests.{leb-true, le-leb}
+use borrow.Author.Tests.{leb-true, le-leb, lt-ltb, ne-eqb}
 use Rattle.numbers.specs.Bounded.{sumBelow}
 use Rattle.numbers.specs.Signed.{signedSumBelow, positivePart, negativePart, isNegative}
 use Rattle.numbers.proofs.SignedLaws.{sub-eq, signed-sum-sub, add-sub, sub-parts, size-parts, not-above, not-below}
-use Rattle.numbers.proofs.SignedLaws.{signed-sum-add, part-none, own-part, parts-turned}
+use Rattle.numbers.proofs.SignedLaws.{signed-sum-add, part-none, own-part, parts-turned, size-sub-le}
 use Rattle.settlement.specs.Share.{sideTotal}
 use Rattle.settlement.specs.Settlement.{positionOf, owing, owed, transferred, paid, received, transfer}
 use Rattle.settlement.specs.Settlement.{sideSize, newBalance, onSmallerSide, sideShare, InFull, oneSign}
+use Rattle.settlement.specs.Settlement.{keepsSign, NoSignTurned}
 use Rattle.settlement.proofs.ShareLaws.{shares-total, share-most, share-whole}
 use Rattle.numbers.proofs.TestLaws.{any-never}
+
+-- a number whose parts are at most another's is zero or has its sign
+sign-kept : (y z : ℤ) → positivePart z ≤ positivePart y → negativePart z ≤ negativePart y → keepsSign y z ≡ true
+unfolding keepsSign isNegative
+sign-kept y (pos zero) a b = refl
+sign-kept (pos y) (pos (suc z)) a b =
+    rw (ne-eqb (suc z) 0 (omega arith), lt-ltb 0 y (omega arith), lt-ltb 0 (suc z) (omega arith))
+sign-kept (negsuc y) (pos (suc z)) a b = absurd (omega arith)
+sign-kept (pos y) (negsuc z) a b = absurd (omega arith)
+sign-kept (negsuc y) (negsuc z) a b = rw (ne-eqb (suc z) 0 (omega arith))
 
 module _ (n : ℕ) (position : ℕ → ℤ) where
   -- what is transferred is at most each side's total
@@ -65,6 +76,19 @@ module _ (n : ℕ) (position : ℕ → ℤ) where
   pub balance-size : (i : ℕ) → i < n → natAbs (newBalance n position i) ≤ natAbs (position i)
   balance-size i p =
       omega (arith, size-parts (newBalance n position i), size-parts (position i), balance-above i p, balance-below i p)
+
+  -- so no sign turns
+  pub no-sign-turns : (i : ℕ) → i < n → NoSignTurned (position i) (transfer n position i) (newBalance n position i)
+  unfolding transfer owing owed
+  no-sign-turns i p =
+      record {
+        shared =
+            size-sub-le (received n position i) (paid n position i) (natAbs (position i))
+            (omega (arith, received-most i p, size-parts (position i)))
+            (omega (arith, paid-most i p, size-parts (position i)));
+        sign = sign-kept (position i) (newBalance n position i) (balance-above i p) (balance-below i p);
+        size = balance-size i p;
+      }
 
   -- either side's shares add up to what is transferred, so transfers add up to zero
   pub paid-total : sumBelow n (paid n position) ≡ transferred n position

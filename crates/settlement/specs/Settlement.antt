@@ -1,9 +1,9 @@
--- One month's settlement ("The ledger" of document 01): positions, the two sides, transfers, new balances, in $; and
--- the side that clears (W-203 of document 02). Assumes nothing.
+-- One month's settlement ("The ledger" of document 01): positions, the two sides, transfers, new balances, in $; the
+-- side that clears and the signs that stay (W-203 and W-208 of document 02). Assumes nothing.
 use mathlib.Core.Path.{_≡_}
-use mathlib.Core.Bool.{Bool, cond, not, _&&_}
-use Prim.Native.Nat.{ℕ, _^_, min}
-use lib.Dec.{leb}
+use mathlib.Core.Bool.{Bool, true, cond, not, _&&_, _||_}
+use Prim.Native.Nat.{ℕ, _^_, _≤_, min}
+use lib.Dec.{leb, eqb}
 use lib.IntN.{ℤ, pos, subℕ, natAbs, negℤ, _+ℤ_}
 use lib.Signed.{ltZ}
 use Rattle.numbers.specs.Bounded.{allBelow, anyBelow}
@@ -68,6 +68,20 @@ pub record InFull (n : ℕ) (position : ℕ → ℤ) (i : ℕ) : Type 0 where
   pub whole : sideShare (isNegative (position i)) n position i ≡ natAbs (position i)
   pub turned : transfer n position i ≡ negℤ (position i)
   pub cleared : newBalance n position i ≡ pos 0
+
+-- whether a balance is zero or has its position's sign
+unfoldable pub keepsSign : ℤ → ℤ → Bool
+keepsSign position balance =
+    eqb (natAbs balance) 0
+    || (ltZ (pos 0) position && ltZ (pos 0) balance)
+    || (isNegative position && isNegative balance)
+
+-- "a share is never more than its position's size, so that no sign turns": a position, its transfer, whose size is the
+-- share, and its new balance
+pub record NoSignTurned (position transfer balance : ℤ) : Type 0 where
+  pub shared : natAbs transfer ≤ natAbs position
+  pub sign : keepsSign position balance ≡ true
+  pub size : natAbs balance ≤ natAbs position
 
 -- balances are "never of both signs": whether not both one above zero and one below is among n of them
 unfoldable pub oneSign : ℕ → (ℕ → ℤ) → Bool
