@@ -169,8 +169,8 @@ pub fn smaller_side_clears()
         SettledInFull ledger call next list i) ⌝ }
 {}
 
-// "A share is never more than its position's size, so that no sign turns" (document 02), of whatever `settle` hands back
-// where it accepts. The function does nothing; its ensures is the statement.
+// "A share is never more than its position's size, so that no sign turns" (document 02), of whatever `settle` hands
+// back where it accepts. The function does nothing; its ensures is the statement.
 pub fn no_sign_turns()
     ensures { λ r. ⌜ ((ledger next : Ledger) (call : SettlementCall) (list : List ℤ) →
         SettlementPromise ledger call Passed next list → (i : ℕ) → i < ledger .n →

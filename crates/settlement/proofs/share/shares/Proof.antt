@@ -26,27 +26,10 @@ Inv-loop n sizes total transferred divided floors remainders shares₀ i₀ shar
 abbrev μ-loop : tie.MeasureT-loop
 μ-loop n sizes total transferred divided floors remainders shares₀ i₀ shares i = n - i
 
--- the side: its sizes and total, and that no more is transferred
-module _ (s : tie.Start Inv-loop μ-loop) where
-  abbrev n : ℕ
-  n = s .args .n
-
-  abbrev t : ℕ
-  t = s .args .transferred
-
-  abbrev size : ℕ → ℕ
-  size j = getD (s .args .sizes .now) j 0
-
-  total : s .args .total ≡ sideTotal n size
-  total = s .pre .1 .0
-
-  enough : t ≤ sideTotal n size
-  enough = omega (arith, total, s .pre .1 .1)
-
 returns : tie.Need-returns Inv-loop μ-loop
 returns c =
     let s = c .before .before in
-    shares-whole (n s) (s .args .sizes .now) (t s) (s .pre .0) (omega (arith, total s))
+    shares-whole (s .args .n) (s .args .sizes .now) (s .args .transferred) (s .pre .0) (omega (arith, s .pre .1 .0))
 
 divide-side-requires : tie.Need-divide-side-requires Inv-loop μ-loop
 divide-side-requires c κs = (c .before .pre .0, (c .before .pre .1 .0, omega arith))
@@ -76,44 +59,56 @@ module _ (c : tie.Joined2 Inv-loop μ-loop) where
   abbrev s : tie.Start Inv-loop μ-loop
   s = d .before .before
 
+  abbrev n : ℕ
+  n = s .args .n
+
   abbrev i : ℕ
   i = l .loop .i
+
+  abbrev size : ℕ → ℕ
+  size j = getD (s .args .sizes .now) j 0
+
+  abbrev remainder : ℕ → ℕ
+  remainder = shareRemainder n size (s .args .transferred)
+
+  enough : s .args .transferred ≤ sideTotal n size
+  enough = omega (arith, s .pre .1 .0, s .pre .1 .1)
 
   inside : i < mostDistributors
   inside = omega (arith, s .pre .0 .few)
 
-  floor : getD (d .divide-side .result .floors) i 0 ≡ shareFloor (n s) (size s) (t s) i
+  floor : getD (d .divide-side .result .floors) i 0 ≡ shareFloor n size (s .args .transferred) i
   unfolding dividedSide
   floor =
       ap (λ (p : DividedSide). getD (p .floors) i 0) (d .divide-side .ensures)
-      ∙ filled-at mostDistributors 0 (shareFloor (n s) (size s) (t s)) (n s) i (omega arith) inside
+      ∙ filled-at mostDistributors 0 (shareFloor n size (s .args .transferred)) n i (omega arith) inside
 
-  ranked : r .rank-of .result ≡ rank (n s) (shareRemainder (n s) (size s) (t s)) i
+  ranked : r .rank-of .result ≡ rank n remainder i
   unfolding dividedSide
   ranked =
       r .rank-of .ensures
-      ∙ rank-same (n s) (λ j. getD (d .divide-side .result .remainders) j 0) (shareRemainder (n s) (size s) (t s))
+      ∙ rank-same n (λ j. getD (d .divide-side .result .remainders) j 0) remainder
       (λ j p.
       ap (λ (p : DividedSide). getD (p .remainders) j 0) (d .divide-side .ensures)
-      ∙ filled-at mostDistributors 0 (shareRemainder (n s) (size s) (t s)) (n s) j p (omega (arith, s .pre .0 .few)))
+      ∙ filled-at mostDistributors 0 remainder n j p (omega (arith, s .pre .0 .few)))
       i (omega arith)
 
-  left : d .divide-side .result .left ≡ pesosLeft (n s) (size s) (t s)
+  left : d .divide-side .result .left ≡ pesosLeft n size (s .args .transferred)
   unfolding dividedSide
   left = ap (λ (p : DividedSide). p .left) (d .divide-side .ensures)
 
-  odd : c .if2 .odd ≡ oddPeso (n s) (size s) (t s) i
+  odd : c .if2 .odd ≡ oddPeso n size (s .args .transferred) i
   unfolding oddPeso
   odd =
-      let before = rank (n s) (shareRemainder (n s) (size s) (t s)) i in
-      let pesos = pesosLeft (n s) (size s) (t s) in
+      let pesos = pesosLeft n size (s .args .transferred) in
       ⊎-elim
-      (λ w. w .1 ∙ ap one (sym (lt-ltb before pesos (omega (arith, ranked, left, w .0 .taken)))))
-      (λ w. w .1 ∙ ap one (sym (le-ltb before pesos (omega (arith, ranked, left, w .0 .left)))))
+      (λ w. w .1 ∙ ap one (sym (lt-ltb (rank n remainder i) pesos (omega (arith, ranked, left, w .0 .taken)))))
+      (λ w. w .1 ∙ ap one (sym (le-ltb (rank n remainder i) pesos (omega (arith, ranked, left, w .0 .left)))))
       (c .if2 .came)
 
-  at-hand : getD (d .divide-side .result .floors) i 0 + c .if2 .odd ≡ share (n s) (size s) (t s) i
-  at-hand = omega (arith, floor, odd, share-is (n s) (size s) (t s) (enough s) (omega (arith, total s)) i)
+  at-hand : getD (d .divide-side .result .floors) i 0 + c .if2 .odd ≡ share n size (s .args .transferred) i
+  at-hand =
+      omega (arith, floor, odd, share-is n size (s .args .transferred) enough (omega (arith, s .pre .1 .0)) i)
 
 add-shares : tie.Need-add-shares Inv-loop μ-loop
 add-shares c =
@@ -121,7 +116,7 @@ add-shares c =
     omega (
       arith,
       at-hand j,
-      share-most (n (s j)) (size (s j)) (t (s j)) (enough (s j)) (i j) (omega arith),
+      share-most (n j) (size j) (s j .args .transferred) (enough j) (i j) (omega arith),
       s j .pre .0 .within (i j) (omega arith),
     )
 
@@ -129,8 +124,8 @@ loop-again : tie.Need-loop-again Inv-loop μ-loop
 loop-again c =
     let j = c .before in (
       omega arith,
-      filled-next mostDistributors 0 (i j) (share (n (s j)) (size (s j)) (t (s j))) (l j .loop .shares) _ (inside j)
-          (l j .loop .inv .1) (at-hand j),
+      filled-next mostDistributors 0 (i j) (share (n j) (size j) (s j .args .transferred)) (l j .loop .shares) _
+          (inside j) (l j .loop .inv .1) (at-hand j),
     )
 
 returns-2 : tie.Need-returns-2 Inv-loop μ-loop
