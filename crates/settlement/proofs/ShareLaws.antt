@@ -14,34 +14,6 @@ use Rattle.settlement.specs.Share.{sideTotal, shareFloor, shareRemainder
 use Rattle.settlement.specs.Share.{oddPeso, share}
 use Rattle.settlement.proofs.RankLaws.{one-most, rank-same, ranks-below, rank-without}
 
--- two sides that agree below n have the same shares
-module _ (n : ℕ) (f g : ℕ → ℕ) (t : ℕ) (h : (j : ℕ) → j < n → f j ≡ g j) where
-  total-same : sideTotal n f ≡ sideTotal n g
-  unfolding sideTotal
-  total-same = sum-same n f g h
-
-  floor-same : (i : ℕ) → i < n → shareFloor n f t i ≡ shareFloor n g t i
-  unfolding shareFloor
-  floor-same i p = ap₂ (λ x y. t * x / y) (h i p) total-same
-
-  remainder-same : (i : ℕ) → i < n → shareRemainder n f t i ≡ shareRemainder n g t i
-  unfolding shareRemainder
-  remainder-same i p = ap₂ (λ x y. t * x % y) (h i p) total-same
-
-  left-same : pesosLeft n f t ≡ pesosLeft n g t
-  unfolding pesosLeft
-  left-same = rw (sum-same n (shareFloor n f t) (shareFloor n g t) floor-same)
-
-pub share-same : (n : ℕ) (f g : ℕ → ℕ) (t i : ℕ) → ((j : ℕ) → j < n → f j ≡ g j) → i < n → share n f t i ≡ share n g t i
-unfolding share oddPeso
-share-same n f g t i h p =
-    rw (
-      total-same n f g t h,
-      floor-same n f g t h i p,
-      rank-same n (shareRemainder n f t) (shareRemainder n g t) (remainder-same n f g t h) i p,
-      left-same n f g t h,
-    )
-
 odd-most : (n : ℕ) (size : ℕ → ℕ) (transferred i : ℕ) → oddPeso n size transferred i ≤ 1
 unfolding oddPeso
 odd-most n size transferred i =
@@ -142,7 +114,7 @@ module _ (n : ℕ) (size : ℕ → ℕ) (transferred : ℕ) (h : transferred ≤
         )
 
     -- a floor is at most the size, and less where there is a remainder
-    floor-most : (i : ℕ) → floor i ≤ size i
+    pub floor-most : (i : ℕ) → floor i ≤ size i
     floor-most i = le-of-mul-le-mul-right (omega (arith, divided i, mul-le-mul-right (size i) h)) some
 
     floor-less : (i : ℕ) → 0 < remainder i → floor i < size i
@@ -188,3 +160,31 @@ module _ (n : ℕ) (size : ℕ → ℕ) (transferred : ℕ) (h : transferred ≤
       go (yes less) =
           absurd (omega (arith, sum-less n (share n size transferred) size share-most i p less, shares-total))
       go (no same) = omega (arith, share-most i p)
+
+-- two sides that agree below n have the same shares
+module _ (n : ℕ) (f g : ℕ → ℕ) (t : ℕ) (h : (j : ℕ) → j < n → f j ≡ g j) where
+  total-same : sideTotal n f ≡ sideTotal n g
+  unfolding sideTotal
+  total-same = sum-same n f g h
+
+  floor-same : (i : ℕ) → i < n → shareFloor n f t i ≡ shareFloor n g t i
+  unfolding shareFloor
+  floor-same i p = ap₂ (λ x y. t * x / y) (h i p) total-same
+
+  remainder-same : (i : ℕ) → i < n → shareRemainder n f t i ≡ shareRemainder n g t i
+  unfolding shareRemainder
+  remainder-same i p = ap₂ (λ x y. t * x % y) (h i p) total-same
+
+  left-same : pesosLeft n f t ≡ pesosLeft n g t
+  unfolding pesosLeft
+  left-same = rw (sum-same n (shareFloor n f t) (shareFloor n g t) floor-same)
+
+pub share-same : (n : ℕ) (f g : ℕ → ℕ) (t i : ℕ) → ((j : ℕ) → j < n → f j ≡ g j) → i < n → share n f t i ≡ share n g t i
+unfolding share oddPeso
+share-same n f g t i h p =
+    rw (
+      total-same n f g t h,
+      floor-same n f g t h i p,
+      rank-same n (shareRemainder n f t) (shareRemainder n g t) (remainder-same n f g t h) i p,
+      left-same n f g t h,
+    )

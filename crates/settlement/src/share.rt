@@ -99,12 +99,11 @@ pub(crate) fn shares(
     let mut shares = [0u64; MOST_DISTRIBUTORS];
     let mut i: usize = 0;
     while i < n {
-        let odd: u64 = if rank_of(n, &remainders, i) < divided.left {
-            1
-        } else {
-            0
-        };
-        shares[i] = floors[i] + odd;
+        let mut share = floors[i];
+        if rank_of(n, &remainders, i) < divided.left {
+            share += 1;
+        }
+        shares[i] = share;
         i += 1;
     }
     shares

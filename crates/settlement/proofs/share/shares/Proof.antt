@@ -1,18 +1,20 @@
 -- A side that is transferred whole has its sizes for shares. The invariant of any other: the shares of those passed are
 -- written.
-use mathlib.Core.Path.{_≡_, sym, _∙_, ap}
-use mathlib.Core.Bool.{Bool, cond}
+use mathlib.Core.Path.{_≡_, _∙_, ap}
+use mathlib.Core.Bool.{Bool, true, false, cond}
 use mathlib.Core.Logic.{⊎-elim}
 use Prim.Native.Nat.{ℕ, _≤_, _<_, _-_, _+_}
+use lib.Dec.{ltb}
 use lib.ListN.{getD}
 use Rattle.numbers.specs.Sizes.{mostDistributors}
 use Rattle.numbers.specs.Bounded.{filledBelow}
 use Rattle.numbers.proofs.ListLaws.{filled-none, filled-at, filled-next}
 use Rattle.settlement.specs.Share.{sideTotal, shareFloor, shareRemainder, pesosLeft, rank, oddPeso, share}
+use Rattle.settlement.specs.Settlement.{mostPosition}
 use Rattle.settlement.specs.Month.{shareList, dividedSide}
 use Rattle.settlement.specs.declared.share.DividedSide.{DividedSide}
 use Rattle.settlement.proofs.RankLaws.{rank-same}
-use Rattle.settlement.proofs.ShareLaws.{share-is, share-most}
+use Rattle.settlement.proofs.ShareLaws.{share-is, floor-most}
 use Rattle.settlement.proofs.MonthLaws.{shares-whole}
 use Rattle.settlement.proofs.share.shares.Statement.{statement}
 use Rattle.settlement.proofs.share.shares.Tie as tie
@@ -42,14 +44,8 @@ rank-of-requires c κs =
     let s = c .before .before .before .before .before .before .before in
     omega (arith, s .pre .0 .few)
 
-abbrev one : Bool → ℕ
-one b = cond b 1 0
-
--- a turn: the floor and the odd peso at hand are the share
-module _ (c : tie.Joined2 Inv-loop μ-loop) where
-  abbrev r : tie.After-rank-of Inv-loop μ-loop
-  r = c .before .before
-
+-- a turn: the floor and the rank at hand, and the pesos left
+module _ (r : tie.After-rank-of Inv-loop μ-loop) where
   abbrev l : tie.At-loop Inv-loop μ-loop
   l = r .before .before .before
 
@@ -97,35 +93,37 @@ module _ (c : tie.Joined2 Inv-loop μ-loop) where
   unfolding dividedSide
   left = ap (λ (p : DividedSide). p .left) (d .divide-side .ensures)
 
-  odd : c .if2 .odd ≡ oddPeso n size (s .args .transferred) i
-  unfolding oddPeso
-  odd =
-      let pesos = pesosLeft n size (s .args .transferred) in
-      ⊎-elim
-      (λ w. w .1 ∙ ap one (sym (lt-ltb (rank n remainder i) pesos (omega (arith, ranked, left, w .0 .taken)))))
-      (λ w. w .1 ∙ ap one (sym (le-ltb (rank n remainder i) pesos (omega (arith, ranked, left, w .0 .left)))))
-      (c .if2 .came)
+  few : shareFloor n size (s .args .transferred) i ≤ mostPosition
+  few =
+      let most = floor-most n size (s .args .transferred) enough (omega (arith, s .pre .1 .0)) i in
+      omega (arith, most, s .pre .0 .within i (omega arith))
 
-  at-hand : getD (d .divide-side .result .floors) i 0 + c .if2 .odd ≡ share n size (s .args .transferred) i
-  at-hand =
+  -- the share is the floor with the odd peso
+  shared : (b : Bool) → ltb (rank n remainder i) (pesosLeft n size (s .args .transferred)) ≡ b →
+      getD (d .divide-side .result .floors) i 0 + cond b 1 0 ≡ share n size (s .args .transferred) i
+  unfolding oddPeso
+  shared b e =
+      let odd : oddPeso n size (s .args .transferred) i ≡ cond b 1 0 = ap (λ x. cond x 1 0) e in
       omega (arith, floor, odd, share-is n size (s .args .transferred) enough (omega (arith, s .pre .1 .0)) i)
 
-add-shares : tie.Need-add-shares Inv-loop μ-loop
-add-shares c =
-    let j = c .before in
-    omega (
-      arith,
-      at-hand j,
-      share-most (n j) (size j) (s j .args .transferred) (enough j) (i j) (omega arith),
-      s j .pre .0 .within (i j) (omega arith),
-    )
+add-share : tie.Need-add-share Inv-loop μ-loop
+add-share c =
+    let r = c .before .before in
+    omega (arith, floor r, few r)
 
 loop-again : tie.Need-loop-again Inv-loop μ-loop
 loop-again c =
-    let j = c .before in (
+    let r = c .before .before in
+    let ranks = rank (n r) (remainder r) (i r) in
+    let pesos = pesosLeft (n r) (size r) (s r .args .transferred) in
+    let written : c .if2 .share ≡ share (n r) (size r) (s r .args .transferred) (i r) = ⊎-elim
+    (λ w. w .1 ∙ shared r true (lt-ltb ranks pesos (omega (arith, ranked r, left r, w .0 .taken))))
+    (λ w.
+    omega (arith, w .1, shared r false (le-ltb ranks pesos (omega (arith, ranked r, left r, w .0 .left)))))
+    (c .if2 .came) in (
       omega arith,
-      filled-next mostDistributors 0 (i j) (share (n j) (size j) (s j .args .transferred)) (l j .loop .shares) _
-          (inside j) (l j .loop .inv .1) (at-hand j),
+      filled-next mostDistributors 0 (i r) (share (n r) (size r) (s r .args .transferred)) (l r .loop .shares) _
+          (inside r) (l r .loop .inv .1) written,
     )
 
 returns-2 : tie.Need-returns-2 Inv-loop μ-loop
@@ -144,9 +142,9 @@ shares-spec =
     returns
     divide-side-requires
     loop-holds
-    rank-of-requires
     (λ c. omega arith) (λ c. omega arith)
-    add-shares
+    rank-of-requires
+    add-share
     (λ c. omega arith) (λ c. omega arith) (λ c. omega arith) (λ c. omega arith)
     loop-again
     returns-2)
