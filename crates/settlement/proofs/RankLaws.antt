@@ -70,7 +70,7 @@ module _ (remainder : ℕ → ℕ) where
             ne-eqb (remainder j) (remainder i) (omega arith),
           ) at h))
 
-  -- a rank is at most the number of the others, and grows by one where one more comes before
+  -- a rank is at most n, and grows by one where one more comes before
   rank-most : (n i : ℕ) → rank n remainder i ≤ n
   unfolding rank
   rank-most n i =

@@ -32,7 +32,7 @@ module _ (n : ℕ) (size : ℕ → ℕ) (transferred : ℕ) (h : transferred ≤
   abbrev left : ℕ
   left = pesosLeft n size transferred
 
-  -- a side without a total has no size and no share
+  -- the share of a side without a total, and of any other
   share-none : total ≡ 0 → (i : ℕ) → share n size transferred i ≡ 0
   unfolding share
   share-none e i = rw (eq-eqb total 0 e)
@@ -75,7 +75,7 @@ module _ (n : ℕ) (size : ℕ → ℕ) (transferred : ℕ) (h : transferred ≤
         (omega (arith, left-total, sum-le n total remainder (λ i p. omega (arith, remainder-less i))))
         some
 
-    -- fewer pesos are left than there are remainders, so none goes to one without
+    -- no more pesos are left than there are remainders above zero, so none goes to one without
     left-few : left ≤ sumBelow n (λ j. cond (ltb 0 (remainder j)) 1 0)
     left-few =
         le-of-mul-le-mul-right
