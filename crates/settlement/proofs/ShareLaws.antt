@@ -1,18 +1,27 @@
 -- The three laws of the shares, by which all later proofs go, for every side and every transferred total that is at
 -- most the side's; and that no odd peso goes to one without a remainder. Assumes nothing.
-use mathlib.Core.Path.{_≡_, ap, ap₂}
+use mathlib.Core.Path.{_≡_, refl, ap, ap₂}
 use mathlib.Core.Bool.{cond}
+use mathlib.Core.List.{[], _∷_}
 use Prim.Native.Nat.{ℕ, zero, suc, _+_, _*_, _/_, _%_, _≤_, _<_}
 use native.Mathlib.Omega.{arith}
 use native.Mathlib.Decide.{decLt}
 use native.Mathlib.Nat.{div-add-mod, mod-lt, mul-le-mul-right, le-of-mul-le-mul-right}
 use lib.Dec.{ltb}
+use lib.ListN.{getD}
 use borrow.Author.Tests.{eq-eqb, ne-eqb, lt-ltb, le-ltb}
-use Rattle.numbers.specs.Bounded.{sumBelow}
+use Rattle.numbers.specs.Bounded.{sumBelow, listBelow}
 use Rattle.numbers.proofs.SumLaws.{sum-same, sum-le, sum-mono, sum-add, sum-scale, sum-le-sum, sum-less}
 use Rattle.settlement.specs.Share.{sideTotal, shareFloor, shareRemainder, pesosLeft, rank}
 use Rattle.settlement.specs.Share.{oddPeso, share}
+use Rattle.settlement.proofs.Computed.{settlementComputed}
 use Rattle.settlement.proofs.RankLaws.{one-most, rank-same, ranks-below, rank-without}
+
+-- "the largest remainders", and not the largest sizes, by computation: of 6 pesos on sizes 6, 2 and 1 the floors are 4,
+-- 1 and 0, the remainders 0, 3 and 6
+example-largest-remainder : listBelow 3 (share 3 (λ i. getD (6 ∷ 2 ∷ 1 ∷ []) i 0) 6) ≡ 4 ∷ 1 ∷ 1 ∷ []
+unfolding settlementComputed
+example-largest-remainder = refl
 
 odd-most : (n : ℕ) (size : ℕ → ℕ) (transferred i : ℕ) → oddPeso n size transferred i ≤ 1
 unfolding oddPeso
