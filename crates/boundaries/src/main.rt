@@ -1,9 +1,14 @@
 // The given journal of W-206, then a tie in each rounding that can have one, bounds met alone, neighbouring causes met
 // at once, words that are all different, interim fixings, forty distributors, and kept ledgers with an older fixing:
 // the journal beside this program, replayed.
+
+#![tactic(auto)]
+
 use commands::input::journal_buffer;
 use commands::run::replay;
-use libc::STDIN_FILENO;
+
+// The file descriptor of standard input.
+const STDIN_FILENO: i32 = 0;
 
 fn main() {
     let mut text = journal_buffer();

@@ -1,8 +1,13 @@
 // Refusals, bounds, unsound ledgers, carried balances, power prices, joins and split months: the journal beside this
 // program, replayed.
+
+#![tactic(auto)]
+
 use commands::input::journal_buffer;
 use commands::run::replay;
-use libc::STDIN_FILENO;
+
+// The file descriptor of standard input.
+const STDIN_FILENO: i32 = 0;
 
 fn main() {
     let mut text = journal_buffer();

@@ -1,17 +1,22 @@
 // The program `classroom` of document 01: it reads nothing, fixes averages 100,000, 83,000 and 60,000 with energies 10,
 // 10 and 11 through the real calls, and prints the limit, the surcharge, the rounds and the residue, then each
 // distributor's number, average, final price and charge.
+
+#![tactic(auto)]
+
 ghost use Rattle.std.specs.Prelude.{◌<◌};
 
 use answers::line::values_line;
 use ledger::fix::{FixingAnswer, fix};
 use ledger::open::open;
-use libc::STDOUT_FILENO;
 use series::table::{CPI, MONTHS, WORDS};
 use supply::line::{LINE_WORDS, POWER_START};
 use supply::market::FixingNumbers;
 use text::line::write_line;
 use text::row::write_rows;
+
+// The file descriptor of standard output.
+const STDOUT_FILENO: i32 = 1;
 
 // Where the CPI of the table's first month stands.
 const FIRST_CPI: usize = CPI as usize * MONTHS;

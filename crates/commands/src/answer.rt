@@ -32,7 +32,7 @@ use text::line::write_line;
 use text::name::NAME;
 
 // The ledger after a command, and how many bytes its answer has.
-#[derive(Drop)]
+#[derive(Clone, Copy)]
 pub(crate) struct Made {
     pub ledger: Ledger,
     pub count: usize,

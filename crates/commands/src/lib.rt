@@ -1,4 +1,7 @@
 // The commands of a journal, made one after another with their answers.
+
+#![tactic(auto)]
+
 mod answer;
 mod call;
 pub mod input;

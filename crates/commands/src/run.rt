@@ -13,21 +13,23 @@ use journal::cursor::{Cursor, broken_at, read_to};
 use journal::form::{Parts, read_form};
 use ledger::ledger::Ledger;
 use ledger::open::open;
-use libc::STDOUT_FILENO;
 use text::line::write_line;
+
+// The file descriptor of standard output.
+const STDOUT_FILENO: i32 = 1;
 
 // The longest journal, in bytes.
 const LONGEST_TEXT: usize = 524288;
 
 // The ledger after a command, and how far the text is read.
-#[derive(Drop)]
+#[derive(Clone, Copy)]
 pub struct Step {
     pub ledger: Ledger,
     pub next: Cursor,
 }
 
 // A command's step, and how many bytes its answer has.
-#[derive(Drop)]
+#[derive(Clone, Copy)]
 struct CommandOutcome {
     pub step: Step,
     pub count: usize,

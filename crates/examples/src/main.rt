@@ -1,12 +1,17 @@
 // The class examples of document 01 as one statement; and outside vectors through the engine: the 33 prices that the
 // commission printed in dollars and in pesos (source document 000, table 4; vectors/node-prices.csv), each through the
 // peso step. The stored output is the print.
+
+#![tactic(auto)]
+
 ghost use Rattle.std.specs.Prelude.{◌≡◌, true};
 ghost use Rattle.examples.specs.Table.{hold_from};
 ghost use Rattle.examples.specs.ClassExamples.{class_examples};
 
-use libc::STDOUT_FILENO;
 use supply::price::peso_price;
+
+// The file descriptor of standard output.
+const STDOUT_FILENO: i32 = 1;
 
 // The print's dollar, in hundredths of $.
 const DOLLAR: u64 = 68207;

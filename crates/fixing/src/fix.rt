@@ -22,7 +22,7 @@ use supply::price::{LinePrices, price_lines};
 use supply::range::input_in_range;
 
 // What a fixing comes to: where the verdict is not Passed, all else is empty.
-#[derive(Drop)]
+#[derive(Clone, Copy)]
 pub struct Fixing {
     pub verdict: Verdict,
     pub averages: [PesoPrice; MOST_DISTRIBUTORS],

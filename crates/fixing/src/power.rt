@@ -15,7 +15,7 @@ use supply::line::{MOST_LINES, line_at, line_count};
 
 const MILLION: u64 = 1000000;
 
-#[derive(Drop)]
+#[derive(Clone, Copy)]
 struct PowerAmounts {
     millions: [u64; MOST_DISTRIBUTORS],
     rest: [u64; MOST_DISTRIBUTORS],

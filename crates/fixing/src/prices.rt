@@ -14,7 +14,7 @@ use numbers::signed::difference;
 use numbers::sizes::MOST_DISTRIBUTORS;
 use numbers::units::{Energy, PesoPrice, UnsignedPesos};
 
-#[derive(Drop)]
+#[derive(Clone, Copy)]
 pub struct FixedPrices {
     pub limit: PesoPrice,
     pub surcharge: PesoPrice,
@@ -25,7 +25,7 @@ pub struct FixedPrices {
 }
 
 // What a round sums: what its set pays at the averages, the set's energy and the energy outside the set.
-#[derive(Drop)]
+#[derive(Clone, Copy)]
 struct RoundSums {
     paid: UnsignedPesos,
     inside: Energy,
@@ -33,7 +33,7 @@ struct RoundSums {
 }
 
 // The last round: its surcharge, and the count of the rounds with it.
-#[derive(Drop)]
+#[derive(Clone, Copy)]
 struct LastRound {
     surcharge: PesoPrice,
     rounds: u64,

@@ -13,7 +13,7 @@ use numbers::sizes::{MOST_DISTRIBUTORS, PLACES, SECTORS};
 use numbers::units::all_between;
 
 // Presence and charge of 8 sectors of 40 distributors: what a fixing puts in force, without its month.
-#[derive(Drop)]
+#[derive(Clone, Copy)]
 pub struct SectorCharges {
     pub present: [bool; PLACES],
     pub charges: [i64; PLACES],

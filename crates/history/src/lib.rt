@@ -1,5 +1,8 @@
 // Demand 3 of document 01, the one statement over every list of calls from an opened ledger; and that a fixing gives
 // each distributor the same prices under whatever number (W-207 of document 02).
+
+#![tactic(auto)]
+
 ghost use Rattle.std.specs.Prelude.{List, ℕ, ◌≤◌};
 ghost use Rattle.numbers.specs.Renumbering.{Renumbering};
 ghost use Rattle.numbers.specs.Sizes.{most_distributors};

@@ -20,7 +20,7 @@ const NOTHING: Part = Part(*b"            ", Kind::Nothing);
 // The commands.
 const COMMANDS: usize = 9;
 
-#[derive(Drop)]
+#[derive(Clone, Copy)]
 pub enum Command {
     Open,
     Fix,
@@ -37,10 +37,10 @@ pub enum Command {
 }
 
 // A command by its name.
-#[derive(Drop)]
+#[derive(Clone, Copy)]
 struct CommandRow(pub [u8; NAME], pub Command);
 
-#[derive(Drop)]
+#[derive(Clone, Copy)]
 pub struct CommandRead {
     pub command: Command,
     pub next: Cursor,

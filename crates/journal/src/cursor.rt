@@ -10,13 +10,13 @@ use crate::word::is_name;
 use text::name::NAME;
 
 // How far the text is read; where it is broken, the byte of the token that could not be read.
-#[derive(Drop)]
+#[derive(Clone, Copy)]
 pub struct Cursor {
     pub at: usize,
     pub broken: bool,
 }
 
-#[derive(Drop)]
+#[derive(Clone, Copy)]
 pub struct NumberRead {
     pub value: u64,
     pub next: Cursor,

@@ -17,7 +17,7 @@ pub const PARTS: usize = 12;
 pub const MOST_WORD: u64 = 18446744073709551615;
 
 // What a part of a form is, with the bounds of what it takes.
-#[derive(Drop)]
+#[derive(Clone, Copy)]
 pub enum Kind {
     Nothing,
     // A number, and its greatest value.
@@ -31,11 +31,11 @@ pub enum Kind {
 }
 
 // A part of a form: its name, which a number does not show, and what it is.
-#[derive(Drop)]
+#[derive(Clone, Copy)]
 pub struct Part(pub [u8; NAME], pub Kind);
 
 // What the parts of a form hold: a number, of a list its count, and where a list's words start and end in lent words.
-#[derive(Drop)]
+#[derive(Clone, Copy)]
 pub struct Parts {
     pub numbers: [u64; PARTS],
     pub starts: [usize; PARTS],
@@ -43,7 +43,7 @@ pub struct Parts {
 }
 
 // The parts of a form, and how far the text is read.
-#[derive(Drop)]
+#[derive(Clone, Copy)]
 pub struct FormRead {
     pub parts: Parts,
     pub next: Cursor,

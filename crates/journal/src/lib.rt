@@ -1,4 +1,7 @@
 // The text form of calls: tokens, words, numbers, lists and commands.
+
+#![tactic(auto)]
+
 pub mod command;
 pub mod cursor;
 pub mod form;

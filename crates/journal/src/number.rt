@@ -4,7 +4,7 @@ ghost use Rattle.journal.specs.Number.{is_digit, digit_taken, number_in, is_minu
 ghost use Rattle.journal.specs.Number.{reading_in};
 
 // A token's reading: a number, of either sign as the word of 64 bits that holds it.
-#[derive(Drop)]
+#[derive(Clone, Copy)]
 pub enum Reading {
     Number(u64),
     Unreadable,

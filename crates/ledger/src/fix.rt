@@ -30,7 +30,7 @@ use series::table::{LAST_MONTH, WORDS};
 use supply::line::{LINE_WORDS, MOST_LINES, line_count};
 use supply::market::FixingNumbers;
 
-#[derive(Drop)]
+#[derive(Clone, Copy)]
 pub enum FixingAnswer {
     Accepted {
         limit: PesoPrice,
@@ -42,14 +42,14 @@ pub enum FixingAnswer {
 }
 
 // The answer, and the ledger handed back.
-#[derive(Drop)]
+#[derive(Clone, Copy)]
 pub struct FixingOutcome {
     pub answer: FixingAnswer,
     pub ledger: Ledger,
 }
 
 // The numbers of a fixing, and whether it is an interim one.
-#[derive(Drop)]
+#[derive(Clone, Copy)]
 struct Request {
     numbers: FixingNumbers,
     is_interim: bool,

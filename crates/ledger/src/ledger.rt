@@ -10,7 +10,7 @@ use numbers::refusal::{Refusal, Verdict};
 use numbers::sizes::MOST_DISTRIBUTORS;
 use numbers::units::Pesos;
 
-#[derive(Drop)]
+#[derive(Clone, Copy)]
 pub struct Ledger {
     // How many distributors: 1 to 40 in a sound ledger.
     pub n: usize,
@@ -31,7 +31,7 @@ pub struct Ledger {
 }
 
 // The verdict on a call, and the ledger handed back.
-#[derive(Drop)]
+#[derive(Clone, Copy)]
 pub struct Outcome {
     pub verdict: Verdict,
     pub ledger: Ledger,

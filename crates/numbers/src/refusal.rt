@@ -4,7 +4,7 @@ ghost use Rattle.std.specs.Prelude.{◌≡◌, []};
 ghost use Rattle.numbers.specs.Refusal.{refusal_answered, verdict_answered};
 
 // In the order of their numbers.
-#[derive(Drop)]
+#[derive(Clone, Copy)]
 pub enum Refusal {
     WrongCount,
     Unsound,
@@ -26,7 +26,7 @@ pub enum Refusal {
     ZeroReading,
 }
 
-#[derive(Drop)]
+#[derive(Clone, Copy)]
 pub enum Verdict {
     Passed,
     Refused(Refusal),

@@ -6,27 +6,27 @@ ghost use Rattle.numbers.specs.Units.{least_price, most_price, between, all_betw
 ghost use Rattle.numbers.specs.Units.{price_answered};
 
 // A peso price, in 0.001 $/kWh.
-#[derive(Drop)]
+#[derive(Clone, Copy)]
 pub struct PesoPrice(pub u64);
 
 // A power price, in 0.001 $/kW/month.
-#[derive(Drop)]
+#[derive(Clone, Copy)]
 pub struct PowerPrice(pub u64);
 
 // Projected energy, in MWh.
-#[derive(Drop)]
+#[derive(Clone, Copy)]
 pub struct Energy(pub u64);
 
 // Money, in whole $. A balance and an amount may be below zero.
-#[derive(Drop)]
+#[derive(Clone, Copy)]
 pub struct Pesos(pub i64);
 
 // Money that is never below zero, in whole $: what prices collect, the contract total, the residue.
-#[derive(Drop)]
+#[derive(Clone, Copy)]
 pub struct UnsignedPesos(pub u64);
 
 // What the checked constructor of a peso price answers.
-#[derive(Drop)]
+#[derive(Clone, Copy)]
 pub enum CheckedPrice {
     Within(PesoPrice),
     OutsideBounds,

@@ -1,7 +1,12 @@
 // Replays the journal on standard input: makes each call and prints each answer. docs/JOURNAL.md has the text form.
+
+#![tactic(auto)]
+
 use commands::input::journal_buffer;
 use commands::run::replay;
-use libc::STDIN_FILENO;
+
+// The file descriptor of standard input.
+const STDIN_FILENO: i32 = 0;
 
 fn main() {
     let mut text = journal_buffer();

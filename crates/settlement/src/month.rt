@@ -15,7 +15,7 @@ use numbers::units::Pesos;
 pub const MOST_POSITION: u64 = 1000000000000000;
 
 // A month's outcome: new balances and transfers, paid negative, received positive.
-#[derive(Drop)]
+#[derive(Clone, Copy)]
 pub struct SettledMonth {
     pub balances: [Pesos; MOST_DISTRIBUTORS],
     pub transfers: [Pesos; MOST_DISTRIBUTORS],

@@ -24,7 +24,7 @@ pub(crate) fn side_total(n: usize, sizes: &[u64; MOST_DISTRIBUTORS]) -> u64
 }
 
 // A side divided: each distributor's floor and remainder, and the pesos that the floors leave.
-#[derive(Drop)]
+#[derive(Clone, Copy)]
 pub(crate) struct DividedSide {
     pub(crate) floors: [u64; MOST_DISTRIBUTORS],
     pub(crate) remainders: [u64; MOST_DISTRIBUTORS],

@@ -16,7 +16,7 @@ use numbers::sizes::{DISTRIBUTOR_READINGS, MOST_DISTRIBUTORS};
 use numbers::units::is_between;
 
 // Where a sheet is read on, or what is wrong with it.
-#[derive(Drop)]
+#[derive(Clone, Copy)]
 enum Place {
     At(usize),
     Wrong(Refusal),

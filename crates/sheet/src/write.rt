@@ -17,7 +17,7 @@ use numbers::units::{all_between, is_between};
 const DISTRIBUTOR_BYTES: usize = 132;
 
 // What writing a sheet answers, and how many bytes of the buffer it used: none where it is refused.
-#[derive(Drop)]
+#[derive(Clone, Copy)]
 pub struct Written {
     pub verdict: Verdict,
     pub used: usize,

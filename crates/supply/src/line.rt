@@ -29,7 +29,7 @@ pub(crate) const WHOLE_WEIGHT: u64 = 10000;
 // The greatest power price in US$, of every step.
 pub(crate) const MOST_POWER_PRICE: u64 = 100000000;
 
-#[derive(Drop)]
+#[derive(Clone, Copy)]
 pub struct Term {
     pub series: u64,
     pub weight: u64,
@@ -38,7 +38,7 @@ pub struct Term {
     pub base_value: u64,
 }
 
-#[derive(Drop)]
+#[derive(Clone, Copy)]
 pub struct Line {
     pub distributor: u64,
     pub base_price: u64,

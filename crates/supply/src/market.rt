@@ -1,6 +1,6 @@
 // The numbers of a fixing beside its lists.
 
-#[derive(Drop)]
+#[derive(Clone, Copy)]
 pub struct FixingNumbers {
     // The month that is fixed.
     pub month: u64,

@@ -224,7 +224,7 @@ fn power_purchase(means: &[u64; MEANS], line: Line) -> u64
 }
 
 // The indexed prices and the power purchase prices of all lines.
-#[derive(Drop)]
+#[derive(Clone, Copy)]
 struct PriceWords {
     indexed: [u64; MOST_LINES],
     purchases: [u64; MOST_LINES],
@@ -274,7 +274,7 @@ fn power_prices(purchases: [u64; MOST_LINES], count: usize, dollar: u64) -> [Pow
 }
 
 // The references and the power prices of all lines, or why there are none.
-#[derive(Drop)]
+#[derive(Clone, Copy)]
 pub struct LinePrices {
     pub references: [PesoPrice; MOST_LINES],
     pub power: [PowerPrice; MOST_LINES],

@@ -12,7 +12,7 @@ use crate::write::write_byte;
 pub const ITEMS: usize = 6;
 
 // What an item shows of its name: nothing, the name as a word, or the name and a number.
-#[derive(Drop)]
+#[derive(Clone, Copy)]
 pub enum Shown {
     Nothing,
     Word,
@@ -20,7 +20,7 @@ pub enum Shown {
 }
 
 // An item of a line.
-#[derive(Drop)]
+#[derive(Clone, Copy)]
 pub struct Item(pub [u8; NAME], pub Shown);
 
 // Writes an item.

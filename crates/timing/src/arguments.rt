@@ -1,10 +1,13 @@
 // What the program is asked for by its arguments.
+ghost use Rattle.std.specs.Prelude.{◌≤◌, length};
+
 use check::same;
 use journal::cursor::{Cursor, next_number};
 use journal::form::MOST_WORD;
+use std::env::{Env, FillError};
 
 // Which load, which calls, and how often.
-#[derive(Drop)]
+#[derive(Clone, Copy)]
 pub(crate) struct Task {
     pub mixed: bool,
     pub fixings: bool,
@@ -12,7 +15,7 @@ pub(crate) struct Task {
     pub count: u64,
 }
 
-#[derive(Drop)]
+#[derive(Clone, Copy)]
 pub(crate) enum Arguments {
     Asked(Task),
     // A sheet of the load's readings, and how often.
@@ -50,16 +53,32 @@ fn task_of(load: &[u8], call: &[u8], count: &[u8]) -> Arguments {
     })
 }
 
+// The size of an argument in its buffer, or 0 where there is none or the buffer cannot hold it.
+fn argument_size(env: &impl Env, i: usize, buffer: &mut [u8]) -> usize
+    ensures { result ≤ length buffer.new }
+{
+    match env.arg(i, buffer) {
+        Ok(size) => size,
+        Err(_) => 0,
+    }
+}
+
+// Whether there is an argument at this place, however long.
+fn is_argument(env: &impl Env, i: usize) -> bool {
+    let mut buffer = [0u8; 1];
+    !matches!(env.arg(i, &mut buffer), Err(FillError::NotPresent))
+}
+
 // The arguments after the program's name. One that its buffer cannot hold is read as empty, and so is unusable.
-pub(crate) fn read_arguments() -> Arguments {
-    if os::arg_count() != 4 {
+pub(crate) fn read_arguments(env: &impl Env) -> Arguments {
+    if !is_argument(env, 3) | is_argument(env, 4) {
         return Arguments::Unusable;
     }
     let mut load = [0u8; 8];
     let mut call = [0u8; 8];
     let mut count = [0u8; 20];
-    let load_size = os::arg(1, &mut load);
-    let call_size = os::arg(2, &mut call);
-    let count_size = os::arg(3, &mut count);
+    let load_size = argument_size(env, 1, &mut load);
+    let call_size = argument_size(env, 2, &mut call);
+    let count_size = argument_size(env, 3, &mut count);
     task_of(&load[..load_size], &call[..call_size], &count[..count_size])
 }

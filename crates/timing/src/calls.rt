@@ -13,7 +13,7 @@ use numbers::sizes::MOST_DISTRIBUTORS;
 use supply::market::FixingNumbers;
 
 // How many calls were accepted, the last fixing and the ledger of the last settlement.
-#[derive(Drop)]
+#[derive(Clone, Copy)]
 pub(crate) struct Results {
     pub fixings: u64,
     pub settlements: u64,

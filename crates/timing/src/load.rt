@@ -29,7 +29,7 @@ const WORDS_OF_TERM: u64 = TERM_WORDS as u64;
 const POWER_PLACE: u64 = POWER_START as u64;
 
 // The lists that the calls are lent, and the fixing's numbers.
-#[derive(Drop)]
+#[derive(Clone, Copy)]
 pub(crate) struct Load {
     pub numbers: FixingNumbers,
     pub series: [u64; WORDS],
@@ -39,7 +39,7 @@ pub(crate) struct Load {
     pub losses: [u64; LOSSES],
 }
 
-#[derive(Drop)]
+#[derive(Clone, Copy)]
 enum List {
     Series,
     Lines,

@@ -1,5 +1,8 @@
 // The Rattle half of the benchmark (bench/README.md): `timing LOAD CALL COUNT` builds a load once, makes the calls
 // COUNT times and prints what bench/plain.rs prints for the same arguments, so that the two can be compared and timed.
+
+#![tactic(auto)]
+
 mod arguments;
 mod calls;
 mod load;
@@ -8,11 +11,13 @@ mod sheets;
 
 use arguments::{Arguments, Task, read_arguments};
 use calls::make_calls;
-use libc::STDERR_FILENO;
 use load::build_load;
 use numbers::sizes::MOST_DISTRIBUTORS;
 use report::{PRICES, print_results, print_sheet};
 use sheets::write_and_read;
+
+// The file descriptor of standard error.
+const STDERR_FILENO: i32 = 2;
 
 // A sheet of the load's readings, written and read.
 fn run_sheets(mixed: bool, count: u64) {
@@ -32,8 +37,8 @@ fn run_calls(task: Task) {
     print_results(results, prices, transfers);
 }
 
-fn main() {
-    let arguments = read_arguments();
+fn main(rt: HostRuntime) {
+    let arguments = read_arguments(&rt);
     match arguments {
         Arguments::Asked(task) => run_calls(task),
         Arguments::Sheet { mixed, count } => run_sheets(mixed, count),

@@ -3,11 +3,13 @@ use crate::calls::Results;
 use answers::answer::balance_words;
 use answers::line::values_line;
 use ledger::fix::FixingAnswer;
-use libc::STDOUT_FILENO;
 use numbers::sizes::MOST_DISTRIBUTORS;
 use numbers::units::Pesos;
 use text::line::{ITEMS, Item, Shown, write_line};
 use text::row::write_rows;
+
+// The file descriptor of standard output.
+const STDOUT_FILENO: i32 = 1;
 
 // Average, final price and charge of each distributor.
 pub(crate) const PRICES: usize = MOST_DISTRIBUTORS * 3;

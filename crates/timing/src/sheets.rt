@@ -13,7 +13,7 @@ const SHEET: usize = MOST_DISTRIBUTORS * 132;
 const WORD: u64 = 4294967296;
 
 // How many bytes the last sheet has, and the sum of the readings read back from it.
-#[derive(Drop)]
+#[derive(Clone, Copy)]
 pub(crate) struct ReadBack {
     pub used: usize,
     pub sum: u64,

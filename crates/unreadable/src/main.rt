@@ -1,8 +1,13 @@
 // Journals that cannot be read, one of each kind of error: what was read before the error stands as printed.
+
+#![tactic(auto)]
+
 ghost use Rattle.std.specs.Prelude.{◌≡◌, length};
 
 use commands::run::replay;
-use libc::STDOUT_FILENO;
+
+// The file descriptor of standard output.
+const STDOUT_FILENO: i32 = 1;
 
 // Replays a journal under a title.
 fn report(title: &[u8], text: &[u8]) {
