@@ -7,12 +7,11 @@ use mir.Facts.{to_z-of_z, to_z_pos}
 use mir.Val.{SFits, to_z, of_z}
 use mir.Syntax.{w64}
 use Rattle.numbers.proofs.SignedLaws.{sub_bits, sub_fits, within_both, within_low}
-use borrow.Author.Rules.{rules}
-use Rattle.numbers.proofs.signed.within_size.Statement.{statement}
-use Rattle.numbers.proofs.signed.within_size.Tie as tie
+use Rattle.numbers.proofs.signed.within_size.Goals as goal
+use Rattle.numbers.proofs.signed.within_size.Goals.{Start}
 
 -- the bits of the lower end
-module _ (c : tie.Start) where
+module _ (c : Start) where
   lower : pos 0 -ℤ to_z w64 c.args.bound ≡ sub_ℕ 0 c.args.bound
   lower = sub_bits 0 c.args.bound (omega arith) c.requires
 
@@ -23,24 +22,16 @@ module _ (c : tie.Start) where
       (sub_ℕ 0 c.args.bound) c.args.x
   test = ap₂ le_z (ap (λ z. to_z w64 (of_z w64 z)) lower ∙ to_z-of_z fits) (to_z-of_z c.ranges.x)
 
-sub-if1 : tie.Need-overflow-sub-if1
-sub-if1 c = rw (lower c) (fits c)
+pub overflow_sub-bound : goal.overflow_sub-bound
+overflow_sub-bound c = rw (lower c) (fits c)
 
-returns : tie.Need-returns
-returns c =
+pub returns-then-bound-x : goal.returns-then-bound-x
+returns-then-bound-x c =
     let s = c.before in
     ap₂ le_z (to_z-of_z s.ranges.x) (to_z_pos w64 s.requires)
-    ∙ within_both s.args.bound s.args.x (sym (test s) ∙ c.if1.true)
+    ∙ within_both s.args.bound s.args.x (sym (test s) ∙ c.if-bound-x.true)
 
-returns-2 : tie.Need-returns-2
-returns-2 c =
+pub returns-else-bound-x : goal.returns-else-bound-x
+returns-else-bound-x c =
     let s = c.before in
-    c.if1.false ∙ sym (within_low s.args.bound s.args.x (sym (test s) ∙ c.if1.false))
-
-pub within-size-spec : {M : Type 1} → statement M
-within-size-spec = tie.close (tie.spec
-    (λ c. search rules)
-    sub-if1
-    (λ c. search rules)
-    returns
-    returns-2)
+    c.if-bound-x.false ∙ sym (within_low s.args.bound s.args.x (sym (test s) ∙ c.if-bound-x.false))

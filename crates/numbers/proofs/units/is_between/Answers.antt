@@ -1,0 +1,8 @@
+-- The code is the definition.
+use mathlib.Core.Path.{refl}
+use Rattle.numbers.specs.Units.{between}
+use Rattle.numbers.proofs.units.is_between.Goals as goal
+
+pub returns : goal.returns
+unfolding between
+returns c = refl
