@@ -1,0 +1,28 @@
+-- The invariant: the readings and loss factors of each distributor passed are allowed.
+use mathlib.Core.Path.{ap₂}
+use mathlib.Core.Bool.{◌&&◌}
+use Prim.Native.Nat.{◌-◌}
+use native.Mathlib.Omega.{arith}
+use borrow.Author.Rules.{rules}
+use Rattle.numbers.proofs.BoolLaws.{told_true, told_false}
+use Rattle.numbers.proofs.TestLaws.{Tested, tested_none, tested_more, tested_fails, tested_all}
+use Rattle.settlement.specs.Amount.{readings_allowed, losses_allowed, billing_in_range}
+use Rattle.settlement.proofs.amount.billing_in_range.Goals as goal
+
+pub loop-i-init : goal.loop-i-init
+loop-i-init c = tested_none _ _
+
+pub returns-then-not-allowed : goal.returns-then-not-allowed
+unfolding billing_in_range
+returns-then-not-allowed c =
+    tested_fails c.loop-i.invariant (omega arith)
+    (told_false (ap₂ ◌&&◌ c.readings_allowed.ensures c.losses_allowed.ensures) c.if-not-allowed.true-raw)
+
+pub loop-i-preserved : goal.loop-i-preserved
+loop-i-preserved c =
+    tested_more c.loop-i.invariant (omega arith)
+    (told_true (ap₂ ◌&&◌ c.readings_allowed.ensures c.losses_allowed.ensures) c.if-not-allowed.false-raw)
+
+pub returns : goal.returns
+unfolding billing_in_range
+returns c = tested_all c.loop-i.invariant (omega arith)

@@ -1,0 +1,145 @@
+-- The machine's products and their sum fit, so they are those of the definition.
+use mathlib.Core.Path.{◌≡◌, ◌∙◌, ap, ap₂}
+use mathlib.Core.List.{[]}
+use Prim.Native.Nat.{ℕ, ◌*◌, ◌^◌, ◌≤◌, ◌<◌}
+use native.Mathlib.Omega.{arith}
+use native.Mathlib.Nat.{mul-le-mul}
+use lib.IntN.{ℤ, pos, sub_ℕ, nat_abs, ◌+ℤ◌, ◌*ℤ◌}
+use mir.Syntax.{w64}
+use mir.Val.{SFits, to_z, of_z}
+use mir.Facts.{to_z-of_z}
+use borrow.Author.Rules.{rules, sfits_of}
+use Rattle.numbers.specs.Rounding.{half_away}
+use Rattle.numbers.proofs.SignedLaws.{pos_sub_zero, is_fits, sum_bits, product_bits}
+use Rattle.settlement.specs.Amount.{reading_of, high_loss_of, low_loss_of, high_net, low_net, energy_with_losses}
+use Rattle.settlement.specs.Required.{BillingFacts}
+use Rattle.settlement.proofs.AmountLaws.{high_first, high_product, low_product, products_size}
+use Rattle.settlement.proofs.amount.energy_with_losses.Goals as goal
+use Rattle.settlement.proofs.amount.energy_with_losses.Goals.{After-difference, After-difference-2, After-loss-low_loss, Start}
+
+-- a value as it is read back from its bits
+abbrev back : ℤ → ℤ
+back z = to_z w64 (of_z w64 z)
+
+facts : (s : Start) → BillingFacts s.args.readings.now s.args.losses.now s.args.i
+facts s = s.requires.fact_1.facts s.args.i s.requires.fact_2
+
+-- a reading fits
+small : (s : Start) (k reading : ℕ) → k < 4 →
+    reading ≡ reading_of s.args.readings.now s.args.i s.args.s k → reading < 2 ^ 63
+small s k reading p e = omega (arith, (facts s).reading s.args.s k s.requires.fact_3 p)
+
+-- the loss factors
+module _ (c : After-loss-low_loss) where
+  highLoss : c.loss-high_loss.result ≡ high_loss_of c.args.losses.now c.args.i
+  highLoss = c.loss-high_loss.ensures ∙ high_first c.args.losses.now c.args.i
+
+  lowLoss : c.loss-low_loss.result ≡ low_loss_of c.args.losses.now c.args.i
+  lowLoss = c.loss-low_loss.ensures
+
+  most : (c.loss-high_loss.result ≤ 20000) × (c.loss-low_loss.result ≤ 20000)
+  most = omega (arith, highLoss, lowLoss, (facts (goal.at.overflow_mul-high_loss c).Start).high_most, (facts (goal.at.overflow_mul-high_loss c).Start).low_most)
+
+  both : c.loss-high_loss.result * c.loss-low_loss.result ≤ 20000 * 20000
+  both = mul-le-mul most.0 most.1
+
+-- the net at high voltage, carried up: in the code, and in the definition
+module _ (c : After-difference) where
+  abbrev highCode : ℤ
+  highCode = back c.difference-high.result *ℤ back c.difference.result
+
+  abbrev highPart : ℤ
+  highPart =
+      high_net c.args.readings.now c.args.i c.args.s *ℤ pos
+      (high_loss_of c.args.losses.now c.args.i * 10000)
+
+  high : highCode ≡ highPart
+  unfolding high_net
+  high =
+      product_bits _ _ _ _ (sfits_of c.difference-high.ok) (sfits_of c.difference.type_inv)
+      (c.difference-high.ensures ∙ ap₂ sub_ℕ c.reading.ensures c.reading-2.ensures)
+      (c.difference.ensures ∙ pos_sub_zero _ ∙ ap (λ x. pos (x * 10000)) (highLoss (goal.at.overflow_mul-carried c).After-loss-low_loss))
+
+  highFits : SFits w64 highCode
+  highFits =
+      is_fits highCode highPart high (omega (arith, high_product [] _ _ _ (facts (goal.at.overflow_mul-carried c).Start) c.args.s c.requires.fact_3))
+
+-- the net at low voltage, carried up, and the two added up
+module _ (c : After-difference-2) where
+  abbrev lowCode : ℤ
+  lowCode = back c.difference-low.result *ℤ back c.difference-2.result
+
+  abbrev lowPart : ℤ
+  lowPart =
+      low_net c.args.readings.now c.args.i c.args.s *ℤ pos
+      (high_loss_of c.args.losses.now c.args.i * low_loss_of c.args.losses.now c.args.i)
+
+  low : lowCode ≡ lowPart
+  unfolding low_net
+  low =
+      product_bits _ _ _ _ (sfits_of c.difference-low.ok) (sfits_of c.difference-2.type_inv)
+      (c.difference-low.ensures ∙ ap₂ sub_ℕ c.reading-3.ensures c.reading-4.ensures)
+      (c.difference-2.ensures ∙ pos_sub_zero _ ∙ ap₂ (λ x y. pos (x * y)) (highLoss (goal.at.overflow_mul-carried-2 c).After-loss-low_loss)
+      (lowLoss (goal.at.overflow_mul-carried-2 c).After-loss-low_loss))
+
+  lowFits : SFits w64 lowCode
+  lowFits =
+      is_fits lowCode lowPart low (omega (arith, low_product [] _ _ _ (facts (goal.at.overflow_mul-carried-2 c).Start) c.args.s c.requires.fact_3))
+
+  abbrev sumCode : ℤ
+  sumCode = back (highCode (goal.at.overflow_mul-carried-2 c).After-difference) +ℤ back lowCode
+
+  sum : sumCode ≡ highPart (goal.at.overflow_mul-carried-2 c).After-difference +ℤ lowPart
+  sum = sum_bits (highCode (goal.at.overflow_mul-carried-2 c).After-difference) lowCode _ _ (highFits (goal.at.overflow_mul-carried-2 c).After-difference) lowFits (high (goal.at.overflow_mul-carried-2 c).After-difference) low
+
+  size : nat_abs (highPart (goal.at.overflow_mul-carried-2 c).After-difference +ℤ lowPart) ≤ 1200000000000000000
+  size = products_size [] _ _ _ (facts (goal.at.overflow_mul-carried-2 c).Start) c.args.s c.requires.fact_3
+
+  fits : SFits w64 sumCode
+  fits = is_fits sumCode (highPart (goal.at.overflow_mul-carried-2 c).After-difference +ℤ lowPart) sum (omega (arith, size))
+
+  carried : back sumCode ≡ highPart (goal.at.overflow_mul-carried-2 c).After-difference +ℤ lowPart
+  carried = to_z-of_z fits ∙ sum
+
+pub difference-high-requires : goal.difference-high-requires
+difference-high-requires c =
+    record {
+      fact_1 = small s 0 _ (omega arith) c.reading.ensures;
+      fact_2 = small s 1 _ (omega arith) c.reading-2.ensures;
+    }
+
+pub difference-low-requires : goal.difference-low-requires
+difference-low-requires c =
+    record {
+      fact_1 = small s 2 _ (omega arith) c.reading-3.ensures;
+      fact_2 = small s 3 _ (omega arith) c.reading-4.ensures;
+    }
+
+pub overflow_mul-high_loss : goal.overflow_mul-high_loss
+overflow_mul-high_loss c = omega (arith, most c)
+
+pub difference-requires : goal.difference-requires
+difference-requires c = omega (arith, most c)
+
+pub overflow_mul-carried : goal.overflow_mul-carried
+overflow_mul-carried c = highFits c
+
+pub overflow_mul-high_loss-2 : goal.overflow_mul-high_loss-2
+overflow_mul-high_loss-2 c = omega (arith, both (goal.at.overflow_mul-high_loss-2 c).After-loss-low_loss)
+
+pub difference-requires-2 : goal.difference-requires-2
+difference-requires-2 c = omega (arith, both (goal.at.difference-requires-2 c).After-loss-low_loss)
+
+pub overflow_mul-carried-2 : goal.overflow_mul-carried-2
+overflow_mul-carried-2 c = lowFits c
+
+pub overflow_add-carried : goal.overflow_add-carried
+overflow_add-carried c = fits c
+
+pub half_away-requires : goal.half_away-requires
+half_away-requires c = omega (arith, ap nat_abs (carried c), size c)
+
+pub returns : goal.returns
+unfolding energy_with_losses
+returns c =
+    to_z-of_z {w = w64} (sfits_of c.half_away.type_inv) ∙ c.half_away.ensures ∙ ap (λ z. half_away z 100000000) (carried (goal.at.returns c).After-difference-2)

@@ -1,0 +1,17 @@
+-- The two tests are the definition's.
+use mathlib.Core.Path.{◌∙◌, ap, ap₂}
+use mathlib.Core.Bool.{◌&&◌}
+use borrow.Author.Rules.{rules}
+use Rattle.numbers.specs.Units.{between}
+use Rattle.settlement.specs.Amount.{losses_allowed}
+use Rattle.settlement.proofs.AmountLaws.{high_first}
+use Rattle.settlement.proofs.amount.losses_allowed.Goals as goal
+
+pub returns : goal.returns
+unfolding losses_allowed
+returns c =
+    let a = c.args in
+    ap₂ ◌&&◌
+    (c.is_between.ensures ∙ ap (between 10000 20000)
+    (c.loss.ensures ∙ high_first a.losses.now a.i))
+    (c.is_between-2.ensures ∙ ap (between 10000 20000) c.loss-2.ensures)

@@ -1,0 +1,14 @@
+-- The invariant: the readings of each sector passed are allowed.
+use Prim.Native.Nat.{◌-◌}
+use native.Mathlib.Omega.{arith}
+use borrow.Author.Rules.{rules}
+use Rattle.numbers.proofs.BoolLaws.{told_true, told_false}
+use Rattle.numbers.proofs.TestLaws.{Tested, tested_none, tested_more, tested_fails, tested_all}
+use Rattle.settlement.specs.Amount.{sector_allowed, readings_allowed}
+use Rattle.settlement.proofs.amount.readings_allowed.Given as goal
+
+abbrev pub invariant-loop-s : goal.invariant-loop-s
+invariant-loop-s l = Tested 8 (sector_allowed l.present l.readings l.i) l.s
+
+abbrev pub decreases-loop-s : goal.decreases-loop-s
+decreases-loop-s l = 8 - l.s

@@ -1,0 +1,32 @@
+-- The invariant: no position passed is beyond its limit.
+use Prim.Native.Nat.{◌-◌}
+use native.Mathlib.Omega.{arith}
+use mir.Facts.{to_z-of_z}
+use borrow.Author.Rules.{rules, sfits_of}
+use Rattle.numbers.specs.Signed.{within_size}
+use Rattle.numbers.proofs.BoolLaws.{told_true, told_false}
+use Rattle.numbers.proofs.TestLaws.{Tested, tested_none, tested_more, tested_fails, tested_all}
+use Rattle.settlement.specs.Settlement.{most_position, positions_in_range}
+use Rattle.settlement.specs.Month.{money_at}
+use mir.Syntax.{w64}
+use Rattle.settlement.proofs.month.positions_in_range.Goals as goal
+
+pub loop-i-init : goal.loop-i-init
+loop-i-init c = tested_none _ _
+
+pub returns-then-not-within_size : goal.returns-then-not-within_size
+unfolding positions_in_range
+returns-then-not-within_size c =
+    tested_fails c.loop-i.invariant (omega arith)
+    (told_false (rw (to_z-of_z {w = w64} (sfits_of c.struct_told-1.given.0.1)) at
+    c.within_size.ensures) c.if-not-within_size.true-raw)
+
+pub loop-i-preserved : goal.loop-i-preserved
+loop-i-preserved c =
+    tested_more c.loop-i.invariant (omega arith)
+    (told_true (rw (to_z-of_z {w = w64} (sfits_of c.struct_told-1.given.0.1)) at
+    c.within_size.ensures) c.if-not-within_size.false-raw)
+
+pub returns : goal.returns
+unfolding positions_in_range
+returns c = tested_all c.loop-i.invariant (omega arith)

@@ -1,0 +1,92 @@
+-- The smaller total is what the definition transfers, and the month moved by both sides' shares is the month settled.
+use mathlib.Core.Path.{◌≡◌, ◌∙◌, ap₂}
+use mathlib.Core.Bool.{true, false}
+use mathlib.Core.Logic.{⊎_elim}
+use Prim.Native.Nat.{ℕ, ◌≤◌}
+use native.Mathlib.Omega.{arith}
+use lib.IntN.{ℤ}
+use Rattle.settlement.specs.Share.{side_total}
+use Rattle.settlement.specs.Settlement.{owing, owed, side_size, transferred}
+use Rattle.settlement.specs.Month.{money_at, share_list, moved_month}
+use Rattle.settlement.specs.Required.{Side}
+use Rattle.settlement.proofs.MonthLaws.{sizes_total, sizes_within, shares_within, moved_settled}
+use borrow.Author.Rules.{rules}
+use Rattle.settlement.proofs.month.settle_positions.Goals as goal
+use Rattle.settlement.proofs.month.settle_positions.Goals.{After-side_sizes-owed, Joined-owing_total-owed_total}
+
+-- the two sides
+module _ (c : After-side_sizes-owed) where
+  owingSide : Side c.args.n c.side_sizes-owing.result
+  owingSide = sizes_within c.args.n c.args.positions c.requires false _ c.side_sizes-owing.ensures
+
+  owedSide : Side c.args.n c.side_sizes-owed.result
+  owedSide = sizes_within c.args.n c.args.positions c.requires true _ c.side_sizes-owed.ensures
+
+-- their totals, and the smaller one
+module _ (c : Joined-owing_total-owed_total) where
+  abbrev n : ℕ
+  n = c.args.n
+
+  abbrev position : ℕ → ℤ
+  position = money_at c.args.positions
+
+  least : (c.if-owing_total-owed_total.transferred ≤ c.side_total-owing_total.result) × (c.if-owing_total-owed_total.transferred ≤ c.side_total-owed_total.result)
+  least = ⊎_elim (λ w. omega arith) (λ w. omega arith) c.if-owing_total-owed_total.branch
+
+  owingTotal : c.side_total-owing_total.result ≡ side_total n (owing position)
+  unfolding side_size
+  owingTotal =
+      sizes_total n c.requires.few (side_size false position) _ _ c.side_sizes-owing.ensures
+      c.side_total-owing_total.ensures
+
+  owedTotal : c.side_total-owed_total.result ≡ side_total n (owed position)
+  unfolding side_size
+  owedTotal =
+      sizes_total n c.requires.few (side_size true position) _ _ c.side_sizes-owed.ensures c.side_total-owed_total.ensures
+
+  smaller : c.if-owing_total-owed_total.transferred ≡ transferred n position
+  unfolding transferred
+  smaller =
+      ⊎_elim (λ w. omega (arith, owingTotal, owedTotal)) (λ w. omega (arith, owingTotal, owedTotal)) c.if-owing_total-owed_total.branch
+
+pub side_total-owing_total-requires : goal.side_total-owing_total-requires
+side_total-owing_total-requires c = owingSide (goal.at.side_total-owing_total-requires c).After-side_sizes-owed
+
+pub side_total-owed_total-requires : goal.side_total-owed_total-requires
+side_total-owed_total-requires c = owedSide (goal.at.side_total-owed_total-requires c).After-side_sizes-owed
+
+pub shares-paid-requires : goal.shares-paid-requires
+shares-paid-requires c =
+    record {
+      fact_1 = owingSide (goal.at.shares-paid-requires c).After-side_sizes-owed;
+      fact_2 = c.side_total-owing_total.ensures;
+      fact_3 = (least (goal.at.shares-paid-requires c).Joined-owing_total-owed_total).0;
+    }
+
+pub shares-received-requires : goal.shares-received-requires
+shares-received-requires c =
+    record {
+      fact_1 = owedSide (goal.at.shares-received-requires c).After-side_sizes-owed;
+      fact_2 = c.side_total-owed_total.ensures;
+      fact_3 = (least (goal.at.shares-received-requires c).Joined-owing_total-owed_total).1;
+    }
+
+pub moved-requires : goal.moved-requires
+moved-requires c =
+    record {
+      fact_1 = c.requires;
+      fact_2 = shares_within (n (goal.at.moved-requires c).Joined-owing_total-owed_total) _ _ (owingSide (goal.at.moved-requires c).After-side_sizes-owed) (omega (arith, c.side_total-owing_total.ensures, least (goal.at.moved-requires c).Joined-owing_total-owed_total)) _
+            c.shares-paid.ensures;
+      fact_3 = shares_within (n (goal.at.moved-requires c).Joined-owing_total-owed_total) _ _ (owedSide (goal.at.moved-requires c).After-side_sizes-owed) (omega (arith, c.side_total-owed_total.ensures, least (goal.at.moved-requires c).Joined-owing_total-owed_total)) _
+            c.shares-received.ensures;
+    }
+
+pub returns : goal.returns
+returns c =
+    let e : c.moved.result ≡ moved_month (n (goal.at.returns c).Joined-owing_total-owed_total) c.args.positions c.shares-paid.result
+    c.shares-received.result = c.moved.ensures in
+    e
+    ∙ ap₂ (moved_month (n (goal.at.returns c).Joined-owing_total-owed_total) c.args.positions)
+    (c.shares-paid.ensures ∙ ap₂ (share_list (n (goal.at.returns c).Joined-owing_total-owed_total)) c.side_sizes-owing.ensures (smaller (goal.at.returns c).Joined-owing_total-owed_total))
+    (c.shares-received.ensures ∙ ap₂ (share_list (n (goal.at.returns c).Joined-owing_total-owed_total)) c.side_sizes-owed.ensures (smaller (goal.at.returns c).Joined-owing_total-owed_total))
+    ∙ moved_settled (n (goal.at.returns c).Joined-owing_total-owed_total) c.args.positions c.requires

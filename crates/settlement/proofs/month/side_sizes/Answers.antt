@@ -1,0 +1,64 @@
+-- The invariant: the sizes of those passed are written, 0 for those of the other side.
+use mathlib.Core.Path.{◌≡◌, sym, ◌∙◌, ap}
+use mathlib.Core.Bool.{beq}
+use mathlib.Core.Logic.{⊎_elim}
+use Prim.Native.Nat.{ℕ, ◌≤◌, ◌-◌}
+use lib.IntN.{ℤ, nat_abs}
+use mir.Syntax.{w64}
+use mir.Val.{to_z, of_z}
+use mir.Facts.{to_z-of_z}
+use Rattle.numbers.specs.Sizes.{most_distributors}
+use Rattle.numbers.specs.Signed.{is_negative}
+use Rattle.numbers.proofs.ListLaws.{filled_none, filled_next, filled_skip}
+use Rattle.settlement.specs.Settlement.{owing, owed, side_size}
+use Rattle.settlement.specs.Month.{money_at, sizes_below}
+use Rattle.numbers.proofs.SignedLaws.{part_size, part_none}
+use native.Mathlib.Omega.{arith}
+use borrow.Author.Rules.{rules, sfits_of}
+use Rattle.settlement.proofs.month.side_sizes.Goals as goal
+use Rattle.settlement.proofs.month.side_sizes.Goals.{After-is_negative}
+
+-- the position at hand, and what the test says of it
+module _ (c : After-is_negative) where
+  abbrev size : ℕ → ℕ
+  size = side_size c.args.negative (money_at c.args.positions)
+
+  abbrev position : ℤ
+  position = money_at c.args.positions c.loop-i.i
+
+  unread : to_z w64 (of_z w64 position) ≡ position
+  unread = to_z-of_z {w = w64} (sfits_of c.struct_told-1.given.0.1)
+
+  tested : beq (is_negative position) c.args.negative ≡ beq c.is_negative.result c.args.negative
+  tested = ap (λ x. beq x c.args.negative) (sym (c.is_negative.ensures ∙ ap is_negative (unread)))
+
+pub loop-i-init : goal.loop-i-init
+unfolding sizes_below
+loop-i-init c = (omega arith, filled_none most_distributors 0 _)
+
+pub magnitude-requires : goal.magnitude-requires
+magnitude-requires c =
+    rw (to_z-of_z {w = w64} (sfits_of c.struct_told-then-is_negative-negative-1.given.0.1))
+    (omega (arith, c.requires.within c.loop-i.i (omega arith)))
+
+pub loop-i-preserved : goal.loop-i-preserved
+unfolding sizes_below side_size owing owed
+loop-i-preserved c =
+    (
+      omega arith,
+      ⊎_elim
+          (λ w.
+          w.3
+          ∙ filled_next most_distributors 0 c.loop-i.i (size (goal.at.loop-i-preserved c).After-is_negative) c.loop-i.sizes _ (omega arith) c.loop-i.invariant.1
+          (w.2.ensures ∙ ap nat_abs (unread (goal.at.loop-i-preserved c).After-is_negative) ∙ part_size c.args.negative (position (goal.at.loop-i-preserved c).After-is_negative) (tested (goal.at.loop-i-preserved c).After-is_negative ∙ w.0.taken)))
+          (λ w.
+          w.1 ∙ c.loop-i.invariant.1
+          ∙ filled_skip most_distributors 0 c.loop-i.i (size (goal.at.loop-i-preserved c).After-is_negative)
+          (part_none c.args.negative (position (goal.at.loop-i-preserved c).After-is_negative) (tested (goal.at.loop-i-preserved c).After-is_negative ∙ w.0.left)))
+          c.if-is_negative-negative.branch,
+    )
+
+pub returns : goal.returns
+returns c =
+    let e : c.loop-i.i ≡ c.args.n = omega arith in
+    rw e at c.loop-i.invariant.1

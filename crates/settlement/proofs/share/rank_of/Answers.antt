@@ -1,0 +1,49 @@
+-- The invariant: rank is the number of those passed who come before i.
+use mathlib.Core.Path.{◌≡◌, ◌∙◌, ap}
+use mathlib.Core.Bool.{Bool, cond}
+use mathlib.Core.Logic.{⊎_elim}
+use Prim.Native.Nat.{ℕ, ◌-◌, ◌+◌, ◌≤◌}
+use lib.ListN.{get_or}
+use Rattle.numbers.proofs.SumLaws.{Summed, summed_none, summed_more, summed_all, sum_le}
+use Rattle.settlement.specs.Share.{comes_before, rank}
+use Rattle.settlement.proofs.RankLaws.{one_most}
+use native.Mathlib.Omega.{arith}
+use Rattle.settlement.proofs.share.rank_of.Goals as goal
+use Rattle.settlement.proofs.share.rank_of.Invariants.{counted}
+use Rattle.settlement.proofs.share.rank_of.Goals.{After-other-1}
+
+
+pub loop-j-init : goal.loop-j-init
+loop-j-init c = summed_none _ _
+
+-- a turn: i's own remainder was read before, and at most one comes to the rank
+module _ (c : After-other-1) where
+  abbrev one : ℕ → ℕ
+  one = counted (λ k. get_or c.args.remainders.now k 0) c.args.i
+
+  few : c.loop-j.rank ≤ c.loop-j.j
+  few =
+      omega (
+        arith,
+        c.loop-j.invariant.sum,
+        sum_le c.loop-j.j 1 one
+            (λ k p. one_most (comes_before (λ m. get_or c.args.remainders.now m 0) k c.args.i)),
+      )
+
+pub overflow_add-rank : goal.overflow_add-rank
+overflow_add-rank c = omega (arith, few (goal.at.overflow_add-rank c).After-other-1, c.loop-j.invariant.most, c.requires.fact_1)
+
+pub loop-j-preserved : goal.loop-j-preserved
+unfolding comes_before
+loop-j-preserved c =
+    let more = summed_more c.loop-j.invariant (omega arith) in
+    let counts : Bool → ℕ = λ b. c.loop-j.rank + cond b 1 0 in
+    let grown : c.if-own-other.rank ≡ c.loop-j.rank + one (goal.at.loop-j-preserved c).After-other-1 c.loop-j.j = ⊎_elim
+    (λ w. omega (arith, w.1, ap counts w.0.taken))
+    (λ w. omega (arith, w.1, ap counts w.0.left))
+    c.if-own-other.branch in
+    record { most = more.most; sum = grown ∙ more.sum }
+
+pub returns : goal.returns
+unfolding rank
+returns c = summed_all c.loop-j.invariant (omega arith)

@@ -1,0 +1,21 @@
+-- The invariant: rank is the number of those passed who come before i.
+use mathlib.Core.Path.{◌≡◌, ◌∙◌, ap}
+use mathlib.Core.Bool.{Bool, cond}
+use mathlib.Core.Logic.{⊎_elim}
+use Prim.Native.Nat.{ℕ, ◌-◌, ◌+◌, ◌≤◌}
+use lib.ListN.{get_or}
+use Rattle.numbers.proofs.SumLaws.{Summed, summed_none, summed_more, summed_all, sum_le}
+use Rattle.settlement.specs.Share.{comes_before, rank}
+use Rattle.settlement.proofs.RankLaws.{one_most}
+use native.Mathlib.Omega.{arith}
+use Rattle.settlement.proofs.share.rank_of.Given as goal
+
+-- 1 for each that comes before i
+abbrev pub counted : (ℕ → ℕ) → ℕ → ℕ → ℕ
+counted remainder i j = cond (comes_before remainder j i) 1 0
+
+abbrev pub invariant-loop-j : goal.invariant-loop-j
+invariant-loop-j l = Summed l.n (counted (λ k. get_or l.remainders k 0) l.i) l.rank l.j
+
+abbrev pub decreases-loop-j : goal.decreases-loop-j
+decreases-loop-j l = l.n - l.j

@@ -1,0 +1,9 @@
+-- The code is the definition.
+use mathlib.Core.Path.{refl}
+use borrow.Author.Rules.{rules}
+use Rattle.sheet.specs.Write.{write_lengths}
+use Rattle.sheet.proofs.write.lengths_right.Goals as goal
+
+pub returns : goal.returns
+unfolding write_lengths
+returns c = refl

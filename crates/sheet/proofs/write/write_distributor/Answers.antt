@@ -1,0 +1,97 @@
+-- The map is written first, and the readings after it.
+use mathlib.Core.Path.{◌≡◌, refl, ◌∙◌, ap}
+use mathlib.Core.List.{List, ◌++◌}
+use Prim.Native.Nat.{ℕ, ◌-◌, ◌≤◌}
+use native.Mathlib.Omega.{arith}
+use lib.ListN.{length, drop, length-append}
+use borrow.Author.Rules.{rules}
+use borrow.Rule.Slice.PartMut.{mid_len, put_mid}
+use Rattle.numbers.specs.Sizes.{distributor_readings}
+use Rattle.sheet.specs.Number.{number_size, number_bytes}
+use Rattle.sheet.specs.Sheet.{bit_map, present_bytes, distributor_bytes}
+use Rattle.sheet.specs.Write.{written_first}
+use Rattle.sheet.proofs.FrontLaws.{front_long, front_onto}
+use Rattle.sheet.proofs.NumberLaws.{number_size_lem}
+use Rattle.sheet.proofs.WriteLaws.{before_most, distributor_most}
+use Rattle.sheet.proofs.write.write_distributor.Goals as goal
+use Rattle.sheet.proofs.write.write_distributor.Goals.{After-write_number, After-write_present}
+
+-- the bytes after the map
+module _ (w : After-write_number) where
+  abbrev map : List ℕ
+  map = number_bytes (bit_map w.args.readings.now)
+
+  front : w.write_number.new.into ≡ map ++ drop (length map) w.args.into.now
+  unfolding number_bytes
+  front =
+      w.write_number.ensures
+      ∙ ap (λ number. number_bytes number ++ drop number_size w.args.into.now) w.bit_map.ensures
+
+  long : length w.write_number.new.into ≡ length w.args.into.now
+  long =
+      front_long map w.args.into.now front
+      (omega (arith, number_size_lem (bit_map w.args.readings.now), w.requires.fact_2))
+
+  room : 132 ≤ length w.write_number.new.into
+  room = omega (arith, long, w.requires.fact_2)
+
+pub write_present-requires : goal.write_present-requires
+write_present-requires c =
+    record {
+      fact_1 = c.requires.fact_1;
+      fact_2 = omega (
+        arith,
+        room (goal.at.write_present-requires c).After-write_number,
+        mid_len number_size (length c.write_number.new.into) c.write_number.new.into (omega arith),
+      );
+    }
+
+-- and after the readings
+module _ (p : After-write_present) where
+  abbrev now : List ℕ
+  now = p.write_number.new.into
+
+  abbrev readings : List ℕ
+  readings = p.args.readings.now
+
+  whole : put_mid 4 (length now - 4) now p.write_present.new.into
+      ≡ (map p.before.before.before.before.before ++ present_bytes readings) ++ drop (length (map p.before.before.before.before.before ++ present_bytes readings)) p.args.into.now
+  unfolding written_first
+  whole =
+      ap (put_mid 4 (length now - 4) now) p.write_present.ensures.listed
+      ∙ front_onto (map p.before.before.before.before.before) p.args.into.now (front p.before.before.before.before.before) (present_bytes readings) 4 (length now - 4)
+      (omega (arith, number_size_lem (bit_map readings))) refl
+
+pub overflow_add-result : goal.overflow_add-result
+overflow_add-result c =
+    omega (arith, c.write_present.ensures.sized, before_most (readings (goal.at.overflow_add-result c).After-write_present) distributor_readings)
+
+pub shape_of-into : goal.shape_of-into
+unfolding distributor_bytes
+shape_of-into c =
+    ap length (whole (goal.at.shape_of-into c).After-write_present)
+    ∙ front_long (map (goal.at.shape_of-into c).After-write_number ++ present_bytes (readings (goal.at.shape_of-into c).After-write_present)) c.args.into.now refl
+    (omega (arith, distributor_most (readings (goal.at.shape_of-into c).After-write_present), c.requires.fact_2))
+
+pub returns : goal.returns
+unfolding distributor_bytes written_first
+returns c =
+    record {
+      sized =
+          omega (
+            arith,
+            c.write_present.ensures.sized,
+            number_size_lem (bit_map (readings (goal.at.returns c).After-write_present)),
+            length-append (map (goal.at.returns c).After-write_number) (present_bytes (readings (goal.at.returns c).After-write_present)),
+          );
+      listed = whole (goal.at.returns c).After-write_present;
+    }
+
+pub slice_bounds-write_present-count : goal.slice_bounds-write_present-count
+slice_bounds-write_present-count c = omega (arith, room (goal.at.slice_bounds-write_present-count c).After-write_number)
+
+pub slice_bounds-write_present-start : goal.slice_bounds-write_present-start
+slice_bounds-write_present-start c = omega (arith, room (goal.at.slice_bounds-write_present-start c).After-write_number)
+
+pub slice_bounds-write_present-end : goal.slice_bounds-write_present-end
+slice_bounds-write_present-end c = omega (arith, room (goal.at.slice_bounds-write_present-end c).After-write_number)
