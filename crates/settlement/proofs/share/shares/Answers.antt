@@ -63,7 +63,7 @@ module _ (r : After-rank_of) where
   floor : get_or r.divide_side-divided.result.floors i 0 ≡ share_floor n size r.args.transferred i
   unfolding divided_side
   floor =
-      ap (λ (p : DividedSide). get_or p.floors-1 i 0) r.divide_side-divided.ensures
+      ap (λ (p : DividedSide). get_or p.floors i 0) r.divide_side-divided.ensures
       ∙ filled_at most_distributors 0 (share_floor n size r.args.transferred) n i (omega arith) inside
 
   ranked : r.rank_of.result ≡ rank n remainder i
@@ -72,7 +72,7 @@ module _ (r : After-rank_of) where
       r.rank_of.ensures
       ∙ rank_same n (λ j. get_or r.divide_side-divided.result.remainders j 0) remainder
       (λ j p.
-      ap (λ (p : DividedSide). get_or p.remainders-1 j 0) r.divide_side-divided.ensures
+      ap (λ (p : DividedSide). get_or p.remainders j 0) r.divide_side-divided.ensures
       ∙ filled_at most_distributors 0 remainder n j p (omega (arith, r.requires.fact_1.few)))
       i (omega arith)
 

@@ -1,0 +1,17 @@
+-- The invariant: the token's command is among the rows from k on.
+use mathlib.Core.Path.{◌≡◌, refl, sym, ◌∙◌}
+use Prim.Native.Nat.{◌≤◌, ◌-◌}
+use native.Mathlib.Omega.{arith}
+use lib.ListN.{drop}
+use Rattle.journal.specs.Command.{command_rows, command_among}
+use Rattle.journal.proofs.CommandLaws.{among_here, among_on, among_none}
+use borrow.Author.Rules.{rules}
+use Rattle.journal.proofs.command.command_in.Given as goal
+
+abbrev pub invariant-loop-k : goal.invariant-loop-k
+invariant-loop-k l =
+    (l.k ≤ 9) × (l.rows ≡ command_rows) ×
+    (command_among l.text l.token (drop l.k command_rows) ≡ command_among l.text l.token command_rows)
+
+abbrev pub decreases-loop-k : goal.decreases-loop-k
+decreases-loop-k l = 9 - l.k

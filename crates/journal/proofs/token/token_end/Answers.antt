@@ -1,0 +1,33 @@
+-- The invariant: the end sought from here is the token's.
+use mathlib.Core.Path.{◌≡◌, refl, sym, ◌∙◌}
+use Prim.Native.Nat.{◌≤◌, ◌-◌}
+use native.Mathlib.Omega.{arith}
+use lib.ListN.{length}
+use borrow.Author.Rules.{rules}
+use Rattle.journal.specs.Token.{end_from, token_end}
+use Rattle.journal.proofs.TokenLaws.{end_here, end_on}
+use Rattle.journal.proofs.token.token_end.Goals as goal
+
+pub loop-k-init : goal.loop-k-init
+unfolding token_end
+loop-k-init c = (omega arith, refl)
+
+pub returns-then-ends_token : goal.returns-then-ends_token
+returns-then-ends_token c =
+    sym (end_here c.args.text.now c.loop-k.k (length c.args.text.now - c.loop-k.k)
+    (sym c.ends_token.ensures ∙ c.if-ends_token.true)) ∙ c.loop-k.invariant.1
+
+pub loop-k-preserved : goal.loop-k-preserved
+loop-k-preserved c =
+    (
+      omega arith,
+      sym (end_on c.args.text.now c.loop-k.k (omega arith) (sym c.ends_token.ensures ∙ c.if-ends_token.false))
+          ∙ c.loop-k.invariant.1,
+    )
+
+pub returns : goal.returns
+unfolding end_from
+returns c =
+    let text = c.args.text.now in
+    let e : length text - c.loop-k.k ≡ 0 = omega arith in
+    rw e at c.loop-k.invariant.1

@@ -1,0 +1,36 @@
+-- The place of a checked term is one of the list's.
+use mathlib.Core.Path.{ap}
+use Prim.Native.Nat.{◌<◌}
+use lib.ListN.{get_or}
+use Rattle.series.specs.Means.{mean_count, mean_at}
+use Rattle.series.proofs.SeriesLaws.{window_size}
+use Rattle.series.proofs.MeanLaws.{place_below}
+use Rattle.supply.specs.Listed.{listed_mean}
+use native.Mathlib.Omega.{arith}
+use Rattle.supply.proofs.months.term_mean.Goals as goal
+use Rattle.supply.proofs.months.term_mean.Goals.{After-mean_place-place}
+
+placed : (c : After-mean_place-place) → c.mean_place-place.result < mean_count
+placed c =
+    let f = c.requires in
+    rw c.mean_place-place.ensures (place_below _ _ _ f.series f.lag f.lag_most f.window)
+
+pub mean_place-place-requires : goal.mean_place-place-requires
+mean_place-place-requires c =
+    let f = c.requires in
+    record {
+      fact_1 = f.series;
+      fact_2 = f.lag;
+      fact_3 = f.lag_most;
+      fact_4 = (window_size _ f.window).1;
+    }
+
+pub offset_bounds-means-place : goal.offset_bounds-means-place
+offset_bounds-means-place c = omega (arith, placed c)
+
+pub bounds-means-place : goal.bounds-means-place
+bounds-means-place c = placed (goal.at.bounds-means-place c).After-mean_place-place
+
+pub returns : goal.returns
+unfolding listed_mean mean_at
+returns c = ap (λ p. get_or c.args.means.now p 0) c.mean_place-place.ensures

@@ -1,0 +1,58 @@
+-- What is found and priced from the list of means is what the table says.
+use mathlib.Core.Path.{◌≡◌, sym, ◌∙◌, ap}
+use mathlib.Core.List.{[], ◌∷◌}
+use borrow.Author.Rules.{rules}
+use Rattle.numbers.specs.Checks.{verdict_of}
+use Rattle.series.proofs.MeanLaws.{means_within}
+use Rattle.supply.specs.Listed.{listed_mean, listed_lacks}
+use Rattle.supply.specs.Months.{lacks_month, month_check}
+use Rattle.supply.specs.Price.{bounded_prices}
+use Rattle.supply.proofs.ListedLaws.{check_listed, prices_listed}
+use Rattle.supply.proofs.LinePriceLaws.{prices_promised, months_refused, months_present, months_priced}
+use Rattle.supply.proofs.price.price_lines.Goals as goal
+use Rattle.supply.proofs.price.price_lines.Goals.{After-search_months}
+
+-- the search is that of the table
+module _ (m : After-search_months) where
+  searched : m.search_months.result ≡ verdict_of
+      (month_check (lacks_month m.args.table m.args.numbers) m.args.lines.now ∷ [])
+  searched =
+      m.search_months.ensures
+      ∙ ap (λ means. verdict_of (month_check (listed_lacks means) m.args.lines.now ∷ []))
+      m.means-means.ensures
+      ∙ ap (λ check. verdict_of (check ∷ []))
+      (check_listed m.args.table m.args.numbers m.args.lines.now m.requires.fact_3)
+
+pub means-means-requires : goal.means-means-requires
+means-means-requires c =
+    record {
+      fact_1 = c.requires.fact_1;
+      fact_2 = c.requires.fact_2.start;
+    }
+
+pub bounded_prices-requires : goal.bounded_prices-requires
+bounded_prices-requires c =
+    (
+      rw c.means-means.ensures (means_within c.args.table c.requires.fact_1 _ _),
+      (c.requires.fact_2, c.requires),
+    )
+
+pub returns-in-Refused : goal.returns-in-Refused
+returns-in-Refused c =
+    let a = c.args in
+    prices_promised a.table a.numbers a.lines.now a.in_force.now _
+    (c.refused.ensures
+    ∙ sym (months_refused a.table a.numbers a.lines.now a.in_force.now _
+    (sym (searched (goal.at.returns-in-Refused c).After-search_months) ∙ c.in-Refused.is)))
+
+pub returns-in-Passed : goal.returns-in-Passed
+returns-in-Passed c =
+    let a = c.args in
+    let present = sym (searched (goal.at.returns-in-Passed c).After-search_months) ∙ c.in-Passed.is in
+    prices_promised a.table a.numbers a.lines.now a.in_force.now _
+    (c.bounded_prices.ensures
+    ∙ ap (λ means. bounded_prices (listed_mean means) a.numbers a.lines.now a.in_force.now)
+    c.means-means.ensures
+    ∙ prices_listed a.table a.numbers a.lines.now c.requires.fact_3
+    (months_present a.table a.numbers a.lines.now a.in_force.now present) a.in_force.now
+    ∙ sym (months_priced a.table a.numbers a.lines.now a.in_force.now present))

@@ -1,0 +1,16 @@
+-- The invariant: each term passed is allowed.
+use Prim.Native.Nat.{◌-◌}
+use native.Mathlib.Omega.{arith}
+use lib.Dec.{ltb}
+use borrow.Author.Rules.{rules}
+use Rattle.numbers.proofs.BoolLaws.{told_true, told_false}
+use Rattle.numbers.proofs.TestLaws.{Tested, tested_none, tested_more, tested_fails, tested_all}
+use Rattle.supply.specs.Line.{term_of}
+use Rattle.supply.specs.Range.{term_allowed, terms_allowed}
+use Rattle.supply.proofs.range.terms_allowed.Given as goal
+
+abbrev pub invariant-loop-k : goal.invariant-loop-k
+invariant-loop-k l = Tested 4 (λ i. term_allowed (term_of l.line i) (ltb i l.line.term_count)) l.k
+
+abbrev pub decreases-loop-k : goal.decreases-loop-k
+decreases-loop-k l = 4 - l.k
