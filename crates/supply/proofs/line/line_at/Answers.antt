@@ -1,6 +1,5 @@
 -- The words and the terms are the definition's.
 use Rattle.supply.specs.Line.{line_of}
-use borrow.Author.Rules.{rules}
 use Rattle.supply.proofs.line.line_at.Goals as goal
 
 pub returns : goal.returns

@@ -1,11 +1,7 @@
 -- The invariant: no mean passed is 0.
-use Prim.Native.Nat.{◌-◌}
 use native.Mathlib.Omega.{arith}
-use lib.Dec.{eqb}
-use lib.ListN.{get_or}
 use borrow.Author.Tests.{eq-eqb, ne_eqb}
-use Rattle.series.specs.Means.{mean_count}
-use Rattle.numbers.proofs.TestLaws.{Searched, searched_none, searched_more, searched_found, searched_all}
+use Rattle.numbers.proofs.TestLaws.{searched_none, searched_more, searched_found, searched_all}
 use Rattle.supply.proofs.months.any_missing.Goals as goal
 
 pub loop-k-init : goal.loop-k-init

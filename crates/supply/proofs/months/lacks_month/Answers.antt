@@ -1,7 +1,6 @@
 -- A term that the line does not use is not looked up; of one that it uses the mean tells.
 use mathlib.Core.Path.{◌≡◌, ap}
 use mathlib.Core.Bool.{true}
-use borrow.Author.Rules.{rules}
 use borrow.Author.Tests.{not-true, not-false}
 use lib.Dec.{eqb}
 use Rattle.supply.specs.Line.{term_used}

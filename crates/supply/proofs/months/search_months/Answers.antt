@@ -1,13 +1,10 @@
 -- Where no mean is 0 nothing is missing. The walk's invariants: nothing is missing in the lines passed, nor in the
 -- terms passed of the line at hand.
 use mathlib.Core.Path.{◌≡◌, refl, sym, ◌∙◌, ap}
-use mathlib.Core.Option.{none}
-use Prim.Native.Nat.{ℕ, ◌≤◌, ◌<◌, ◌-◌}
+use Prim.Native.Nat.{ℕ, ◌<◌}
 use native.Mathlib.Omega.{arith}
-use borrow.Author.Rules.{rules}
 use Rattle.numbers.specs.Bounded.{first_below}
 use Rattle.numbers.specs.Checks.{verdict_of}
-use Rattle.numbers.specs.declared.refusal.Verdict.TheVariants.{Passed}
 use Rattle.numbers.proofs.BoolLaws.{told_false}
 use Rattle.numbers.proofs.FirstLaws.{first_step, first_is}
 use Rattle.supply.specs.Line.{term_places, line_count, line_of}
@@ -55,15 +52,14 @@ lacks_month-requires c =
     }
 
 pub loop-k-preserved : goal.loop-k-preserved
-loop-k-preserved c =
-    (
-      omega arith,
-      c.loop-k.invariant.1,
-      first_step (missing_term (listed_lacks c.args.means.now) c.line_at-line.result (j (goal.at.loop-k-preserved c).After-line_at-line)) c.loop-k.k
-          c.loop-k.invariant.2
-          ∙ term_published (listed_lacks c.args.means.now) c.line_at-line.result (j (goal.at.loop-k-preserved c).After-line_at-line) c.loop-k.k
-          (sym c.lacks_month.ensures ∙ c.if-lacks_month.false),
-    )
+loop-k-preserved c = (
+  omega arith,
+  c.loop-k.invariant.1,
+  first_step (missing_term (listed_lacks c.args.means.now) c.line_at-line.result (j (goal.at.loop-k-preserved c).After-line_at-line)) c.loop-k.k
+      c.loop-k.invariant.2
+      ∙ term_published (listed_lacks c.args.means.now) c.line_at-line.result (j (goal.at.loop-k-preserved c).After-line_at-line) c.loop-k.k
+      (sym c.lacks_month.ensures ∙ c.if-lacks_month.false),
+)
 
 pub lines-preserved : goal.lines-preserved
 unfolding missing_in_line

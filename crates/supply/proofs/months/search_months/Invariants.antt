@@ -1,21 +1,13 @@
 -- Where no mean is 0 nothing is missing. The walk's invariants: nothing is missing in the lines passed, nor in the
 -- terms passed of the line at hand.
-use mathlib.Core.Path.{◌≡◌, refl, sym, ◌∙◌, ap}
+use mathlib.Core.Path.{◌≡◌}
 use mathlib.Core.Option.{none}
-use Prim.Native.Nat.{ℕ, ◌≤◌, ◌<◌, ◌-◌}
-use native.Mathlib.Omega.{arith}
-use borrow.Author.Rules.{rules}
+use Prim.Native.Nat.{◌≤◌, ◌-◌}
 use Rattle.numbers.specs.Bounded.{first_below}
-use Rattle.numbers.specs.Checks.{verdict_of}
 use Rattle.numbers.specs.declared.refusal.Verdict.TheVariants.{Passed}
-use Rattle.numbers.proofs.BoolLaws.{told_false}
-use Rattle.numbers.proofs.FirstLaws.{first_step, first_is}
-use Rattle.supply.specs.Line.{term_places, line_count, line_of}
+use Rattle.supply.specs.Line.{term_places, line_of}
 use Rattle.supply.specs.Listed.{listed_lacks}
-use Rattle.supply.specs.Months.{Place, missing_term, missing_in_line, first_missing, month_check}
-use Rattle.supply.specs.Required.{LineFacts}
-use Rattle.supply.proofs.ListedLaws.{none_listed}
-use Rattle.supply.proofs.MonthLaws.{term_missing, term_published}
+use Rattle.supply.specs.Months.{missing_term, missing_in_line}
 use Rattle.supply.proofs.months.search_months.Given as goal
 
 abbrev pub invariant-loop-k : goal.invariant-loop-k

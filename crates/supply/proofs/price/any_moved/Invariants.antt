@@ -1,10 +1,8 @@
 -- The invariant: no price passed moved.
-use mathlib.Core.Path.{sym, ◌∙◌}
 use Prim.Native.Nat.{◌-◌}
-use native.Mathlib.Omega.{arith}
 use lib.ListN.{get_or}
-use Rattle.numbers.proofs.TestLaws.{Searched, searched_none, searched_more, searched_found, searched_all}
-use Rattle.supply.specs.Price.{price_in_force, moved, any_moved}
+use Rattle.numbers.proofs.TestLaws.{Searched}
+use Rattle.supply.specs.Price.{price_in_force, moved}
 use Rattle.supply.proofs.price.any_moved.Given as goal
 
 abbrev pub invariant-loop-j : goal.invariant-loop-j

@@ -3,11 +3,10 @@
 use mathlib.Core.Path.{◌≡◌, refl, sym, ◌∙◌, ap, ap₂}
 use mathlib.Core.Bool.{not}
 use mathlib.Core.Option.{none, some}
-use Prim.Native.Nat.{ℕ, ◌-◌, ◌≤◌, ◌<◌}
+use Prim.Native.Nat.{ℕ, ◌<◌}
 use native.Mathlib.Omega.{arith}
 use lib.Dec.{eqb}
 use lib.ListN.{get_or, set}
-use borrow.Author.Rules.{rules}
 use borrow.Author.Tests.{eq-eqb, ne_eqb, not-true, not-false}
 use Rattle.numbers.specs.Bounded.{first_below, filled_below}
 use Rattle.numbers.specs.Units.{no_price, no_power}
@@ -28,27 +27,16 @@ use Rattle.supply.proofs.PriceLaws.{words_power, prices_beyond, prices_unmoved, 
 use Rattle.supply.proofs.price.bounded_prices.Goals as goal
 use Rattle.supply.proofs.price.bounded_prices.Goals.{After-any_moved, After-loop-j, After-power_prices, After-price_line, At-loop-j, In-loop-j}
 
--- what stands before the loop: the words, and the call's arguments
-module _ (l : At-loop-j) where
-  abbrev mean_of : Term → ℕ
-  mean_of = listed_mean l.args.means.now
-
-  counted : l.line_count-count.result ≡ line_count l.args.lines.now
-  counted = l.line_count-count.ensures
-
-  few : line_count l.args.lines.now ≤ most_lines
-  few = l.requires.fact_3.few
-
 -- the line at hand, and the words of its indexed price and its power purchase price
 module _ (c : In-loop-j) where
   abbrev mean : Term → ℕ
-  mean = mean_of c.before.before
+  mean = listed_mean c.args.means.now
 
   below : c.loop-j.j < line_count c.args.lines.now
-  below = omega (arith, counted c.before.before)
+  below = omega (arith, c.line_count-count.ensures)
 
   inside : c.loop-j.j < most_lines
-  inside = omega (arith, below, few c.before.before)
+  inside = omega (arith, below, c.requires.fact_3.few)
 
   word : get_or c.price_words-words.result.indexed c.loop-j.j 0 ≡ indexed_or_zero mean
       (line_of c.args.lines.now c.loop-j.j)
@@ -75,16 +63,18 @@ module _ (c : In-loop-j) where
       (first_is f c.loop-j.j (line_count c.args.lines.now) c.loop-j.j below c.loop-j.invariant.1 h))
 
 answered : (c : After-price_line) →
-    c.price_line.result ≡ answer_at (mean c.before.before.before.before) c.args.numbers
+    get_or c.price_words-words.result.indexed c.loop-j.j 0
+    ≡ indexed_or_zero (listed_mean c.args.means.now) (line_of c.args.lines.now c.loop-j.j) →
+    c.price_line.result ≡ answer_at (listed_mean c.args.means.now) c.args.numbers
     c.args.lines.now c.args.in_force.now c.loop-j.j
 unfolding answer_at
-answered c =
+answered c word =
     let a = c.args in
     let j = c.loop-j.j in
     let old = price_in_force a.in_force.now j in
     c.price_line.ensures
-    ∙ ap₂ (λ line word. indexed_reference a.numbers line old word) c.line_at.ensures (word c.before.before.before.before)
-    ∙ indexed_reference_lem (mean c.before.before.before.before) (line_of a.lines.now j) a.numbers old
+    ∙ ap₂ (λ line word. indexed_reference a.numbers line old word) c.line_at.ensures word
+    ∙ indexed_reference_lem (listed_mean c.args.means.now) (line_of a.lines.now j) a.numbers old
 
 pub loop-j-init : goal.loop-j-init
 unfolding first_below
@@ -115,13 +105,13 @@ returns-in-OutsideBounds c =
     c.refused-in-OutsideBounds.ensures
     ∙ sym (refused_here (goal.at.returns-in-OutsideBounds c).In-loop-j
     (line_beyond (mean (goal.at.returns-in-OutsideBounds c).In-loop-j) c.args.numbers c.args.lines.now c.args.in_force.now c.loop-j.j
-    (sym (answered (goal.at.returns-in-OutsideBounds c).After-price_line) ∙ c.in-OutsideBounds.is)))
+    (sym (answered (goal.at.returns-in-OutsideBounds c).After-price_line (word (goal.at.returns-in-OutsideBounds c).In-loop-j)) ∙ c.in-OutsideBounds.is)))
 
 pub loop-j-preserved : goal.loop-j-preserved
 loop-j-preserved c =
     let j = c.loop-j.j in
     let a = c.args in
-    let told = sym (answered (goal.at.loop-j-preserved c).After-price_line) ∙ c.in-Within.is in (
+    let told = sym (answered (goal.at.loop-j-preserved c).After-price_line (word (goal.at.loop-j-preserved c).In-loop-j)) ∙ c.in-Within.is in (
       omega (arith, below (goal.at.loop-j-preserved c).In-loop-j),
       first_step (beyond_in (mean (goal.at.loop-j-preserved c).In-loop-j) a.numbers a.lines.now a.in_force.now) j c.loop-j.invariant.1
           ∙ line_within (mean (goal.at.loop-j-preserved c).In-loop-j) a.numbers a.lines.now a.in_force.now j _ told
@@ -135,22 +125,22 @@ loop-j-preserved c =
 -- past the last line
 module _ (c : After-loop-j) where
   last : c.loop-j.j ≡ line_count c.args.lines.now
-  last = omega (arith, counted c.before.before)
+  last = omega (arith, c.line_count-count.ensures)
 
-  none_beyond : first_beyond (mean_of c.before.before) c.args.numbers c.args.lines.now c.args.in_force.now
+  none_beyond : first_beyond (listed_mean c.args.means.now) c.args.numbers c.args.lines.now c.args.in_force.now
       ≡ none
   unfolding first_beyond
   none_beyond =
-      ap (λ k. first_below k (beyond_in (mean_of c.before.before) c.args.numbers c.args.lines.now
+      ap (λ k. first_below k (beyond_in (listed_mean c.args.means.now) c.args.numbers c.args.lines.now
       c.args.in_force.now)) (sym last)
       ∙ c.loop-j.invariant.1
 
-  listed : c.loop-j.references ≡ reference_list (mean_of c.before.before) c.args.numbers c.args.lines.now
+  listed : c.loop-j.references ≡ reference_list (listed_mean c.args.means.now) c.args.numbers c.args.lines.now
       c.args.in_force.now
   unfolding reference_list
   listed =
       c.loop-j.invariant.2
-      ∙ ap (λ k. filled_below most_lines no_price k (reference_price (mean_of c.before.before) c.args.numbers
+      ∙ ap (λ k. filled_below most_lines no_price k (reference_price (listed_mean c.args.means.now) c.args.numbers
       c.args.lines.now c.args.in_force.now)) last
 
 pub any_moved-requires : goal.any_moved-requires
@@ -160,65 +150,66 @@ any_moved-requires c =
     record {
       fact_1 = c.requires.fact_4;
       fact_2 = record {
-        few = omega (arith, counted (goal.at.any_moved-requires c).At-loop-j, few (goal.at.any_moved-requires c).At-loop-j);
+        few = omega (arith, c.line_count-count.ensures, c.requires.fact_3.few);
         most = λ j p.
-            let q : j < line_count a.lines.now = omega (arith, counted (goal.at.any_moved-requires c).At-loop-j) in
-            rw (c.price_words-words.ensures, indexed_at (mean_of (goal.at.any_moved-requires c).At-loop-j) a.lines.now j q (few (goal.at.any_moved-requires c).At-loop-j))
+            let q : j < line_count a.lines.now = omega (arith, c.line_count-count.ensures) in
+            rw (c.price_words-words.ensures, indexed_at (listed_mean c.args.means.now) a.lines.now j q (c.requires.fact_3.few))
             (indexed_most 1000000 _ _);
       };
     }
 
 -- what the words tell
 told : (c : After-any_moved) →
-    c.any_moved.result ≡ any_line_moved (mean_of c.before.before.before.before) c.args.lines.now c.args.in_force.now
-told c =
+    first_beyond (listed_mean c.args.means.now) c.args.numbers c.args.lines.now c.args.in_force.now ≡ none →
+    c.any_moved.result ≡ any_line_moved (listed_mean c.args.means.now) c.args.lines.now c.args.in_force.now
+told c none_beyond =
     let a = c.args in
     c.any_moved.ensures
     ∙ ap₂ (λ (r : PriceWords) count. any_moved a.in_force.now count (λ j. get_or r.indexed j 0))
-    c.price_words-words.ensures (counted c.before.before.before.before)
-    ∙ words_moved (mean_of c.before.before.before.before) a.numbers a.lines.now a.in_force.now (none_beyond c.before.before.before) (few c.before.before.before.before)
+    c.price_words-words.ensures (c.line_count-count.ensures)
+    ∙ words_moved (listed_mean c.args.means.now) a.numbers a.lines.now a.in_force.now none_beyond (c.requires.fact_3.few)
 
 pub returns-then-not-any_moved : goal.returns-then-not-any_moved
 unfolding bounded_prices
 returns-then-not-any_moved c =
-    rw (prices_unmoved _ _ _ _ (none_beyond (goal.at.returns-then-not-any_moved c).After-loop-j) (told_false (told (goal.at.returns-then-not-any_moved c).After-any_moved) c.if-not-any_moved.true-raw)) c.refused-then-not-any_moved.ensures
+    rw (prices_unmoved _ _ _ _ (none_beyond (goal.at.returns-then-not-any_moved c).After-loop-j) (told_false (told (goal.at.returns-then-not-any_moved c).After-any_moved (none_beyond (goal.at.returns-then-not-any_moved c).After-loop-j)) c.if-not-any_moved.true-raw)) c.refused-then-not-any_moved.ensures
 
 pub power_prices-requires : goal.power_prices-requires
 power_prices-requires c =
     let a = c.args in
     record {
       fact_1 = record {
-        few = omega (arith, counted (goal.at.power_prices-requires c).At-loop-j, few (goal.at.power_prices-requires c).At-loop-j);
+        few = omega (arith, c.line_count-count.ensures, c.requires.fact_3.few);
         most = λ j p.
-            let q : j < line_count a.lines.now = omega (arith, counted (goal.at.power_prices-requires c).At-loop-j) in
-            rw (c.price_words-words.ensures, power_at (mean_of (goal.at.power_prices-requires c).At-loop-j) a.lines.now j q (few (goal.at.power_prices-requires c).At-loop-j))
-            (power_most (mean_of (goal.at.power_prices-requires c).At-loop-j) (line_of a.lines.now j));
+            let q : j < line_count a.lines.now = omega (arith, c.line_count-count.ensures) in
+            rw (c.price_words-words.ensures, power_at (listed_mean c.args.means.now) a.lines.now j q (c.requires.fact_3.few))
+            (power_most (listed_mean c.args.means.now) (line_of a.lines.now j));
       };
       fact_2 = c.requires.fact_2.dollar_most;
     }
 
 -- the power prices as they are turned
 turned : (c : After-power_prices) →
-    c.power_prices.result ≡ power_list (mean_of (goal.at.returns c).At-loop-j) c.args.numbers c.args.lines.now
+    c.power_prices.result ≡ power_list (listed_mean c.args.means.now) c.args.numbers c.args.lines.now
 turned c =
     let a = c.args in
     c.power_prices.ensures
     ∙ ap₂ (λ (r : PriceWords) count. filled_below most_lines no_power count
     (λ j. record { 0 = power_peso_of (get_or r.purchases j 0) a.numbers.dollar }))
-    c.price_words-words.ensures (counted (goal.at.returns c).At-loop-j)
-    ∙ words_power (mean_of (goal.at.returns c).At-loop-j) a.numbers a.lines.now a.in_force.now (none_beyond (goal.at.returns c).After-loop-j) (few (goal.at.returns c).At-loop-j)
+    c.price_words-words.ensures (c.line_count-count.ensures)
+    ∙ words_power (listed_mean c.args.means.now) a.numbers a.lines.now a.in_force.now (none_beyond (goal.at.returns c).After-loop-j) (c.requires.fact_3.few)
 
 pub returns : goal.returns
 unfolding bounded_prices
 returns c =
     rw (
-      prices_passed _ _ _ _ (none_beyond (goal.at.returns c).After-loop-j) (told_true (told (goal.at.returns c).After-any_moved) c.if-not-any_moved.false-raw),
+      prices_passed _ _ _ _ (none_beyond (goal.at.returns c).After-loop-j) (told_true (told (goal.at.returns c).After-any_moved (none_beyond (goal.at.returns c).After-loop-j)) c.if-not-any_moved.false-raw),
       ← listed (goal.at.returns c).After-loop-j,
       ← turned c,
     )
 
 pub bounds-purchases-j : goal.bounds-purchases-j
-bounds-purchases-j c = inside (goal.at.bounds-purchases-j c).In-loop-j
+bounds-purchases-j c = omega (arith, c.line_count-count.ensures, c.requires.fact_3.few)
 
 pub bounds-indexed-j : goal.bounds-indexed-j
 bounds-indexed-j c = inside (goal.at.bounds-indexed-j c).In-loop-j

@@ -2,7 +2,6 @@
 use Prim.Native.Nat.{◌<◌, ◌≤◌}
 use native.Mathlib.Omega.{arith}
 use lib.ListN.{length, get_or}
-use borrow.Author.Rules.{rules}
 use Rattle.supply.specs.Price.{moved}
 use Rattle.supply.proofs.PriceLaws.{none_in_force, some_in_force}
 use Rattle.supply.proofs.price.has_moved.Goals as goal

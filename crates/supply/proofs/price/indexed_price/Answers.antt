@@ -1,7 +1,6 @@
 -- The word of the line's base price and index factor.
 use mathlib.Core.Path.{◌∙◌, ap}
 use native.Mathlib.Omega.{arith}
-use borrow.Author.Rules.{rules}
 use Rattle.supply.specs.Listed.{indexed_word, indexed_or_zero}
 use Rattle.supply.proofs.price.indexed_price.Goals as goal
 

@@ -4,7 +4,6 @@ use Prim.Native.Nat.{◌*◌, ◌≤◌}
 use native.Mathlib.Nat.{mul-le-mul}
 use native.Mathlib.Omega.{arith}
 use borrow.Author.Tests.{lt-leb, le-leb}
-use borrow.Author.Rules.{rules}
 use Rattle.supply.specs.Line.{most_power_price}
 use Rattle.supply.specs.Listed.{within_or_zero, indexed_word}
 use Rattle.supply.specs.Price.{indexed_of, indexed_within}

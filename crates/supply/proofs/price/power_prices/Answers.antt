@@ -1,12 +1,9 @@
 -- The invariant: the power prices passed are filled in; the product is at most 2 * 10^13.
 use mathlib.Core.Path.{◌≡◌, ◌∙◌, ap}
-use mathlib.Core.List.{List}
-use Prim.Native.Nat.{ℕ, ◌-◌, ◌*◌, ◌≤◌}
+use Prim.Native.Nat.{◌*◌, ◌≤◌}
 use native.Mathlib.Omega.{arith}
 use native.Mathlib.Nat.{mul-le-mul}
 use lib.ListN.{get_or}
-use borrow.Author.Rules.{rules}
-use Rattle.numbers.specs.Bounded.{filled_below}
 use Rattle.numbers.specs.Units.{no_power}
 use Rattle.numbers.specs.declared.units.PowerPrice.{PowerPrice}
 use Rattle.numbers.proofs.ListLaws.{filled_none, filled_next}
@@ -15,7 +12,6 @@ use Rattle.supply.specs.Price.{power_peso_of}
 use Rattle.supply.proofs.price.power_prices.Goals as goal
 use Rattle.supply.proofs.price.power_prices.Invariants.{priceIn}
 use Rattle.supply.proofs.price.power_prices.Goals.{In-loop-j}
-
 
 pub loop-j-init : goal.loop-j-init
 loop-j-init c = (omega arith, c.no_power_prices-power.ensures ∙ filled_none most_lines no_power _)
@@ -29,13 +25,12 @@ product l =
 
 pub loop-j-preserved : goal.loop-j-preserved
 unfolding power_peso_of
-loop-j-preserved c =
-    (
-      omega arith,
-      filled_next most_lines no_power c.loop-j.j (priceIn c.args.purchases c.args.dollar) c.loop-j.power _
-          (omega (arith, c.requires.fact_1.few)) c.loop-j.invariant.1
-          (ap {B = PowerPrice} (λ x. record { 0 = x }) c.half_up.ensures),
-    )
+loop-j-preserved c = (
+  omega arith,
+  filled_next most_lines no_power c.loop-j.j (priceIn c.args.purchases c.args.dollar) c.loop-j.power _
+      (omega (arith, c.requires.fact_1.few)) c.loop-j.invariant.1
+      (ap {B = PowerPrice} (λ x. record { 0 = x }) c.half_up.ensures),
+)
 
 pub returns : goal.returns
 returns c =

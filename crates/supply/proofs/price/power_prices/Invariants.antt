@@ -1,16 +1,12 @@
 -- The invariant: the power prices passed are filled in; the product is at most 2 * 10^13.
-use mathlib.Core.Path.{◌≡◌, ◌∙◌, ap}
+use mathlib.Core.Path.{◌≡◌}
 use mathlib.Core.List.{List}
-use Prim.Native.Nat.{ℕ, ◌-◌, ◌*◌, ◌≤◌}
-use native.Mathlib.Omega.{arith}
-use native.Mathlib.Nat.{mul-le-mul}
+use Prim.Native.Nat.{ℕ, ◌-◌, ◌≤◌}
 use lib.ListN.{get_or}
-use borrow.Author.Rules.{rules}
 use Rattle.numbers.specs.Bounded.{filled_below}
 use Rattle.numbers.specs.Units.{no_power}
 use Rattle.numbers.specs.declared.units.PowerPrice.{PowerPrice}
-use Rattle.numbers.proofs.ListLaws.{filled_none, filled_next}
-use Rattle.supply.specs.Line.{most_lines, most_power_price}
+use Rattle.supply.specs.Line.{most_lines}
 use Rattle.supply.specs.Price.{power_peso_of}
 use Rattle.supply.proofs.price.power_prices.Given as goal
 

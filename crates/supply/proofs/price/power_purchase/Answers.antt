@@ -1,7 +1,6 @@
 -- Each step is the definition's, word by word.
 use mathlib.Core.Path.{◌∙◌, ap}
 use native.Mathlib.Omega.{arith}
-use borrow.Author.Rules.{rules}
 use Rattle.supply.specs.Line.{most_power_price, power_term}
 use Rattle.supply.specs.Listed.{listed_mean, within_or_zero, indexed_word}
 use Rattle.supply.specs.Price.{line_purchase}

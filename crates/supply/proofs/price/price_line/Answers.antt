@@ -2,7 +2,6 @@
 use mathlib.Core.Path.{◌∙◌, ap}
 use native.Mathlib.Omega.{arith}
 use borrow.Author.Tests.{eq-eqb, ne_eqb}
-use borrow.Author.Rules.{rules}
 use Rattle.supply.specs.Listed.{indexed_reference}
 use Rattle.supply.specs.Price.{reference_answer}
 use Rattle.supply.proofs.PriceLaws.{taken_most}

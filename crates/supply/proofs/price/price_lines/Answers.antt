@@ -1,7 +1,6 @@
 -- What is found and priced from the list of means is what the table says.
 use mathlib.Core.Path.{◌≡◌, sym, ◌∙◌, ap}
 use mathlib.Core.List.{[], ◌∷◌}
-use borrow.Author.Rules.{rules}
 use Rattle.numbers.specs.Checks.{verdict_of}
 use Rattle.series.proofs.MeanLaws.{means_within}
 use Rattle.supply.specs.Listed.{listed_mean, listed_lacks}
@@ -32,10 +31,12 @@ means-means-requires c =
 
 pub bounded_prices-requires : goal.bounded_prices-requires
 bounded_prices-requires c =
-    (
-      rw c.means-means.ensures (means_within c.args.table c.requires.fact_1 _ _),
-      (c.requires.fact_2, c.requires),
-    )
+    record {
+      fact_1 = rw c.means-means.ensures (means_within c.args.table c.requires.fact_1 _ _);
+      fact_2 = c.requires.fact_2;
+      fact_3 = c.requires.fact_3;
+      fact_4 = c.requires.fact_4;
+    }
 
 pub returns-in-Refused : goal.returns-in-Refused
 returns-in-Refused c =

@@ -3,7 +3,6 @@ use mathlib.Core.Path.{◌≡◌, sym, ◌∙◌}
 use Prim.Native.Nat.{◌<◌}
 use native.Mathlib.Omega.{arith}
 use lib.ListN.{length, get_or}
-use borrow.Author.Rules.{rules}
 use Rattle.supply.specs.Price.{price_in_force, price_taken}
 use Rattle.supply.proofs.PriceLaws.{taken_new, taken_old}
 use Rattle.supply.proofs.price.price_taken.Goals as goal

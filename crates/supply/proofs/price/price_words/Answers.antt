@@ -1,9 +1,7 @@
 -- The invariant: the words of the lines passed are filled in.
 use mathlib.Core.Path.{◌≡◌, ◌∙◌, ap, ap₂}
-use Prim.Native.Nat.{◌-◌, ◌≤◌, ◌<◌}
+use Prim.Native.Nat.{◌<◌}
 use native.Mathlib.Omega.{arith}
-use borrow.Author.Rules.{rules}
-use Rattle.numbers.specs.Bounded.{filled_below}
 use Rattle.numbers.proofs.ListLaws.{filled_none, filled_next}
 use Rattle.supply.specs.Line.{most_lines, line_count, line_of}
 use Rattle.supply.specs.Listed.{listed_mean, indexed_or_zero, indexed_list, power_or_zero, power_words}

@@ -1,14 +1,9 @@
 -- The invariant: the words of the lines passed are filled in.
-use mathlib.Core.Path.{◌≡◌, ◌∙◌, ap, ap₂}
-use Prim.Native.Nat.{◌-◌, ◌≤◌, ◌<◌}
-use native.Mathlib.Omega.{arith}
-use borrow.Author.Rules.{rules}
+use mathlib.Core.Path.{◌≡◌}
+use Prim.Native.Nat.{◌-◌, ◌≤◌}
 use Rattle.numbers.specs.Bounded.{filled_below}
-use Rattle.numbers.proofs.ListLaws.{filled_none, filled_next}
 use Rattle.supply.specs.Line.{most_lines, line_count, line_of}
-use Rattle.supply.specs.Listed.{listed_mean, indexed_or_zero, indexed_list, power_or_zero, power_words}
-use Rattle.supply.specs.Required.{LineFacts}
-use Rattle.supply.specs.declared.price.PriceWords.{PriceWords}
+use Rattle.supply.specs.Listed.{listed_mean, indexed_or_zero, power_or_zero}
 use Rattle.supply.proofs.price.price_words.Given as goal
 
 abbrev pub invariant-loop-j : goal.invariant-loop-j

@@ -3,7 +3,6 @@ use mathlib.Core.Path.{◌∙◌, ap}
 use Prim.Native.Nat.{◌*◌, ◌≤◌}
 use native.Mathlib.Nat.{mul-le-mul}
 use native.Mathlib.Omega.{arith}
-use borrow.Author.Rules.{rules}
 use Rattle.supply.specs.Line.{most_power_price}
 use Rattle.supply.specs.Listed.{within_or_zero}
 use Rattle.supply.specs.Price.{purchase_of, line_purchase}

@@ -6,7 +6,6 @@ use native.Mathlib.Nat.{mul-le-mul}
 use native.Mathlib.Omega.{arith}
 use lib.Dec.{eqb}
 use borrow.Author.Tests.{eq-eqb, ne_eqb, not-true, not-false}
-use borrow.Author.Rules.{rules}
 use Rattle.numbers.specs.Rounding.{half_up}
 use Rattle.numbers.specs.Units.{between, checked_price}
 use Rattle.numbers.proofs.RoundingLaws.{half_up_le}

@@ -6,7 +6,6 @@ use Rattle.numbers.proofs.ListLaws.{filled_none}
 use Rattle.supply.specs.Line.{most_lines}
 use Rattle.supply.specs.Price.{refused_prices}
 use Rattle.supply.specs.declared.price.LinePrices.{LinePrices}
-use borrow.Author.Rules.{rules}
 use Rattle.supply.proofs.price.refused.Goals as goal
 
 pub returns : goal.returns

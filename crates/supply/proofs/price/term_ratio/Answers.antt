@@ -6,7 +6,6 @@ use Rattle.series.specs.Required.{most_mean}
 use Rattle.supply.specs.Price.{term_ratio, ratio_of}
 use Rattle.supply.proofs.ListedLaws.{listed_most}
 use native.Mathlib.Omega.{arith}
-use borrow.Author.Rules.{rules}
 use Rattle.supply.proofs.price.term_ratio.Goals as goal
 use Rattle.supply.proofs.price.term_ratio.Goals.{After-term_mean}
 

@@ -1,5 +1,4 @@
 -- By the test, as in the definition.
-use borrow.Author.Rules.{rules}
 use Rattle.supply.specs.Listed.{within_or_zero}
 use Rattle.supply.proofs.price.within_or_zero.Goals as goal
 

@@ -1,5 +1,4 @@
 -- The tests are the definition's.
-use borrow.Author.Rules.{rules}
 use Rattle.supply.specs.Range.{head_in_range}
 use Rattle.supply.proofs.range.head_in_range.Goals as goal
 

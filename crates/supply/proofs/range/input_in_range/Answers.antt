@@ -1,6 +1,5 @@
 -- Each way out is the definition at the test that led there.
 use Rattle.supply.specs.Range.{input_in_range}
-use borrow.Author.Rules.{rules}
 use Rattle.numbers.proofs.BoolLaws.{told_true, told_false}
 use Rattle.supply.proofs.range.input_in_range.Goals as goal
 

@@ -1,12 +1,8 @@
 -- The invariant: each line passed is in range.
-use mathlib.Core.Path.{◌≡◌, ◌∙◌, ap}
 use Prim.Native.Nat.{◌-◌}
-use native.Mathlib.Omega.{arith}
-use borrow.Author.Rules.{rules}
-use Rattle.numbers.proofs.BoolLaws.{told_true, told_false}
-use Rattle.numbers.proofs.TestLaws.{Tested, tested_none, tested_more, tested_fails, tested_all}
+use Rattle.numbers.proofs.TestLaws.{Tested}
 use Rattle.supply.specs.Line.{line_count, line_of}
-use Rattle.supply.specs.Range.{line_in_range, lines_in_range}
+use Rattle.supply.specs.Range.{line_in_range}
 use Rattle.supply.proofs.range.lines_in_range.Given as goal
 
 abbrev pub invariant-loop-j : goal.invariant-loop-j

@@ -1,5 +1,4 @@
 -- The tests are the definition's.
-use borrow.Author.Rules.{rules}
 use Rattle.supply.specs.Range.{numbers_in_range}
 use Rattle.supply.proofs.range.numbers_in_range.Goals as goal
 

@@ -1,6 +1,5 @@
 -- Whether the term is used picks the test, as in the definition.
 use Rattle.supply.specs.Range.{term_allowed}
-use borrow.Author.Rules.{rules}
 use Rattle.supply.proofs.range.term_allowed.Goals as goal
 
 pub returns-then-used : goal.returns-then-used

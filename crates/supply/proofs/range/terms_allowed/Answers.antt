@@ -1,12 +1,8 @@
 -- The invariant: each term passed is allowed.
-use Prim.Native.Nat.{◌-◌}
 use native.Mathlib.Omega.{arith}
-use lib.Dec.{ltb}
-use borrow.Author.Rules.{rules}
 use Rattle.numbers.proofs.BoolLaws.{told_true, told_false}
-use Rattle.numbers.proofs.TestLaws.{Tested, tested_none, tested_more, tested_fails, tested_all}
-use Rattle.supply.specs.Line.{term_of}
-use Rattle.supply.specs.Range.{term_allowed, terms_allowed}
+use Rattle.numbers.proofs.TestLaws.{tested_none, tested_more, tested_fails, tested_all}
+use Rattle.supply.specs.Range.{terms_allowed}
 use Rattle.supply.proofs.range.terms_allowed.Goals as goal
 
 pub loop-k-init : goal.loop-k-init

@@ -1,7 +1,6 @@
 -- The invariant: the sum of the weights passed, each at most 10,000.
-use Prim.Native.Nat.{◌-◌}
 use native.Mathlib.Omega.{arith}
-use Rattle.numbers.proofs.SumLaws.{Summed, summed_none, summed_more, summed_all, sum_le}
+use Rattle.numbers.proofs.SumLaws.{summed_none, summed_more, summed_all, sum_le}
 use Rattle.supply.specs.Line.{term_of}
 use Rattle.supply.specs.Range.{weight_total}
 use Rattle.supply.proofs.RangeLaws.{allowed_weight}
