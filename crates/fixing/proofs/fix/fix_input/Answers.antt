@@ -1,0 +1,129 @@
+-- Each test is the check of its cause, made where those before it are passed; what passes all four is priced.
+use mathlib.Core.Path.{◌≡◌, refl, ◌∙◌, ap}
+use mathlib.Core.Bool.{true}
+use Rattle.numbers.specs.declared.refusal.Refusal.TheVariants.{OutOfRange, ValueTooLarge, WrongSector, NoLine}
+use Rattle.numbers.proofs.BoolLaws.{told_true, told_false}
+use Rattle.numbers.proofs.CheckLaws.{FirstPass, passes, refused_unless}
+use Rattle.series.specs.Series.{values_in_range}
+use Rattle.fixing.specs.Average.{every_energy}
+use Rattle.fixing.specs.Required.{OwnLines, CheckedInput}
+use Rattle.fixing.specs.Sector.{sectors_allowed}
+use Rattle.fixing.specs.Input.{FixingInput, input_of, ranged, supplied, input_checks}
+use Rattle.fixing.proofs.AverageLaws.{energies_tell}
+use Rattle.fixing.proofs.VerdictLaws.{no_line, ranged_own, checked_own, checked_numbers, checked_in_force}
+use Rattle.fixing.proofs.VerdictLaws.{checked_table}
+use Rattle.fixing.proofs.VerdictLaws.{worked_refused, priced_refused, priced_accepted, priced_power}
+use Rattle.fixing.proofs.VerdictLaws.{priced_worked}
+use borrow.Author.Rules.{rules}
+use Rattle.fixing.proofs.fix.fix_input.Goals as goal
+use Rattle.fixing.proofs.fix.fix_input.Goals.{After-every_energy, Else-not-every_energy, Else-not-input_in_range, Else-not-sectors_allowed, Else-not-values_in_range, Start}
+
+abbrev input : Start → FixingInput
+input s =
+    input_of s.args.numbers s.args.series.now s.args.lines.now s.args.sectors.now
+    s.args.in_force.now
+
+-- what is known where a check is passed
+passed_six : (c : Else-not-input_in_range) → ranged c.args.n (input (goal.at.values_in_range-requires c).Start) ≡ true
+passed_six c = told_true c.input_in_range.ensures c.if-not-input_in_range.false-raw
+
+passed_seven : (c : Else-not-values_in_range) → values_in_range c.args.series.now ≡ true
+passed_seven c = told_true c.values_in_range.ensures c.if-not-values_in_range.false-raw
+
+module _ (c : Else-not-sectors_allowed) where
+  passed_eight : sectors_allowed c.args.n c.args.sectors.now ≡ true
+  passed_eight = told_true c.sectors_allowed.ensures c.if-not-sectors_allowed.false-raw
+
+  own : OwnLines c.args.lines.now
+  own = ranged_own _ (input (goal.at.energies-energies-requires c).Start) c.requires (passed_six (goal.at.energies-energies-requires c).Else-not-input_in_range)
+
+-- the energies tell who has a line
+everyone : (c : After-every_energy) → OwnLines c.args.lines.now →
+    c.every_energy.result ≡ supplied c.args.n (input_of c.args.numbers c.args.series.now c.args.lines.now
+    c.args.sectors.now c.args.in_force.now)
+everyone c own =
+    c.every_energy.ensures
+    ∙ ap (every_energy c.args.n) c.energies-energies.ensures
+    ∙ energies_tell c.args.n c.args.lines.now c.requires.few own
+
+passed_nine : (c : Else-not-every_energy) →
+    CheckedInput c.args.n (input (goal.at.fill-requires c).Start)
+passed_nine c =
+    record {
+      lengths = c.requires;
+      ranges = passed_six (goal.at.fill-requires c).Else-not-input_in_range;
+      small = passed_seven (goal.at.fill-requires c).Else-not-values_in_range;
+      sectored = passed_eight (goal.at.fill-requires c).Else-not-sectors_allowed;
+      everyone = told_true (everyone (goal.at.fill-requires c).After-every_energy (own (goal.at.fill-requires c).Else-not-sectors_allowed)) c.if-not-every_energy.false-raw;
+    }
+
+pub returns-then-not-input_in_range : goal.returns-then-not-input_in_range
+unfolding input_checks FirstPass
+returns-then-not-input_in_range c =
+    worked_refused c.args.n (input (goal.at.returns-then-not-input_in_range c).Start) _ OutOfRange c.refused.ensures
+    (refused_unless 0 (input_checks c.args.n (input (goal.at.returns-then-not-input_in_range c).Start)) 6 _ OutOfRange _ tt refl
+    (told_false c.input_in_range.ensures c.if-not-input_in_range.true-raw))
+
+pub returns-then-not-values_in_range : goal.returns-then-not-values_in_range
+unfolding input_checks FirstPass
+returns-then-not-values_in_range c =
+    worked_refused c.args.n (input (goal.at.returns-then-not-values_in_range c).Start) _ ValueTooLarge c.refused-then-not-values_in_range.ensures
+    (refused_unless 1 (input_checks c.args.n (input (goal.at.returns-then-not-values_in_range c).Start)) 7 _ ValueTooLarge _ (passes OutOfRange (passed_six (goal.at.returns-then-not-values_in_range c).Else-not-input_in_range), tt)
+    refl
+    (told_false c.values_in_range.ensures c.if-not-values_in_range.true-raw))
+
+pub returns-then-not-sectors_allowed : goal.returns-then-not-sectors_allowed
+unfolding input_checks FirstPass
+returns-then-not-sectors_allowed c =
+    worked_refused c.args.n (input (goal.at.returns-then-not-sectors_allowed c).Start) _ WrongSector c.refused-then-not-sectors_allowed.ensures
+    (refused_unless 2 (input_checks c.args.n (input (goal.at.returns-then-not-sectors_allowed c).Start)) 8 _ WrongSector _
+    (passes OutOfRange (passed_six (goal.at.returns-then-not-sectors_allowed c).Else-not-input_in_range), (passes ValueTooLarge (passed_seven (goal.at.returns-then-not-sectors_allowed c).Else-not-values_in_range), tt)) refl
+    (told_false c.sectors_allowed.ensures c.if-not-sectors_allowed.true-raw))
+
+pub energies-energies-requires : goal.energies-energies-requires
+energies-energies-requires c = own c
+
+pub returns-then-not-every_energy : goal.returns-then-not-every_energy
+returns-then-not-every_energy c =
+    worked_refused c.args.n (input (goal.at.returns-then-not-every_energy c).Start) _ NoLine c.refused-then-not-every_energy.ensures
+    (no_line c.args.n (input (goal.at.returns-then-not-every_energy c).Start) (passed_six (goal.at.returns-then-not-every_energy c).Else-not-input_in_range) (passed_seven (goal.at.returns-then-not-every_energy c).Else-not-values_in_range) (passed_eight (goal.at.returns-then-not-every_energy c).Else-not-sectors_allowed)
+    (told_false (everyone (goal.at.returns-then-not-every_energy c).After-every_energy (own (goal.at.returns-then-not-every_energy c).Else-not-sectors_allowed)) c.if-not-every_energy.true-raw))
+
+pub price_lines-priced-requires : goal.price_lines-priced-requires
+price_lines-priced-requires c =
+    let ok = passed_nine (goal.at.price_lines-priced-requires c).Else-not-every_energy in
+    record {
+      fact_1 = checked_table _ (input (goal.at.price_lines-priced-requires c).Start) ok _ c.fill.ensures;
+      fact_2 = checked_numbers _ (input (goal.at.price_lines-priced-requires c).Start) ok;
+      fact_3 = (checked_own _ (input (goal.at.price_lines-priced-requires c).Start) ok).checked;
+      fact_4 = checked_in_force _ (input (goal.at.price_lines-priced-requires c).Start) ok;
+    }
+
+-- what the pricing of the lines says
+pub returns-in-Refused : goal.returns-in-Refused
+returns-in-Refused c =
+    priced_refused _ (input (goal.at.returns-in-Refused c).Start) (passed_nine (goal.at.returns-in-Refused c).Else-not-every_energy) _ c.fill.ensures _ c.price_lines-priced.ensures _ _
+    c.refused-in-Refused.ensures c.in-Refused.is
+
+pub accepted-requires : goal.accepted-requires
+accepted-requires c =
+    let ok = passed_nine (goal.at.accepted-requires c).Else-not-every_energy in
+    let given = c.in_default.is in
+    record {
+      fact_1 = priced_accepted _ (input (goal.at.accepted-requires c).Start) ok _ c.fill.ensures _ c.price_lines-priced.ensures given;
+      fact_2 = priced_power _ (input (goal.at.accepted-requires c).Start) ok _ c.fill.ensures _ c.price_lines-priced.ensures given;
+      fact_3 = c.energies-energies.ensures;
+      fact_4 = ok.lengths.factors;
+      fact_5 = ok.sectored;
+    }
+
+pub returns : goal.returns
+returns c =
+    priced_worked _ (input (goal.at.returns c).Start) (passed_nine (goal.at.returns c).Else-not-every_energy) _ c.fill.ensures _ c.price_lines-priced.ensures
+    c.in_default.is _ c.accepted.ensures
+
+pub values_in_range-requires : goal.values_in_range-requires
+values_in_range-requires c = search rules
+
+pub fill-requires : goal.fill-requires
+fill-requires c = search rules

@@ -1,0 +1,12 @@
+-- The invariant: the energy of the distributors passed.
+use Prim.Native.Nat.{◌-◌}
+use lib.ListN.{get_or}
+use Rattle.numbers.specs.Units.{no_energy}
+use Rattle.numbers.proofs.SumLaws.{Summed}
+use Rattle.fixing.proofs.prices.energy_total.Given as goal
+
+abbrev pub invariant-loop-i : goal.invariant-loop-i
+invariant-loop-i l = Summed l.n (λ j. (get_or l.energies j no_energy).0) l.total l.i
+
+abbrev pub decreases-loop-i : goal.decreases-loop-i
+decreases-loop-i l = l.n - l.i
