@@ -22,7 +22,7 @@ sector charges readings losses i s = charge_at charges i s *ℤ energy_with_loss
 
 abbrev pub invariant-loop-s : goal.invariant-loop-s
 invariant-loop-s l =
-    (l.s ≤ 8) × (l.sum ≡ of_z w64 (signed_sum_below l.s (sector l.charges l.readings l.losses l.i)))
+    (l.s ≤ 8) × (l.sum ≡ signed_sum_below l.s (sector l.charges l.readings l.losses l.i))
 
 abbrev pub decreases-loop-s : goal.decreases-loop-s
 decreases-loop-s l = 8 - l.s
