@@ -1,7 +1,6 @@
 -- The invariant: the sum's bits are those of the sum over the sectors passed.
 use mathlib.Core.Path.{◌≡◌, refl, sym, ◌∙◌, ap}
-use mathlib.Core.List.{List}
-use Prim.Native.Nat.{ℕ, ◌≤◌, ◌<◌, ◌-◌, ◌+◌}
+use Prim.Native.Nat.{ℕ, ◌≤◌, ◌<◌, ◌+◌}
 use lib.IntN.{ℤ, nat_abs, ◌+ℤ◌, ◌*ℤ◌}
 use mir.Syntax.{w64}
 use mir.Val.{SFits, to_z, of_z}
@@ -10,14 +9,13 @@ use Rattle.numbers.specs.Rounding.{half_away}
 use Rattle.numbers.specs.Signed.{signed_sum_below}
 use Rattle.numbers.specs.declared.units.Pesos.{Pesos}
 use Rattle.numbers.proofs.SignedLaws.{size_fits, next_bits, product_bits}
-use Rattle.settlement.specs.Amount.{charge_at, energy_with_losses, collected_amount}
+use Rattle.settlement.specs.Amount.{charge_at, collected_amount}
 use Rattle.settlement.proofs.AmountLaws.{sector_amount, sectors_amount}
 use native.Mathlib.Omega.{arith}
-use borrow.Author.Rules.{rules, sfits_of}
+use borrow.Author.Rules.{sfits_of}
 use Rattle.settlement.proofs.amount.collected_amount.Goals as goal
 use Rattle.settlement.proofs.amount.collected_amount.Invariants.{sector}
 use Rattle.settlement.proofs.amount.collected_amount.Goals.{After-energy_with_losses, After-loop-s, Start}
-
 
 -- the bounds of a distributor's sectors
 module _ (d : Start) where

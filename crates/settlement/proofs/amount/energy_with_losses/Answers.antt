@@ -8,7 +8,7 @@ use lib.IntN.{ℤ, pos, sub_ℕ, nat_abs, ◌+ℤ◌, ◌*ℤ◌}
 use mir.Syntax.{w64}
 use mir.Val.{SFits, to_z, of_z}
 use mir.Facts.{to_z-of_z}
-use borrow.Author.Rules.{rules, sfits_of}
+use borrow.Author.Rules.{sfits_of}
 use Rattle.numbers.specs.Rounding.{half_away}
 use Rattle.numbers.proofs.SignedLaws.{pos_sub_zero, is_fits, sum_bits, product_bits}
 use Rattle.settlement.specs.Amount.{reading_of, high_loss_of, low_loss_of, high_net, low_net, energy_with_losses}

@@ -1,8 +1,7 @@
 -- The invariant: the sizes of those passed are written, 0 for those of the other side.
 use mathlib.Core.Path.{◌≡◌, sym, ◌∙◌, ap}
 use mathlib.Core.Bool.{beq}
-use mathlib.Core.Logic.{⊎_elim}
-use Prim.Native.Nat.{ℕ, ◌≤◌, ◌-◌}
+use Prim.Native.Nat.{ℕ}
 use lib.IntN.{ℤ, nat_abs}
 use mir.Syntax.{w64}
 use mir.Val.{to_z, of_z}
@@ -14,7 +13,7 @@ use Rattle.settlement.specs.Settlement.{owing, owed, side_size}
 use Rattle.settlement.specs.Month.{money_at, sizes_below}
 use Rattle.numbers.proofs.SignedLaws.{part_size, part_none}
 use native.Mathlib.Omega.{arith}
-use borrow.Author.Rules.{rules, sfits_of}
+use borrow.Author.Rules.{sfits_of}
 use Rattle.settlement.proofs.month.side_sizes.Goals as goal
 use Rattle.settlement.proofs.month.side_sizes.Goals.{After-is_negative, then-is_negative-negative, else-is_negative-negative}
 
@@ -44,19 +43,18 @@ magnitude-requires c =
 pub loop-i-preserved : goal.loop-i-preserved
 unfolding sizes_below side_size owing owed
 loop-i-preserved c =
-    let d = (goal.at.loop-i-preserved c).After-is_negative in
-    (
+    let d = (goal.at.loop-i-preserved c).After-is_negative in (
       omega arith,
       elim c.if-is_negative-negative.branch [
-        then-is_negative-negative w ↦
-          w.sizes-is
-          ∙ filled_next most_distributors 0 c.loop-i.i (size d) c.loop-i.sizes _ (omega arith) c.loop-i.invariant.1
-          (w.magnitude.ensures ∙ ap nat_abs (unread d)
-          ∙ part_size c.args.negative (position d) (tested d ∙ w.if-is_negative-negative.true))
+        | then-is_negative-negative w ↦
+            w.sizes-is
+            ∙ filled_next most_distributors 0 c.loop-i.i (size d) c.loop-i.sizes _ (omega arith) c.loop-i.invariant.1
+            (w.magnitude.ensures ∙ ap nat_abs (unread d)
+            ∙ part_size c.args.negative (position d) (tested d ∙ w.if-is_negative-negative.true))
         | else-is_negative-negative w ↦
-          w.sizes-is ∙ c.loop-i.invariant.1
-          ∙ filled_skip most_distributors 0 c.loop-i.i (size d)
-          (part_none c.args.negative (position d) (tested d ∙ w.if-is_negative-negative.false))
+            w.sizes-is ∙ c.loop-i.invariant.1
+            ∙ filled_skip most_distributors 0 c.loop-i.i (size d)
+            (part_none c.args.negative (position d) (tested d ∙ w.if-is_negative-negative.false))
       ],
     )
 
