@@ -1,12 +1,10 @@
 -- The invariant: the readings and loss factors of each distributor passed are allowed.
 use mathlib.Core.Path.{ap₂}
 use mathlib.Core.Bool.{◌&&◌}
-use Prim.Native.Nat.{◌-◌}
 use native.Mathlib.Omega.{arith}
-use borrow.Author.Rules.{rules}
 use Rattle.numbers.proofs.BoolLaws.{told_true, told_false}
-use Rattle.numbers.proofs.TestLaws.{Tested, tested_none, tested_more, tested_fails, tested_all}
-use Rattle.settlement.specs.Amount.{readings_allowed, losses_allowed, billing_in_range}
+use Rattle.numbers.proofs.TestLaws.{tested_none, tested_more, tested_fails, tested_all}
+use Rattle.settlement.specs.Amount.{billing_in_range}
 use Rattle.settlement.proofs.amount.billing_in_range.Goals as goal
 
 pub loop-i-init : goal.loop-i-init

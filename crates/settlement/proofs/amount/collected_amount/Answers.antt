@@ -1,23 +1,21 @@
 -- The invariant: the sum's bits are those of the sum over the sectors passed.
-use mathlib.Core.Path.{◌≡◌, refl, ◌∙◌, ap}
-use mathlib.Core.List.{List}
-use Prim.Native.Nat.{ℕ, ◌≤◌, ◌<◌, ◌-◌, ◌+◌}
+use mathlib.Core.Path.{◌≡◌, refl, sym, ◌∙◌, ap}
+use Prim.Native.Nat.{ℕ, ◌≤◌, ◌<◌, ◌+◌}
 use lib.IntN.{ℤ, nat_abs, ◌+ℤ◌, ◌*ℤ◌}
 use mir.Syntax.{w64}
 use mir.Val.{SFits, to_z, of_z}
-use mir.Facts.{to_z-of_z}
+use mir.Facts.{to_z-of_z, of_z-to_z}
 use Rattle.numbers.specs.Rounding.{half_away}
 use Rattle.numbers.specs.Signed.{signed_sum_below}
 use Rattle.numbers.specs.declared.units.Pesos.{Pesos}
 use Rattle.numbers.proofs.SignedLaws.{size_fits, next_bits, product_bits}
-use Rattle.settlement.specs.Amount.{charge_at, energy_with_losses, collected_amount}
+use Rattle.settlement.specs.Amount.{charge_at, collected_amount}
 use Rattle.settlement.proofs.AmountLaws.{sector_amount, sectors_amount}
 use native.Mathlib.Omega.{arith}
-use borrow.Author.Rules.{rules, sfits_of}
+use borrow.Author.Rules.{sfits_of}
 use Rattle.settlement.proofs.amount.collected_amount.Goals as goal
 use Rattle.settlement.proofs.amount.collected_amount.Invariants.{sector}
 use Rattle.settlement.proofs.amount.collected_amount.Goals.{After-energy_with_losses, After-loop-s, Start}
-
 
 -- the bounds of a distributor's sectors
 module _ (d : Start) where
@@ -54,11 +52,14 @@ module _ (c : After-energy_with_losses) where
       product_bits charge c.energy_with_losses.result charge _ (sfits_of c.charge-1.given)
       (sfits_of c.energy_with_losses.type_inv) refl c.energy_with_losses.ensures
 
+  kept : c.loop-s.sum-bits ≡ of_z w64 (signed_sum_below c.loop-s.s (f (goal.at.overflow_mul-sum c).Start))
+  kept = sym (of_z-to_z c.loop-s.auto.sum) ∙ ap (of_z w64) c.loop-s.invariant.1
+
   next : to_z w64 c.loop-s.sum-bits +ℤ to_z w64
       (of_z w64 (to_z w64 (of_z w64 charge) *ℤ to_z w64 (of_z w64 c.energy_with_losses.result))) ≡ signed_sum_below
       (c.loop-s.s + 1) (f (goal.at.overflow_mul-sum c).Start)
   next =
-      next_bits c.loop-s.sum-bits c.loop-s.s (f (goal.at.overflow_mul-sum c).Start) _ c.loop-s.invariant.1 product (all (goal.at.overflow_mul-sum c).Start c.loop-s.s (omega arith))
+      next_bits c.loop-s.sum-bits c.loop-s.s (f (goal.at.overflow_mul-sum c).Start) _ kept product (all (goal.at.overflow_mul-sum c).Start c.loop-s.s (omega arith))
       (one (goal.at.overflow_mul-sum c).Start c.loop-s.s under)
 
 -- all sectors
@@ -66,8 +67,7 @@ module _ (c : After-loop-s) where
   whole : to_z w64 c.loop-s.sum-bits ≡ signed_sum_below 8 (f (goal.at.half_away-requires c).Start)
   whole =
       let end : c.loop-s.s ≡ 8 = omega arith in
-      ap (to_z w64) c.loop-s.invariant.1 ∙ to_z-of_z (all (goal.at.half_away-requires c).Start c.loop-s.s (omega arith))
-      ∙ ap (λ k. signed_sum_below k (f (goal.at.half_away-requires c).Start)) end
+      c.loop-s.invariant.1 ∙ ap (λ k. signed_sum_below k (f (goal.at.half_away-requires c).Start)) end
 
 pub loop-s-init : goal.loop-s-init
 unfolding signed_sum_below
@@ -80,7 +80,8 @@ pub overflow_add-sum : goal.overflow_add-sum
 overflow_add-sum c = rw (next c) (all (goal.at.overflow_add-sum c).Start (c.loop-s.s + 1) (omega arith))
 
 pub loop-s-preserved : goal.loop-s-preserved
-loop-s-preserved c = (omega arith, ap (of_z w64) (next c))
+loop-s-preserved c =
+    (omega arith, to_z-of_z (overflow_add-sum c) ∙ next c)
 
 pub half_away-requires : goal.half_away-requires
 half_away-requires c = omega (arith, ap nat_abs (whole c), size (goal.at.half_away-requires c).Start 8 (omega arith))

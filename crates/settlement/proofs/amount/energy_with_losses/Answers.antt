@@ -8,7 +8,7 @@ use lib.IntN.{ℤ, pos, sub_ℕ, nat_abs, ◌+ℤ◌, ◌*ℤ◌}
 use mir.Syntax.{w64}
 use mir.Val.{SFits, to_z, of_z}
 use mir.Facts.{to_z-of_z}
-use borrow.Author.Rules.{rules, sfits_of}
+use borrow.Author.Rules.{sfits_of}
 use Rattle.numbers.specs.Rounding.{half_away}
 use Rattle.numbers.proofs.SignedLaws.{pos_sub_zero, is_fits, sum_bits, product_bits}
 use Rattle.settlement.specs.Amount.{reading_of, high_loss_of, low_loss_of, high_net, low_net, energy_with_losses}
@@ -56,7 +56,7 @@ module _ (c : After-difference) where
   high : highCode ≡ highPart
   unfolding high_net
   high =
-      product_bits _ _ _ _ (sfits_of c.difference-high.ok) (sfits_of c.difference.type_inv)
+      product_bits _ _ _ _ (sfits_of c.difference-high.type_inv) (sfits_of c.difference.type_inv)
       (c.difference-high.ensures ∙ ap₂ sub_ℕ c.reading.ensures c.reading-2.ensures)
       (c.difference.ensures ∙ pos_sub_zero _ ∙ ap (λ x. pos (x * 10000)) (highLoss (goal.at.overflow_mul-carried c).After-loss-low_loss))
 
@@ -77,7 +77,7 @@ module _ (c : After-difference-2) where
   low : lowCode ≡ lowPart
   unfolding low_net
   low =
-      product_bits _ _ _ _ (sfits_of c.difference-low.ok) (sfits_of c.difference-2.type_inv)
+      product_bits _ _ _ _ (sfits_of c.difference-low.type_inv) (sfits_of c.difference-2.type_inv)
       (c.difference-low.ensures ∙ ap₂ sub_ℕ c.reading-3.ensures c.reading-4.ensures)
       (c.difference-2.ensures ∙ pos_sub_zero _ ∙ ap₂ (λ x y. pos (x * y)) (highLoss (goal.at.overflow_mul-carried-2 c).After-loss-low_loss)
       (lowLoss (goal.at.overflow_mul-carried-2 c).After-loss-low_loss))
@@ -103,6 +103,7 @@ module _ (c : After-difference-2) where
 
 pub difference-high-requires : goal.difference-high-requires
 difference-high-requires c =
+    let s = (goal.at.difference-high-requires c).Start in
     record {
       fact_1 = small s 0 _ (omega arith) c.reading.ensures;
       fact_2 = small s 1 _ (omega arith) c.reading-2.ensures;
@@ -110,6 +111,7 @@ difference-high-requires c =
 
 pub difference-low-requires : goal.difference-low-requires
 difference-low-requires c =
+    let s = (goal.at.difference-low-requires c).Start in
     record {
       fact_1 = small s 2 _ (omega arith) c.reading-3.ensures;
       fact_2 = small s 3 _ (omega arith) c.reading-4.ensures;

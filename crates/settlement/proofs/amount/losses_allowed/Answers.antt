@@ -1,7 +1,6 @@
 -- The two tests are the definition's.
 use mathlib.Core.Path.{◌∙◌, ap, ap₂}
 use mathlib.Core.Bool.{◌&&◌}
-use borrow.Author.Rules.{rules}
 use Rattle.numbers.specs.Units.{between}
 use Rattle.settlement.specs.Amount.{losses_allowed}
 use Rattle.settlement.proofs.AmountLaws.{high_first}

@@ -1,10 +1,8 @@
 -- The invariant: the readings of each sector passed are allowed.
-use Prim.Native.Nat.{◌-◌}
 use native.Mathlib.Omega.{arith}
-use borrow.Author.Rules.{rules}
 use Rattle.numbers.proofs.BoolLaws.{told_true, told_false}
-use Rattle.numbers.proofs.TestLaws.{Tested, tested_none, tested_more, tested_fails, tested_all}
-use Rattle.settlement.specs.Amount.{sector_allowed, readings_allowed}
+use Rattle.numbers.proofs.TestLaws.{tested_none, tested_more, tested_fails, tested_all}
+use Rattle.settlement.specs.Amount.{readings_allowed}
 use Rattle.settlement.proofs.amount.readings_allowed.Goals as goal
 
 pub loop-s-init : goal.loop-s-init

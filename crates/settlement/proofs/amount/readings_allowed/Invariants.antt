@@ -1,10 +1,7 @@
 -- The invariant: the readings of each sector passed are allowed.
 use Prim.Native.Nat.{◌-◌}
-use native.Mathlib.Omega.{arith}
-use borrow.Author.Rules.{rules}
-use Rattle.numbers.proofs.BoolLaws.{told_true, told_false}
-use Rattle.numbers.proofs.TestLaws.{Tested, tested_none, tested_more, tested_fails, tested_all}
-use Rattle.settlement.specs.Amount.{sector_allowed, readings_allowed}
+use Rattle.numbers.proofs.TestLaws.{Tested}
+use Rattle.settlement.specs.Amount.{sector_allowed}
 use Rattle.settlement.proofs.amount.readings_allowed.Given as goal
 
 abbrev pub invariant-loop-s : goal.invariant-loop-s

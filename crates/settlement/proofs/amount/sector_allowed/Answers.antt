@@ -1,6 +1,4 @@
 -- The four tests are the definition's, at the greatest reading of the sector.
-use native.Mathlib.Omega.{arith}
-use borrow.Author.Rules.{rules}
 use Rattle.numbers.specs.Bounded.{all_below}
 use Rattle.settlement.specs.Amount.{reading_allowed, sector_allowed}
 use Rattle.settlement.proofs.amount.sector_allowed.Goals as goal

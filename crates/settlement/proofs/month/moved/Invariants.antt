@@ -1,17 +1,9 @@
 -- The invariant: the balances and transfers of those passed are written. A position and a transfer together fit.
-use mathlib.Core.Path.{◌≡◌, refl, ◌∙◌, ap₂}
-use Prim.Native.Nat.{ℕ, ◌≤◌, ◌-◌}
+use mathlib.Core.Path.{◌≡◌}
+use Prim.Native.Nat.{◌≤◌, ◌-◌}
 use lib.ListN.{get_or}
-use lib.IntN.{ℤ, sub_ℕ, ◌+ℤ◌}
-use mir.Syntax.{w64}
-use mir.Val.{SFits, to_z, of_z}
-use mir.Facts.{to_z-of_z}
-use Rattle.settlement.specs.Month.{money_at, money_below, moved_month}
-use Rattle.settlement.specs.declared.month.SettledMonth.{SettledMonth}
-use Rattle.numbers.proofs.SignedLaws.{is_fits, sum_bits}
-use Rattle.settlement.proofs.MonthLaws.{money_none, money_next, moved_size}
-use native.Mathlib.Omega.{arith}
-use borrow.Author.Rules.{sfits_of}
+use lib.IntN.{sub_ℕ, ◌+ℤ◌}
+use Rattle.settlement.specs.Month.{money_at, money_below}
 use Rattle.settlement.proofs.month.moved.Given as goal
 
 abbrev pub invariant-loop-i : goal.invariant-loop-i

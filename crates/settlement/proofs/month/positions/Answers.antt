@@ -1,6 +1,6 @@
 -- The invariant: the positions of those passed are written. A balance and an amount together fit.
 use mathlib.Core.Path.{◌≡◌, refl, ◌∙◌, ap}
-use Prim.Native.Nat.{ℕ, ◌≤◌, ◌-◌}
+use Prim.Native.Nat.{ℕ}
 use lib.IntN.{ℤ, ◌+ℤ◌}
 use mir.Syntax.{w64}
 use mir.Val.{SFits, to_z, of_z}
@@ -8,11 +8,11 @@ use mir.Facts.{to_z-of_z}
 use Rattle.numbers.specs.declared.units.Pesos.{Pesos}
 use Rattle.settlement.specs.Amount.{collected_amount}
 use Rattle.settlement.specs.Settlement.{position_of}
-use Rattle.settlement.specs.Month.{money_at, money_below, position_list}
+use Rattle.settlement.specs.Month.{money_at, position_list}
 use Rattle.numbers.proofs.SignedLaws.{is_fits, sum_bits}
 use Rattle.settlement.proofs.MonthLaws.{money_none, money_next, position_size}
 use native.Mathlib.Omega.{arith}
-use borrow.Author.Rules.{rules, sfits_of}
+use borrow.Author.Rules.{sfits_of}
 use Rattle.settlement.proofs.month.positions.Goals as goal
 use Rattle.settlement.proofs.month.positions.Goals.{After-struct_told-in-loop-i-1}
 

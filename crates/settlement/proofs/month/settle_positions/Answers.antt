@@ -1,7 +1,6 @@
 -- The smaller total is what the definition transfers, and the month moved by both sides' shares is the month settled.
 use mathlib.Core.Path.{◌≡◌, ◌∙◌, ap₂}
 use mathlib.Core.Bool.{true, false}
-use mathlib.Core.Logic.{⊎_elim}
 use Prim.Native.Nat.{ℕ, ◌≤◌}
 use native.Mathlib.Omega.{arith}
 use lib.IntN.{ℤ}
@@ -10,9 +9,9 @@ use Rattle.settlement.specs.Settlement.{owing, owed, side_size, transferred}
 use Rattle.settlement.specs.Month.{money_at, share_list, moved_month}
 use Rattle.settlement.specs.Required.{Side}
 use Rattle.settlement.proofs.MonthLaws.{sizes_total, sizes_within, shares_within, moved_settled}
-use borrow.Author.Rules.{rules}
 use Rattle.settlement.proofs.month.settle_positions.Goals as goal
 use Rattle.settlement.proofs.month.settle_positions.Goals.{After-side_sizes-owed, Joined-owing_total-owed_total}
+use Rattle.settlement.proofs.month.settle_positions.Goals.{then-owing_total-owed_total, else-owing_total-owed_total}
 
 -- the two sides
 module _ (c : After-side_sizes-owed) where
@@ -31,7 +30,10 @@ module _ (c : Joined-owing_total-owed_total) where
   position = money_at c.args.positions
 
   least : (c.if-owing_total-owed_total.transferred ≤ c.side_total-owing_total.result) × (c.if-owing_total-owed_total.transferred ≤ c.side_total-owed_total.result)
-  least = ⊎_elim (λ w. omega arith) (λ w. omega arith) c.if-owing_total-owed_total.branch
+  least = elim c.if-owing_total-owed_total.branch [
+    | then-owing_total-owed_total w ↦ omega arith
+    | else-owing_total-owed_total w ↦ omega arith
+  ]
 
   owingTotal : c.side_total-owing_total.result ≡ side_total n (owing position)
   unfolding side_size
@@ -47,7 +49,10 @@ module _ (c : Joined-owing_total-owed_total) where
   smaller : c.if-owing_total-owed_total.transferred ≡ transferred n position
   unfolding transferred
   smaller =
-      ⊎_elim (λ w. omega (arith, owingTotal, owedTotal)) (λ w. omega (arith, owingTotal, owedTotal)) c.if-owing_total-owed_total.branch
+      elim c.if-owing_total-owed_total.branch [
+        | then-owing_total-owed_total w ↦ omega (arith, owingTotal, owedTotal)
+        | else-owing_total-owed_total w ↦ omega (arith, owingTotal, owedTotal)
+      ]
 
 pub side_total-owing_total-requires : goal.side_total-owing_total-requires
 side_total-owing_total-requires c = owingSide (goal.at.side_total-owing_total-requires c).After-side_sizes-owed
@@ -76,9 +81,9 @@ moved-requires c =
     record {
       fact_1 = c.requires;
       fact_2 = shares_within (n (goal.at.moved-requires c).Joined-owing_total-owed_total) _ _ (owingSide (goal.at.moved-requires c).After-side_sizes-owed) (omega (arith, c.side_total-owing_total.ensures, least (goal.at.moved-requires c).Joined-owing_total-owed_total)) _
-            c.shares-paid.ensures;
+          c.shares-paid.ensures;
       fact_3 = shares_within (n (goal.at.moved-requires c).Joined-owing_total-owed_total) _ _ (owedSide (goal.at.moved-requires c).After-side_sizes-owed) (omega (arith, c.side_total-owed_total.ensures, least (goal.at.moved-requires c).Joined-owing_total-owed_total)) _
-            c.shares-received.ensures;
+          c.shares-received.ensures;
     }
 
 pub returns : goal.returns

@@ -1,8 +1,7 @@
 -- The invariant: the sizes of those passed are written, 0 for those of the other side.
 use mathlib.Core.Path.{◌≡◌, sym, ◌∙◌, ap}
 use mathlib.Core.Bool.{beq}
-use mathlib.Core.Logic.{⊎_elim}
-use Prim.Native.Nat.{ℕ, ◌≤◌, ◌-◌}
+use Prim.Native.Nat.{ℕ}
 use lib.IntN.{ℤ, nat_abs}
 use mir.Syntax.{w64}
 use mir.Val.{to_z, of_z}
@@ -14,9 +13,9 @@ use Rattle.settlement.specs.Settlement.{owing, owed, side_size}
 use Rattle.settlement.specs.Month.{money_at, sizes_below}
 use Rattle.numbers.proofs.SignedLaws.{part_size, part_none}
 use native.Mathlib.Omega.{arith}
-use borrow.Author.Rules.{rules, sfits_of}
+use borrow.Author.Rules.{sfits_of}
 use Rattle.settlement.proofs.month.side_sizes.Goals as goal
-use Rattle.settlement.proofs.month.side_sizes.Goals.{After-is_negative}
+use Rattle.settlement.proofs.month.side_sizes.Goals.{After-is_negative, then-is_negative-negative, else-is_negative-negative}
 
 -- the position at hand, and what the test says of it
 module _ (c : After-is_negative) where
@@ -44,18 +43,19 @@ magnitude-requires c =
 pub loop-i-preserved : goal.loop-i-preserved
 unfolding sizes_below side_size owing owed
 loop-i-preserved c =
-    (
+    let d = (goal.at.loop-i-preserved c).After-is_negative in (
       omega arith,
-      ⊎_elim
-          (λ w.
-          w.3
-          ∙ filled_next most_distributors 0 c.loop-i.i (size (goal.at.loop-i-preserved c).After-is_negative) c.loop-i.sizes _ (omega arith) c.loop-i.invariant.1
-          (w.2.ensures ∙ ap nat_abs (unread (goal.at.loop-i-preserved c).After-is_negative) ∙ part_size c.args.negative (position (goal.at.loop-i-preserved c).After-is_negative) (tested (goal.at.loop-i-preserved c).After-is_negative ∙ w.0.taken)))
-          (λ w.
-          w.1 ∙ c.loop-i.invariant.1
-          ∙ filled_skip most_distributors 0 c.loop-i.i (size (goal.at.loop-i-preserved c).After-is_negative)
-          (part_none c.args.negative (position (goal.at.loop-i-preserved c).After-is_negative) (tested (goal.at.loop-i-preserved c).After-is_negative ∙ w.0.left)))
-          c.if-is_negative-negative.branch,
+      elim c.if-is_negative-negative.branch [
+        | then-is_negative-negative w ↦
+            w.sizes-is
+            ∙ filled_next most_distributors 0 c.loop-i.i (size d) c.loop-i.sizes _ (omega arith) c.loop-i.invariant.1
+            (w.magnitude.ensures ∙ ap nat_abs (unread d)
+            ∙ part_size c.args.negative (position d) (tested d ∙ w.if-is_negative-negative.true))
+        | else-is_negative-negative w ↦
+            w.sizes-is ∙ c.loop-i.invariant.1
+            ∙ filled_skip most_distributors 0 c.loop-i.i (size d)
+            (part_none c.args.negative (position d) (tested d ∙ w.if-is_negative-negative.false))
+      ],
     )
 
 pub returns : goal.returns

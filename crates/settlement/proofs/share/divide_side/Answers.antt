@@ -1,9 +1,9 @@
 -- The invariant: floors and remainders of those passed are written; left is the transferred total less these floors.
 use mathlib.Core.Path.{◌≡◌, ◌∙◌, ap}
-use Prim.Native.Nat.{ℕ, ◌≤◌, ◌<◌, ◌-◌, ◌+◌, ◌*◌, ◌/◌, ◌%◌}
+use Prim.Native.Nat.{ℕ, ◌≤◌, ◌<◌, ◌+◌, ◌*◌, ◌/◌, ◌%◌}
 use lib.ListN.{get_or}
 use Rattle.numbers.specs.Sizes.{most_distributors}
-use Rattle.numbers.specs.Bounded.{sum_below, filled_below}
+use Rattle.numbers.specs.Bounded.{sum_below}
 use Rattle.numbers.specs.declared.division.Division.{Division}
 use Rattle.numbers.proofs.SumLaws.{sum_step}
 use Rattle.numbers.proofs.ListLaws.{filled_none, filled_next}

@@ -1,17 +1,15 @@
 -- The invariant: rank is the number of those passed who come before i.
 use mathlib.Core.Path.{◌≡◌, ◌∙◌, ap}
 use mathlib.Core.Bool.{Bool, cond}
-use mathlib.Core.Logic.{⊎_elim}
-use Prim.Native.Nat.{ℕ, ◌-◌, ◌+◌, ◌≤◌}
+use Prim.Native.Nat.{ℕ, ◌+◌, ◌≤◌}
 use lib.ListN.{get_or}
-use Rattle.numbers.proofs.SumLaws.{Summed, summed_none, summed_more, summed_all, sum_le}
+use Rattle.numbers.proofs.SumLaws.{summed_none, summed_more, summed_all, sum_le}
 use Rattle.settlement.specs.Share.{comes_before, rank}
 use Rattle.settlement.proofs.RankLaws.{one_most}
 use native.Mathlib.Omega.{arith}
 use Rattle.settlement.proofs.share.rank_of.Goals as goal
 use Rattle.settlement.proofs.share.rank_of.Invariants.{counted}
-use Rattle.settlement.proofs.share.rank_of.Goals.{After-other-1}
-
+use Rattle.settlement.proofs.share.rank_of.Goals.{After-other-1, then-own-other, else-own-other}
 
 pub loop-j-init : goal.loop-j-init
 loop-j-init c = summed_none _ _
@@ -38,10 +36,11 @@ unfolding comes_before
 loop-j-preserved c =
     let more = summed_more c.loop-j.invariant (omega arith) in
     let counts : Bool → ℕ = λ b. c.loop-j.rank + cond b 1 0 in
-    let grown : c.if-own-other.rank ≡ c.loop-j.rank + one (goal.at.loop-j-preserved c).After-other-1 c.loop-j.j = ⊎_elim
-    (λ w. omega (arith, w.1, ap counts w.0.taken))
-    (λ w. omega (arith, w.1, ap counts w.0.left))
-    c.if-own-other.branch in
+    let grown : c.if-own-other.rank ≡ c.loop-j.rank + one (goal.at.loop-j-preserved c).After-other-1 c.loop-j.j =
+    elim c.if-own-other.branch [
+      | then-own-other w ↦ omega (arith, w.rank-is, ap counts w.if-own-other.true)
+      | else-own-other w ↦ omega (arith, w.rank-is, ap counts w.if-own-other.false)
+    ] in
     record { most = more.most; sum = grown ∙ more.sum }
 
 pub returns : goal.returns

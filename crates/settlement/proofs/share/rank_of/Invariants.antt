@@ -1,13 +1,9 @@
 -- The invariant: rank is the number of those passed who come before i.
-use mathlib.Core.Path.{◌≡◌, ◌∙◌, ap}
-use mathlib.Core.Bool.{Bool, cond}
-use mathlib.Core.Logic.{⊎_elim}
-use Prim.Native.Nat.{ℕ, ◌-◌, ◌+◌, ◌≤◌}
+use mathlib.Core.Bool.{cond}
+use Prim.Native.Nat.{ℕ, ◌-◌}
 use lib.ListN.{get_or}
-use Rattle.numbers.proofs.SumLaws.{Summed, summed_none, summed_more, summed_all, sum_le}
-use Rattle.settlement.specs.Share.{comes_before, rank}
-use Rattle.settlement.proofs.RankLaws.{one_most}
-use native.Mathlib.Omega.{arith}
+use Rattle.numbers.proofs.SumLaws.{Summed}
+use Rattle.settlement.specs.Share.{comes_before}
 use Rattle.settlement.proofs.share.rank_of.Given as goal
 
 -- 1 for each that comes before i

@@ -2,12 +2,10 @@
 -- written.
 use mathlib.Core.Path.{◌≡◌, ◌∙◌, ap}
 use mathlib.Core.Bool.{Bool, true, false, cond}
-use mathlib.Core.Logic.{⊎_elim}
-use Prim.Native.Nat.{ℕ, ◌≤◌, ◌<◌, ◌-◌, ◌+◌}
+use Prim.Native.Nat.{ℕ, ◌≤◌, ◌<◌, ◌+◌}
 use lib.Dec.{ltb}
 use lib.ListN.{get_or}
 use Rattle.numbers.specs.Sizes.{most_distributors}
-use Rattle.numbers.specs.Bounded.{filled_below}
 use Rattle.numbers.proofs.ListLaws.{filled_none, filled_at, filled_next}
 use Rattle.settlement.specs.Share.{side_total, share_floor, share_remainder, pesos_left, rank, odd_peso, share}
 use Rattle.settlement.specs.Settlement.{most_position}
@@ -19,7 +17,7 @@ use Rattle.settlement.proofs.MonthLaws.{shares_whole}
 use native.Mathlib.Omega.{arith}
 use borrow.Author.Tests.{lt-ltb, le-ltb}
 use Rattle.settlement.proofs.share.shares.Goals as goal
-use Rattle.settlement.proofs.share.shares.Goals.{After-rank_of}
+use Rattle.settlement.proofs.share.shares.Goals.{After-rank_of, then-rank_of-divided, else-rank_of-divided}
 
 pub returns-then-transferred-total : goal.returns-then-transferred-total
 returns-then-transferred-total c =
@@ -99,16 +97,24 @@ overflow_add-share c =
 
 pub loop-i-preserved : goal.loop-i-preserved
 loop-i-preserved c =
-    let ranks = rank (n (goal.at.loop-i-preserved c).After-rank_of) (remainder (goal.at.loop-i-preserved c).After-rank_of) (i (goal.at.loop-i-preserved c).After-rank_of) in
-    let pesos = pesos_left (n (goal.at.loop-i-preserved c).After-rank_of) (size (goal.at.loop-i-preserved c).After-rank_of) c.args.transferred in
-    let written : c.if-rank_of-divided.share ≡ share (n (goal.at.loop-i-preserved c).After-rank_of) (size (goal.at.loop-i-preserved c).After-rank_of) c.args.transferred (i (goal.at.loop-i-preserved c).After-rank_of) = ⊎_elim
-    (λ w. w.1 ∙ shared (goal.at.loop-i-preserved c).After-rank_of true (lt-ltb ranks pesos (omega (arith, ranked (goal.at.loop-i-preserved c).After-rank_of, left (goal.at.loop-i-preserved c).After-rank_of, w.0.taken))))
-    (λ w.
-    omega (arith, w.1, shared (goal.at.loop-i-preserved c).After-rank_of false (le-ltb ranks pesos (omega (arith, ranked (goal.at.loop-i-preserved c).After-rank_of, left (goal.at.loop-i-preserved c).After-rank_of, w.0.left)))))
-    c.if-rank_of-divided.branch in (
+    let r = (goal.at.loop-i-preserved c).After-rank_of in
+    let ranks = rank (n r) (remainder r) (i r) in
+    let pesos = pesos_left (n r) (size r) c.args.transferred in
+    let written : c.if-rank_of-divided.share ≡ share (n r) (size r) c.args.transferred (i r) =
+    elim c.if-rank_of-divided.branch [
+      | then-rank_of-divided w ↦
+          w.share-is
+          ∙ shared r true (lt-ltb ranks pesos (omega (arith, ranked r, left r, w.if-rank_of-divided.true)))
+      | else-rank_of-divided w ↦
+          omega (
+            arith,
+            w.share-is,
+            shared r false (le-ltb ranks pesos (omega (arith, ranked r, left r, w.if-rank_of-divided.false))),
+          )
+    ] in (
       omega arith,
-      filled_next most_distributors 0 (i (goal.at.loop-i-preserved c).After-rank_of) (share (n (goal.at.loop-i-preserved c).After-rank_of) (size (goal.at.loop-i-preserved c).After-rank_of) c.args.transferred) c.loop-i.shares _
-          (inside (goal.at.loop-i-preserved c).After-rank_of) c.loop-i.invariant.1 written,
+      filled_next most_distributors 0 (i r) (share (n r) (size r) c.args.transferred) c.loop-i.shares _ (inside r)
+          c.loop-i.invariant.1 written,
     )
 
 pub returns : goal.returns

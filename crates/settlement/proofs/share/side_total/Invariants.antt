@@ -1,10 +1,7 @@
 -- The invariant: the total of the sizes passed.
 use Prim.Native.Nat.{◌-◌}
-use native.Mathlib.Omega.{arith}
 use lib.ListN.{get_or}
-use Rattle.numbers.proofs.SumLaws.{Summed, summed_none, summed_more, summed_all}
-use Rattle.settlement.specs.Share.{side_total}
-use Rattle.settlement.proofs.MonthLaws.{running_most}
+use Rattle.numbers.proofs.SumLaws.{Summed}
 use Rattle.settlement.proofs.share.side_total.Given as goal
 
 abbrev pub invariant-loop-i : goal.invariant-loop-i
