@@ -1,0 +1,100 @@
+-- The machine's products and their sum fit, so they are those of the definition.
+use native.Mathlib.Omega.{arith}
+use mathlib.Core.Path.{◌≡◌, refl, ◌∙◌, ap}
+use Prim.Native.Nat.{◌-◌, ◌*◌, ◌≤◌}
+use lib.IntN.{ℤ, pos, nat_abs, ◌+ℤ◌, ◌*ℤ◌}
+use mir.Syntax.{w64}
+use mir.Val.{to_z, of_z, SFits}
+use mir.Facts.{to_z-of_z}
+use borrow.Author.Rules.{sfits_of}
+use Rattle.numbers.specs.Rounding.{half_away}
+use Rattle.numbers.proofs.SignedLaws.{pos_sub_zero, size_mul_le, is_fits, sum_bits, product_bits}
+use Rattle.settlement.specs.Amount.{most_charge}
+use Rattle.ledger.specs.Billed.{split_charge}
+use Rattle.ledger.proofs.BilledLaws.{weighed_size}
+use Rattle.ledger.proofs.billed.split_charge.Goals as goal
+use Rattle.ledger.proofs.billed.split_charge.Goals.{After-difference, After-difference-2}
+
+-- a value as it is read back from its bits
+abbrev back : ℤ → ℤ
+back z = to_z w64 (of_z w64 z)
+
+-- the old charge by the days before: in the code, and in the definition
+module _ (c : After-difference) where
+  abbrev oldCode : ℤ
+  oldCode = back c.args.old *ℤ back c.difference.result
+
+  abbrev oldPart : ℤ
+  oldPart = c.args.old *ℤ pos c.args.before
+
+  old : oldCode ≡ oldPart
+  old =
+      product_bits _ _ _ _ c.ranges.old (sfits_of c.difference.type_inv) refl
+      (c.difference.ensures ∙ pos_sub_zero c.args.before)
+
+  oldSize : nat_abs oldPart ≤ most_charge * c.args.before
+  oldSize = size_mul_le c.args.old (pos c.args.before) c.requires.fact_3 (omega arith)
+
+  oldFits : SFits w64 oldCode
+  oldFits = is_fits oldCode oldPart old (omega (arith, oldSize, c.requires.fact_1, c.requires.fact_2))
+
+-- the new charge by the days that remain, and the two added up
+module _ (c : After-difference-2) where
+  abbrev newCode : ℤ
+  newCode = back c.args.new *ℤ back c.difference-2.result
+
+  abbrev newPart : ℤ
+  newPart = c.args.new *ℤ pos (c.args.days - c.args.before)
+
+  new : newCode ≡ newPart
+  new =
+      product_bits _ _ _ _ c.ranges.new (sfits_of c.difference-2.type_inv) refl
+      (c.difference-2.ensures ∙ pos_sub_zero (c.args.days - c.args.before))
+
+  newSize : nat_abs newPart ≤ most_charge * (c.args.days - c.args.before)
+  newSize = size_mul_le c.args.new (pos (c.args.days - c.args.before)) c.requires.fact_4 (omega arith)
+
+  newFits : SFits w64 newCode
+  newFits = is_fits newCode newPart new (omega (arith, newSize, c.requires.fact_1))
+
+  abbrev sumCode : ℤ
+  sumCode = back (oldCode (goal.at.overflow_mul-weighed-2 c).After-difference) +ℤ back newCode
+
+  sum : sumCode ≡ oldPart (goal.at.overflow_mul-weighed-2 c).After-difference +ℤ newPart
+  sum = sum_bits (oldCode (goal.at.overflow_mul-weighed-2 c).After-difference) newCode _ _ (oldFits (goal.at.overflow_mul-weighed-2 c).After-difference) newFits (old (goal.at.overflow_mul-weighed-2 c).After-difference) new
+
+  size : nat_abs (oldPart (goal.at.overflow_mul-weighed-2 c).After-difference +ℤ newPart) ≤ most_charge * c.args.days
+  size =
+      weighed_size c.args.days c.args.before c.args.old c.args.new c.requires.fact_2 c.requires.fact_3
+      c.requires.fact_4
+
+  fits : SFits w64 sumCode
+  fits = is_fits sumCode (oldPart (goal.at.overflow_mul-weighed-2 c).After-difference +ℤ newPart) sum (omega (arith, size, c.requires.fact_1))
+
+  weighed : back sumCode ≡ oldPart (goal.at.overflow_mul-weighed-2 c).After-difference +ℤ newPart
+  weighed = to_z-of_z {w = w64} fits ∙ sum
+
+pub difference-requires : goal.difference-requires
+difference-requires c = omega (arith, c.requires.fact_1, c.requires.fact_2)
+
+pub difference-requires-2 : goal.difference-requires-2
+difference-requires-2 c = omega (arith, c.requires.fact_1)
+
+pub overflow_mul-weighed : goal.overflow_mul-weighed
+overflow_mul-weighed c = oldFits c
+
+pub overflow_mul-weighed-2 : goal.overflow_mul-weighed-2
+overflow_mul-weighed-2 c = newFits c
+
+pub overflow_add-weighed : goal.overflow_add-weighed
+overflow_add-weighed c = fits c
+
+pub half_away-requires : goal.half_away-requires
+half_away-requires c =
+    omega (arith, ap nat_abs (weighed c), size c, c.requires.fact_1, c.requires.fact_2)
+
+pub returns : goal.returns
+unfolding split_charge
+returns c =
+    to_z-of_z {w = w64} (sfits_of c.half_away.type_inv) ∙ c.half_away.ensures
+    ∙ ap (λ z. half_away z c.args.days) (weighed (goal.at.returns c).After-difference-2)

@@ -1,0 +1,48 @@
+-- What each call hands back is worked from the parts of its fixing that are worked from energy.
+use mathlib.Core.Path.{◌≡◌, sym, ◌∙◌, ap, ap₂}
+use Rattle.numbers.specs.Refusal.{is_passed}
+use Rattle.numbers.specs.declared.refusal.Verdict.TheVariants.{Passed}
+use Rattle.fixing.specs.Fixing.{fixing_of}
+use Rattle.fixing.proofs.IndependenceLaws.{fixing_same}
+use Rattle.ledger.specs.Ledger.{fixed_ledger}
+use Rattle.ledger.specs.Fix.{FixingCall, fixing_verdict, accepted_answer, fixing_answer}
+use Rattle.ledger.specs.Fix.{fixing_ledger, price_list, fixing_list, HandedBack, FixingAccepted}
+use Rattle.ledger.specs.declared.ledger.Ledger.{Ledger}
+use Rattle.ledger.proofs.CallLaws.{fixing_passed}
+use Rattle.ledger.proofs.FixLaws.{accepted_passed}
+use Rattle.ledger.proofs.fix.prices_independent_of_power.Goals as goal
+
+-- an accepted call
+module _ (ledger : Ledger) (call : FixingCall) (given : HandedBack) (h : FixingAccepted ledger call given) where
+  verdict : fixing_verdict ledger call ≡ Passed
+  verdict = accepted_passed ledger call given h.promise h.number
+
+  answered : given.answer ≡ accepted_answer (fixing_of ledger.n call.input).prices
+  unfolding fixing_answer
+  answered = rw verdict at h.promise.answered
+
+  booked : given.ledger ≡ fixed_ledger ledger call.input.numbers (fixing_of ledger.n call.input).sectors
+  unfolding fixing_ledger
+  booked = rw verdict at h.promise.booked
+
+  listed : given.prices ≡ price_list ledger.n (fixing_of ledger.n call.input)
+  unfolding fixing_list
+  listed = rw verdict at h.promise.listed
+
+pub returns : goal.returns
+unfolding price_list
+returns c ledger one other same first second p q =
+    let alike =
+    fixing_same ledger.n one.input other.input same
+    (fixing_passed ledger one (ap is_passed (verdict ledger one first p))).passed
+    (fixing_passed ledger other (ap is_passed (verdict ledger other second q))).passed in
+    record {
+      answer = answered ledger one first p ∙ ap accepted_answer alike.prices ∙ sym (answered ledger other second q);
+      ledger =
+          booked ledger one first p
+          ∙ ap₂ (fixed_ledger ledger) same.numbers alike.sectors
+          ∙ sym (booked ledger other second q);
+      prices =
+          listed ledger one first p
+          ∙ rw (alike.averages, alike.prices, alike.charges) (sym (listed ledger other second q));
+    }
