@@ -1,7 +1,6 @@
 -- The code is the definition, and a byte of a slice is one.
 use mathlib.Core.Path.{refl}
 use native.Mathlib.Omega.{arith}
-use borrow.Author.Rules.{rules}
 use Rattle.sheet.proofs.number.byte_at.Goals as goal
 
 pub overflow_cast-result : goal.overflow_cast-result

@@ -1,6 +1,5 @@
 -- Four bytes are below 2^32, so nothing is cut off.
 use native.Mathlib.Omega.{arith}
-use borrow.Author.Rules.{rules}
 use Rattle.sheet.specs.Number.{number_at}
 use Rattle.sheet.proofs.number.number_at.Goals as goal
 

@@ -4,7 +4,6 @@ use mathlib.Core.List.{List, [], ◌∷◌, ◌++◌}
 use Prim.Native.Nat.{ℕ, ◌/◌, ◌%◌, ◌≤◌}
 use native.Mathlib.Omega.{arith}
 use lib.ListN.{length, drop, set, length-set}
-use borrow.Author.Rules.{rules}
 use Rattle.sheet.specs.Number.{number_bytes}
 use Rattle.sheet.proofs.number.write_number.Goals as goal
 

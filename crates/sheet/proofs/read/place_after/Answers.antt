@@ -1,7 +1,6 @@
 -- A reading that is absent, cut off, zero, or none of these.
 use mathlib.Core.Path.{◌≡◌, refl, ap}
 use native.Mathlib.Omega.{arith}
-use borrow.Author.Rules.{rules}
 use Rattle.sheet.specs.declared.read.Place.TheVariants.{At}
 use Rattle.sheet.proofs.ReadLaws.{absent_passes, short_refused, zero_refused, present_passes}
 use Rattle.sheet.proofs.read.place_after.Goals as goal

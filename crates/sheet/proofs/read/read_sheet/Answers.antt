@@ -2,7 +2,6 @@
 use mathlib.Core.Path.{◌≡◌, sym, ◌∙◌}
 use mathlib.Core.Bool.{true}
 use native.Mathlib.Omega.{arith}
-use borrow.Author.Rules.{rules}
 use Rattle.numbers.specs.Sizes.{most_distributors}
 use Rattle.numbers.specs.Units.{between}
 use Rattle.numbers.proofs.BoolLaws.{told_true, told_false}

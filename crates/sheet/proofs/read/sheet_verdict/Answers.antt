@@ -1,8 +1,6 @@
 -- The invariant: the map of distributor i stands within the sheet, and the checks before it pass.
-use Prim.Native.Nat.{◌-◌}
 use native.Mathlib.Omega.{arith}
-use borrow.Author.Rules.{rules}
-use Rattle.sheet.proofs.ReadLaws.{SheetChecked, sheet_none, sheet_more, sheet_wrong, sheet_left, sheet_all}
+use Rattle.sheet.proofs.ReadLaws.{sheet_none, sheet_more, sheet_wrong, sheet_left, sheet_all}
 use Rattle.sheet.proofs.read.sheet_verdict.Goals as goal
 
 pub returns-in-Wrong : goal.returns-in-Wrong

@@ -16,7 +16,6 @@ use Rattle.sheet.proofs.read.write_all.Goals as goal
 use Rattle.sheet.proofs.read.write_all.Invariants.{own}
 use Rattle.sheet.proofs.read.write_all.Goals.{At-loop-i, In-loop-i}
 
-
 done_length : (sheet : List ℕ) (i : ℕ) → length (join_below i (own sheet)) ≡ i * distributor_readings
 done_length sheet i =
     join_length (own sheet) i distributor_readings

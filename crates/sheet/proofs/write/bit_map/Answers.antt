@@ -1,9 +1,7 @@
 -- The invariant: the bits of the readings passed are added, each at its power of two.
-use Prim.Native.Nat.{◌*◌, ◌-◌, ◌^◌, ◌≤◌}
+use Prim.Native.Nat.{◌*◌, ◌^◌, ◌≤◌}
 use native.Mathlib.Omega.{arith}
-use borrow.Author.Rules.{rules}
-use Rattle.numbers.specs.Sizes.{distributor_readings}
-use Rattle.sheet.proofs.WriteLaws.{BitsAdded, bits_none, bits_more, bits_all, power_most, product_most, map_most}
+use Rattle.sheet.proofs.WriteLaws.{bits_none, bits_more, bits_all, power_most, product_most, map_most}
 use Rattle.sheet.proofs.write.bit_map.Goals as goal
 use Rattle.sheet.proofs.write.bit_map.Goals.{After-presence_bit}
 

@@ -1,6 +1,5 @@
 -- The code is the definition.
 use mathlib.Core.Path.{refl}
-use borrow.Author.Rules.{rules}
 use Rattle.sheet.specs.Write.{write_lengths}
 use Rattle.sheet.proofs.write.lengths_right.Goals as goal
 

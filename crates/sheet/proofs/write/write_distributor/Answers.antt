@@ -4,7 +4,6 @@ use mathlib.Core.List.{List, ◌++◌}
 use Prim.Native.Nat.{ℕ, ◌-◌, ◌≤◌}
 use native.Mathlib.Omega.{arith}
 use lib.ListN.{length, drop, length-append}
-use borrow.Author.Rules.{rules}
 use borrow.Rule.Slice.PartMut.{mid_len, put_mid}
 use Rattle.numbers.specs.Sizes.{distributor_readings}
 use Rattle.sheet.specs.Number.{number_size, number_bytes}
@@ -16,12 +15,16 @@ use Rattle.sheet.proofs.WriteLaws.{before_most, distributor_most}
 use Rattle.sheet.proofs.write.write_distributor.Goals as goal
 use Rattle.sheet.proofs.write.write_distributor.Goals.{After-write_number, After-write_present}
 
+-- the bytes of the map
+abbrev map : List ℕ → List ℕ
+map readings = number_bytes (bit_map readings)
+
 -- the bytes after the map
 module _ (w : After-write_number) where
-  abbrev map : List ℕ
-  map = number_bytes (bit_map w.args.readings.now)
+  abbrev m : List ℕ
+  m = map w.args.readings.now
 
-  front : w.write_number.new.into ≡ map ++ drop (length map) w.args.into.now
+  front : w.write_number.new.into ≡ m ++ drop (length m) w.args.into.now
   unfolding number_bytes
   front =
       w.write_number.ensures
@@ -29,7 +32,7 @@ module _ (w : After-write_number) where
 
   long : length w.write_number.new.into ≡ length w.args.into.now
   long =
-      front_long map w.args.into.now front
+      front_long m w.args.into.now front
       (omega (arith, number_size_lem (bit_map w.args.readings.now), w.requires.fact_2))
 
   room : 132 ≤ length w.write_number.new.into
@@ -54,37 +57,40 @@ module _ (p : After-write_present) where
   abbrev readings : List ℕ
   readings = p.args.readings.now
 
-  whole : put_mid 4 (length now - 4) now p.write_present.new.into
-      ≡ (map p.before.before.before.before.before ++ present_bytes readings) ++ drop (length (map p.before.before.before.before.before ++ present_bytes readings)) p.args.into.now
+  whole : now ≡ map readings ++ drop (length (map readings)) p.args.into.now →
+      put_mid 4 (length now - 4) now p.write_present.new.into
+      ≡ (map readings ++ present_bytes readings) ++ drop (length (map readings ++ present_bytes readings)) p.args.into.now
   unfolding written_first
-  whole =
+  whole f =
       ap (put_mid 4 (length now - 4) now) p.write_present.ensures.listed
-      ∙ front_onto (map p.before.before.before.before.before) p.args.into.now (front p.before.before.before.before.before) (present_bytes readings) 4 (length now - 4)
+      ∙ front_onto (map readings) p.args.into.now f (present_bytes readings) 4 (length now - 4)
       (omega (arith, number_size_lem (bit_map readings))) refl
 
 pub overflow_add-result : goal.overflow_add-result
 overflow_add-result c =
-    omega (arith, c.write_present.ensures.sized, before_most (readings (goal.at.overflow_add-result c).After-write_present) distributor_readings)
+    omega (arith, c.write_present.ensures.sized, before_most c.args.readings.now distributor_readings)
 
 pub shape_of-into : goal.shape_of-into
 unfolding distributor_bytes
 shape_of-into c =
-    ap length (whole (goal.at.shape_of-into c).After-write_present)
-    ∙ front_long (map (goal.at.shape_of-into c).After-write_number ++ present_bytes (readings (goal.at.shape_of-into c).After-write_present)) c.args.into.now refl
-    (omega (arith, distributor_most (readings (goal.at.shape_of-into c).After-write_present), c.requires.fact_2))
+    let readings = c.args.readings.now in
+    ap length (whole (goal.at.shape_of-into c).After-write_present (front (goal.at.shape_of-into c).After-write_number))
+    ∙ front_long (map readings ++ present_bytes readings) c.args.into.now refl
+    (omega (arith, distributor_most readings, c.requires.fact_2))
 
 pub returns : goal.returns
 unfolding distributor_bytes written_first
 returns c =
+    let readings = c.args.readings.now in
     record {
       sized =
           omega (
             arith,
             c.write_present.ensures.sized,
-            number_size_lem (bit_map (readings (goal.at.returns c).After-write_present)),
-            length-append (map (goal.at.returns c).After-write_number) (present_bytes (readings (goal.at.returns c).After-write_present)),
+            number_size_lem (bit_map readings),
+            length-append (map readings) (present_bytes readings),
           );
-      listed = whole (goal.at.returns c).After-write_present;
+      listed = whole (goal.at.returns c).After-write_present (front (goal.at.returns c).After-write_number);
     }
 
 pub slice_bounds-write_present-count : goal.slice_bounds-write_present-count

@@ -51,13 +51,13 @@ write_distributor-at-requires c =
 -- what was written of one distributor more
 module _ (w : After-write_distributor-at) where
   abbrev bytes : List ℕ
-  bytes = distributor_bytes (readings_of (readings w.before.before.before.before.before) w.loop-i.i)
+  bytes = distributor_bytes (readings_of w.args.readings.now w.loop-i.i)
 
-  own : take (w.loop-i.i * 32 + 32 - w.loop-i.i * 32) (drop (w.loop-i.i * 32) (readings w.before.before.before.before.before))
-      ≡ readings_of (readings w.before.before.before.before.before) w.loop-i.i
+  own : take (w.loop-i.i * 32 + 32 - w.loop-i.i * 32) (drop (w.loop-i.i * 32) w.args.readings.now)
+      ≡ readings_of w.args.readings.now w.loop-i.i
   own =
       let size : w.loop-i.i * 32 + 32 - w.loop-i.i * 32 ≡ distributor_readings = omega arith in
-      ap (λ k. take k (drop (w.loop-i.i * 32) (readings w.before.before.before.before.before))) size
+      ap (λ k. take k (drop (w.loop-i.i * 32) w.args.readings.now)) size
 
   written : FirstWritten bytes
       (take (length w.loop-i.buffer - w.loop-i.at) (drop w.loop-i.at w.loop-i.buffer))

@@ -1,6 +1,5 @@
 -- Whether the reading is zero picks its bytes, as in the definition.
 use mathlib.Core.Path.{refl}
-use borrow.Author.Rules.{rules}
 use borrow.Author.Tests.{ne_eqb}
 use Rattle.sheet.specs.Number.{number_bytes}
 use Rattle.sheet.specs.Sheet.{reading_bytes}

@@ -1,7 +1,6 @@
 -- The checks in their order, then the sheet of readings that pass.
 use mathlib.Core.Path.{◌≡◌}
 use mathlib.Core.Bool.{true}
-use borrow.Author.Rules.{rules}
 use Rattle.numbers.specs.Sizes.{most_distributors}
 use Rattle.numbers.specs.Units.{between}
 use Rattle.numbers.specs.declared.refusal.Verdict.TheVariants.{Passed}
@@ -26,7 +25,8 @@ measured e = told_true e.lengths_right.ensures e.if-not-lengths_right.false-raw
 passed : (e : Else-not-all_between) →
     write_verdict e.args.n e.args.readings.now e.args.buffer.now ≡ Passed
 passed e =
-    write_passes _ _ _ (counted e.before.before.before.before.before) (measured e.before.before.before)
+    write_passes _ _ _ (told_true e.is_between.ensures e.if-not-is_between.false-raw)
+    (told_true e.lengths_right.ensures e.if-not-lengths_right.false-raw)
     (told_true e.all_between.ensures e.if-not-all_between.false-raw)
 
 pub returns-then-not-is_between : goal.returns-then-not-is_between
