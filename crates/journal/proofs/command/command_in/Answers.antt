@@ -1,11 +1,8 @@
 -- The invariant: the token's command is among the rows from k on.
-use mathlib.Core.Path.{◌≡◌, refl, sym, ◌∙◌}
-use Prim.Native.Nat.{◌≤◌, ◌-◌}
+use mathlib.Core.Path.{refl, sym, ◌∙◌}
 use native.Mathlib.Omega.{arith}
-use lib.ListN.{drop}
-use Rattle.journal.specs.Command.{command_rows, command_among}
+use Rattle.journal.specs.Command.{command_rows}
 use Rattle.journal.proofs.CommandLaws.{among_here, among_on, among_none}
-use borrow.Author.Rules.{rules}
 use Rattle.journal.proofs.command.command_in.Goals as goal
 
 pub loop-k-init : goal.loop-k-init
@@ -19,14 +16,13 @@ returns-then-is_name c =
     ∙ c.loop-k.invariant.2)
 
 pub loop-k-preserved : goal.loop-k-preserved
-loop-k-preserved c =
-    (
-      omega arith,
-      c.loop-k.invariant.1,
-      among_on _ _ command_rows c.loop-k.k (omega arith)
-          (rw c.loop-k.invariant.1 at (sym c.is_name.ensures) ∙ c.if-is_name.false)
-          ∙ c.loop-k.invariant.2,
-    )
+loop-k-preserved c = (
+  omega arith,
+  c.loop-k.invariant.1,
+  among_on _ _ command_rows c.loop-k.k (omega arith)
+      (rw c.loop-k.invariant.1 at (sym c.is_name.ensures) ∙ c.if-is_name.false)
+      ∙ c.loop-k.invariant.2,
+)
 
 pub returns : goal.returns
 returns c =

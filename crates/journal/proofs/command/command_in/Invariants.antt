@@ -1,11 +1,8 @@
 -- The invariant: the token's command is among the rows from k on.
-use mathlib.Core.Path.{◌≡◌, refl, sym, ◌∙◌}
+use mathlib.Core.Path.{◌≡◌}
 use Prim.Native.Nat.{◌≤◌, ◌-◌}
-use native.Mathlib.Omega.{arith}
 use lib.ListN.{drop}
 use Rattle.journal.specs.Command.{command_rows, command_among}
-use Rattle.journal.proofs.CommandLaws.{among_here, among_on, among_none}
-use borrow.Author.Rules.{rules}
 use Rattle.journal.proofs.command.command_in.Given as goal
 
 abbrev pub invariant-loop-k : goal.invariant-loop-k

@@ -1,6 +1,5 @@
 -- By whether it is an interim one.
 use mathlib.Core.Path.{refl}
-use borrow.Author.Rules.{rules}
 use Rattle.journal.proofs.command.fixing_form.Goals as goal
 
 pub returns-then-is_interim : goal.returns-then-is_interim

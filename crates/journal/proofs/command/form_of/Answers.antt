@@ -1,5 +1,4 @@
 -- Each arm is the form of its command.
-use borrow.Author.Rules.{rules}
 use Rattle.journal.proofs.command.form_of.Goals as goal
 
 pub returns-in-Fix : goal.returns-in-Fix

@@ -2,14 +2,13 @@
 use mathlib.Core.Path.{sym, ◌∙◌}
 use Rattle.journal.proofs.TokenLaws.{token_ordered, token_within}
 use Rattle.journal.proofs.CursorLaws.{word_after_broken, word_after_same, word_after_other}
-use borrow.Author.Rules.{rules}
 use Rattle.journal.proofs.cursor.next_name.Goals as goal
 
 pub returns-then-cursor : goal.returns-then-cursor
 returns-then-cursor c = word_after_broken _ _ c.if-cursor.true _
 
 pub is_name-requires : goal.is_name-requires
-is_name-requires c = rw c.next_token-token.ensures (token_ordered _ _, token_within _ _)
+is_name-requires c = rw c.next_token-token.ensures (record { fact_1 = token_ordered _ _; fact_2 = token_within _ _ })
 
 pub returns-then-is_name : goal.returns-then-is_name
 returns-then-is_name c =

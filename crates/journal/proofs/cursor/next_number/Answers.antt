@@ -2,14 +2,13 @@
 use mathlib.Core.Path.{◌∙◌}
 use Rattle.journal.proofs.TokenLaws.{token_ordered, token_within}
 use Rattle.journal.proofs.CursorLaws.{number_after_broken, number_after_token}
-use borrow.Author.Rules.{rules}
 use Rattle.journal.proofs.cursor.next_number.Goals as goal
 
 pub returns-then-cursor : goal.returns-then-cursor
 returns-then-cursor c = number_after_broken _ _ c.if-cursor.true _ _
 
 pub read_token-requires : goal.read_token-requires
-read_token-requires c = rw c.next_token-token.ensures (token_ordered _ _, token_within _ _)
+read_token-requires c = rw c.next_token-token.ensures (record { fact_1 = token_ordered _ _; fact_2 = token_within _ _ })
 
 pub returns : goal.returns
 returns c =

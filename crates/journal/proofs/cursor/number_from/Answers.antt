@@ -1,10 +1,8 @@
 -- A number of at most the most is read; a larger one and an unreadable token are not.
-use mathlib.Core.Logic.{⊎_elim}
 use mathlib.Core.Path.{refl}
-use native.Mathlib.Omega.{arith}
-use borrow.Author.Rules.{rules}
 use borrow.Author.Tests.{le-leb, lt-leb}
 use Rattle.journal.proofs.cursor.number_from.Goals as goal
+use Rattle.journal.proofs.cursor.number_from.Goals.{in-Number+else-value-most, in_default}
 
 pub returns-then-value-most : goal.returns-then-value-most
 returns-then-value-most c =
@@ -12,11 +10,8 @@ returns-then-value-most c =
 
 pub returns : goal.returns
 returns c =
-    ⊎_elim
-    (λ w. rw (
-      w.1.given.1,
-      lt-leb w.1.given.0.0 c.args.most (omega (arith, w.3.left)),
-      c.broken_at-next.ensures,
-    ) refl)
-    (λ w. rw (w.1.given.1, c.broken_at-next.ensures) refl)
-    c.in-Number.in-Number-own.branch
+    elim c.match-reading.branch [
+      | in-Number+else-value-most w ↦
+          rw (w.in-Number.is, lt-leb _ _ w.if-value-most.false, c.broken_at-next.ensures) refl
+      | in_default w ↦ rw (w.in_default.is, c.broken_at-next.ensures) refl
+    ]

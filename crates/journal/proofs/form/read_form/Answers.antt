@@ -1,12 +1,11 @@
 -- The invariant: the first k parts are read, each list where the longest ones before it would end.
 use mathlib.Core.Path.{refl, ◌∙◌, ap}
-use Prim.Native.Nat.{◌+◌, ◌*◌, ◌-◌, ◌^◌, ◌≤◌, ◌<◌}
+use Prim.Native.Nat.{◌+◌, ◌*◌, ◌^◌, ◌≤◌, ◌<◌}
 use native.Mathlib.Omega.{arith}
 use lib.ListN.{length}
 use borrow.Rule.Slice.PartMut.{mid_len}
-use Rattle.journal.proofs.FormLaws.{FormSoFar, form_none, form_fits, few_words, form_more}
+use Rattle.journal.proofs.FormLaws.{form_none, form_fits, few_words, form_more}
 use Rattle.journal.proofs.FormLaws.{form_whole}
-use borrow.Author.Rules.{rules}
 use Rattle.journal.proofs.form.read_form.Goals as goal
 use Rattle.journal.proofs.form.read_form.Goals.{After-room_of, At-loop-k}
 

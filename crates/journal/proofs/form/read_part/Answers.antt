@@ -4,7 +4,6 @@ use mathlib.Core.List.{[]}
 use Rattle.journal.specs.Form.{part_read}
 use Rattle.journal.specs.declared.form.Kind.TheVariants.{Nothing, Number, List as Words, Signed, Length}
 use Rattle.journal.proofs.FormLaws.{follows, follows_list}
-use borrow.Author.Rules.{rules}
 use Rattle.journal.proofs.form.read_part.Goals as goal
 
 pub returns-in-Nothing : goal.returns-in-Nothing

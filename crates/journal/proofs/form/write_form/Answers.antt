@@ -1,12 +1,9 @@
 -- The invariant: the name and the first k parts are written.
 use mathlib.Core.Path.{◌≡◌, refl, sym, ◌∙◌, ap}
-use Prim.Native.Nat.{◌-◌, ◌≤◌}
 use native.Mathlib.Omega.{arith}
-use lib.ListN.{length}
-use Rattle.text.specs.Text.{text_below}
 use Rattle.text.specs.Buffer.{buffer_of, written}
 use Rattle.text.proofs.BufferLaws.{texts_none, texts_more, written_after, after_byte}
-use Rattle.journal.specs.Form.{part_at, held_in, held_of, number_of, parts_in, part_text, form_text}
+use Rattle.journal.specs.Form.{part_at, held_of, number_of, part_text, form_text}
 use Rattle.journal.proofs.FormLaws.{part_held, part_lies}
 use borrow.Author.Rules.{rules}
 use Rattle.journal.proofs.form.write_form.Goals as goal

@@ -1,7 +1,6 @@
 -- A line end, the name, the number, then the words.
 use Rattle.journal.specs.Form.{list_text}
 use Rattle.text.proofs.BufferLaws.{written_after, byte_after}
-use borrow.Author.Rules.{rules}
 use Rattle.journal.proofs.form.write_list.Goals as goal
 
 pub returns : goal.returns

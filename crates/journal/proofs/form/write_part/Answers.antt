@@ -1,7 +1,6 @@
 -- By the kind of the part.
 use Rattle.text.specs.Buffer.{written}
 use Rattle.journal.specs.Form.{part_text}
-use borrow.Author.Rules.{rules}
 use Rattle.journal.proofs.form.write_part.Goals as goal
 
 pub returns-in-Nothing : goal.returns-in-Nothing

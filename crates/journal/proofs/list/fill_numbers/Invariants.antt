@@ -1,13 +1,9 @@
 -- The invariant: the list keeps its length, its first k words are the numbers read, and the cursor is past them.
-use mathlib.Core.Path.{◌≡◌, refl}
+use mathlib.Core.Path.{◌≡◌}
 use Prim.Native.Nat.{◌≤◌, ◌-◌}
-use native.Mathlib.Omega.{arith}
-use lib.ListN.{length, take, length-set}
+use lib.ListN.{length, take}
 use Rattle.numbers.specs.Bounded.{list_below}
-use Rattle.numbers.proofs.ListLaws.{list_none, list_more, list_done}
 use Rattle.journal.specs.List.{cursor_after, number_at}
-use Rattle.journal.proofs.ListLaws.{cursor_none, cursor_next, number_here}
-use borrow.Author.Rules.{rules}
 use Rattle.journal.proofs.list.fill_numbers.Given as goal
 
 abbrev pub invariant-loop-k : goal.invariant-loop-k

@@ -1,6 +1,5 @@
 -- The name, then the number.
 use Rattle.journal.proofs.ListLaws.{count_read}
-use borrow.Author.Rules.{rules}
 use Rattle.journal.proofs.list.read_count.Goals as goal
 
 pub returns : goal.returns

@@ -1,7 +1,6 @@
 -- A size below 2^63 is the number, a greater one does not fit.
 use native.Mathlib.Omega.{arith}
 use Rattle.journal.proofs.SignedLaws.{above_small, above_large}
-use borrow.Author.Rules.{rules}
 use Rattle.journal.proofs.number.above_zero.Goals as goal
 
 pub returns-then-size-lt9223372036854775808 : goal.returns-then-size-lt9223372036854775808

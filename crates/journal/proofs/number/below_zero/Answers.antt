@@ -1,7 +1,6 @@
 -- A size up to 2^63 is the word of the number below zero, a greater one does not fit.
 use native.Mathlib.Omega.{arith}
 use Rattle.journal.proofs.SignedLaws.{below_none, below_small, below_large}
-use borrow.Author.Rules.{rules}
 use Rattle.journal.proofs.number.below_zero.Goals as goal
 
 pub returns-then-size-eq0 : goal.returns-then-size-eq0

@@ -1,7 +1,6 @@
 -- Each way out is the definition at the test that led there.
 use borrow.Author.Tests.{lt-ltb, le-ltb}
 use Rattle.journal.specs.Number.{is_minus}
-use borrow.Author.Rules.{rules}
 use Rattle.journal.proofs.number.is_minus.Goals as goal
 
 pub returns-then-start-end : goal.returns-then-start-end

@@ -1,8 +1,7 @@
 -- The invariant: the bytes passed are read.
 use mathlib.Core.Path.{◌≡◌, refl, ◌∙◌}
-use Prim.Native.Nat.{◌≤◌, ◌-◌}
+use Prim.Native.Nat.{◌-◌}
 use native.Mathlib.Omega.{arith}
-use borrow.Author.Rules.{rules}
 use borrow.Author.Tests.{lt-ltb, le-ltb}
 use Rattle.journal.specs.Number.{digits_read, number_in}
 use Rattle.journal.proofs.NumberLaws.{read_next}

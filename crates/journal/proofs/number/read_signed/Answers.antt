@@ -3,7 +3,6 @@ use mathlib.Core.Path.{sym, ◌∙◌, ap}
 use native.Mathlib.Omega.{arith}
 use Rattle.journal.specs.Number.{above_zero, below_zero}
 use Rattle.journal.proofs.SignedLaws.{minus_some, signed_minus, signed_plain}
-use borrow.Author.Rules.{rules}
 use Rattle.journal.proofs.number.read_signed.Goals as goal
 
 pub read_number-requires : goal.read_number-requires

@@ -1,6 +1,5 @@
 -- By whether the number is signed.
 use Rattle.journal.specs.Number.{reading_in}
-use borrow.Author.Rules.{rules}
 use Rattle.journal.proofs.number.read_token.Goals as goal
 
 pub returns-then-signed : goal.returns-then-signed

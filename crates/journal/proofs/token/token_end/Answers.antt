@@ -1,9 +1,8 @@
 -- The invariant: the end sought from here is the token's.
 use mathlib.Core.Path.{◌≡◌, refl, sym, ◌∙◌}
-use Prim.Native.Nat.{◌≤◌, ◌-◌}
+use Prim.Native.Nat.{◌-◌}
 use native.Mathlib.Omega.{arith}
 use lib.ListN.{length}
-use borrow.Author.Rules.{rules}
 use Rattle.journal.specs.Token.{end_from, token_end}
 use Rattle.journal.proofs.TokenLaws.{end_here, end_on}
 use Rattle.journal.proofs.token.token_end.Goals as goal
@@ -18,12 +17,11 @@ returns-then-ends_token c =
     (sym c.ends_token.ensures ∙ c.if-ends_token.true)) ∙ c.loop-k.invariant.1
 
 pub loop-k-preserved : goal.loop-k-preserved
-loop-k-preserved c =
-    (
-      omega arith,
-      sym (end_on c.args.text.now c.loop-k.k (omega arith) (sym c.ends_token.ensures ∙ c.if-ends_token.false))
-          ∙ c.loop-k.invariant.1,
-    )
+loop-k-preserved c = (
+  omega arith,
+  sym (end_on c.args.text.now c.loop-k.k (omega arith) (sym c.ends_token.ensures ∙ c.if-ends_token.false))
+      ∙ c.loop-k.invariant.1,
+)
 
 pub returns : goal.returns
 unfolding end_from

@@ -1,11 +1,8 @@
 -- The invariant: the end sought from here is the token's.
-use mathlib.Core.Path.{◌≡◌, refl, sym, ◌∙◌}
+use mathlib.Core.Path.{◌≡◌}
 use Prim.Native.Nat.{◌≤◌, ◌-◌}
-use native.Mathlib.Omega.{arith}
 use lib.ListN.{length}
-use borrow.Author.Rules.{rules}
 use Rattle.journal.specs.Token.{end_from, token_end}
-use Rattle.journal.proofs.TokenLaws.{end_here, end_on}
 use Rattle.journal.proofs.token.token_end.Given as goal
 
 abbrev pub invariant-loop-k : goal.invariant-loop-k

@@ -1,11 +1,9 @@
 -- The invariant: the start sought from here, in a comment or not, is the next token's.
 use mathlib.Core.Path.{◌≡◌, refl, sym, ◌∙◌, ap}
 use mathlib.Core.Bool.{Bool, ◌||◌}
-use Prim.Native.Nat.{◌≤◌, ◌-◌}
+use Prim.Native.Nat.{◌-◌}
 use native.Mathlib.Omega.{arith}
 use lib.ListN.{length}
-use borrow.Author.Rules.{rules}
-use borrow.Author.Tests.{not-true, not-false}
 use Rattle.journal.specs.Token.{byte_at, ends_token, start_from, token_start}
 use Rattle.journal.proofs.TokenLaws.{start_here, start_on}
 use Rattle.journal.proofs.token.token_start.Goals as goal
@@ -25,7 +23,7 @@ pub returns-then-not-skipped : goal.returns-then-not-skipped
 returns-then-not-skipped c =
     let text = c.args.text.now in
     sym (start_here text c.loop-k.k c.loop-k.comment (length text - c.loop-k.k)
-    (sym (skipped (goal.at.returns-then-not-skipped c).After-ends_token) ∙ not-true _ c.if-not-skipped.true-raw))
+    (sym (skipped (goal.at.returns-then-not-skipped c).After-ends_token) ∙ c.if-not-skipped.true))
     ∙ c.loop-k.invariant.1
 
 pub loop-k-preserved : goal.loop-k-preserved
@@ -34,7 +32,7 @@ loop-k-preserved c =
       omega arith,
       rw c.comment_after-comment.ensures
           (sym (start_on text c.loop-k.k c.loop-k.comment (omega arith)
-          (sym (skipped (goal.at.loop-k-preserved c).After-ends_token) ∙ not-false _ c.if-not-skipped.false-raw))
+          (sym (skipped (goal.at.loop-k-preserved c).After-ends_token) ∙ c.if-not-skipped.false))
           ∙ c.loop-k.invariant.1),
     )
 

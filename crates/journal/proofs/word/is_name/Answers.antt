@@ -15,6 +15,6 @@ slice_bounds-is_word-end c = simp length-take (omega (arith, name_size c.args.na
 
 pub returns : goal.returns
 returns c =
-    c.is_IsWord.ensures
+    c.is_word.ensures
     ∙ ap (is_word c.args.text.now c.args.start c.args.end)
     (rw c.name_size-size.ensures (name_first c.args.name (search rules)))

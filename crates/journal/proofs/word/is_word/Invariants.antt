@@ -1,11 +1,8 @@
 -- The invariant: the bytes passed are the word's.
 use Prim.Native.Nat.{◌-◌}
-use native.Mathlib.Omega.{arith}
 use lib.ListN.{length}
-use borrow.Author.Rules.{rules}
-use borrow.Author.Tests.{eq-eqb, ne_eqb}
-use Rattle.numbers.proofs.TestLaws.{Tested, tested_none, tested_more, tested_fails, tested_all}
-use Rattle.journal.specs.Word.{same_byte, is_word}
+use Rattle.numbers.proofs.TestLaws.{Tested}
+use Rattle.journal.specs.Word.{same_byte}
 use Rattle.journal.proofs.word.is_word.Given as goal
 
 abbrev pub invariant-loop-k : goal.invariant-loop-k
