@@ -1,0 +1,17 @@
+-- The invariant: the first i words are those of the balances.
+use mathlib.Core.Path.{refl}
+use Prim.Native.Nat.{◌-◌}
+use native.Mathlib.Omega.{arith}
+use mir.Facts.{to_z-of_z}
+use borrow.Author.Rules.{rules, sfits_of}
+use Rattle.numbers.specs.Signed.{word_of}
+use Rattle.numbers.proofs.ListLaws.{Written, written_none, written_more, written_all}
+use Rattle.settlement.specs.Month.{money_at}
+use mir.Syntax.{w64}
+use Rattle.answers.proofs.answer.balance_words.Given as goal
+
+abbrev pub invariant-loop-i : goal.invariant-loop-i
+invariant-loop-i l = Written (λ j. word_of (money_at l.balances j)) 40 l.words l.i
+
+abbrev pub decreases-loop-i : goal.decreases-loop-i
+decreases-loop-i l = 40 - l.i

@@ -1,0 +1,20 @@
+-- The invariant: the balances of the words passed are set.
+use mathlib.Core.Path.{◌≡◌, ◌∙◌, ap}
+use Prim.Native.Nat.{◌≤◌, ◌-◌}
+use native.Mathlib.Omega.{arith}
+use mir.Facts.{to_z-of_z}
+use borrow.Author.Rules.{rules, sfits_of}
+use Rattle.numbers.specs.Signed.{signed_of}
+use Rattle.numbers.specs.Sizes.{most_distributors}
+use Rattle.settlement.specs.Month.{money_below}
+use Rattle.settlement.proofs.MonthLaws.{money_none, money_next}
+use Rattle.store.specs.Store.{word_at}
+use mir.Syntax.{w64}
+use Rattle.store.proofs.load.load_balances.Given as goal
+
+abbrev pub invariant-loop-i : goal.invariant-loop-i
+invariant-loop-i l =
+    (l.i ≤ most_distributors) × (l.balances ≡ money_below l.i (λ j. signed_of (word_at l.words j)))
+
+abbrev pub decreases-loop-i : goal.decreases-loop-i
+decreases-loop-i l = most_distributors - l.i

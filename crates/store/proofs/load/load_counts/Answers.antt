@@ -1,0 +1,18 @@
+-- The invariant: the first i counts are those of the words.
+use mathlib.Core.Path.{refl}
+use Prim.Native.Nat.{◌-◌}
+use native.Mathlib.Omega.{arith}
+use borrow.Author.Rules.{rules}
+use Rattle.numbers.specs.Sizes.{most_distributors}
+use Rattle.numbers.proofs.ListLaws.{Written, written_none, written_more, written_all}
+use Rattle.store.specs.Store.{word_at}
+use Rattle.store.proofs.load.load_counts.Goals as goal
+
+pub loop-i-preserved : goal.loop-i-preserved
+loop-i-preserved c = written_more c.loop-i.invariant (omega arith) c.word_at.ensures
+
+pub returns : goal.returns
+returns c = written_all c.loop-i.invariant (omega arith)
+
+pub loop-i-init : goal.loop-i-init
+loop-i-init c = written_none _ _ _ refl
