@@ -1,13 +1,8 @@
 -- The invariant: the first i words are those of the balances.
-use mathlib.Core.Path.{refl}
 use Prim.Native.Nat.{◌-◌}
-use native.Mathlib.Omega.{arith}
-use mir.Facts.{to_z-of_z}
-use borrow.Author.Rules.{rules, sfits_of}
 use Rattle.numbers.specs.Signed.{word_of}
-use Rattle.numbers.proofs.ListLaws.{Written, written_none, written_more, written_all}
+use Rattle.numbers.proofs.ListLaws.{Written}
 use Rattle.settlement.specs.Month.{money_at}
-use mir.Syntax.{w64}
 use Rattle.answers.proofs.answer.balance_words.Given as goal
 
 abbrev pub invariant-loop-i : goal.invariant-loop-i

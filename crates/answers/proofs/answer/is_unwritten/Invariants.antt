@@ -1,14 +1,9 @@
 -- The invariant: the words passed are as lent.
-use mathlib.Core.Path.{sym, ◌∙◌}
 use Prim.Native.Nat.{◌-◌}
-use native.Mathlib.Omega.{arith}
 use lib.IntN.{pos}
 use lib.ListN.{length, get_or}
-use borrow.Author.Tests.{eq-eqb, ne_eqb}
-use Rattle.numbers.proofs.TestLaws.{Tested, tested_none, tested_more, tested_fails, tested_all}
-use Rattle.answers.specs.Answer.{is_unwritten, all_unwritten}
-use Rattle.answers.proofs.UnwrittenLaws.{unwritten_bits}
-use borrow.Author.Rules.{sfits_of}
+use Rattle.numbers.proofs.TestLaws.{Tested}
+use Rattle.answers.specs.Answer.{is_unwritten}
 use Rattle.answers.proofs.answer.is_unwritten.Given as goal
 
 abbrev pub invariant-loop-k : goal.invariant-loop-k

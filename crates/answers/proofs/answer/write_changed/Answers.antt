@@ -1,7 +1,6 @@
 -- The line, or nothing.
 use Rattle.text.specs.Buffer.{written}
 use Rattle.answers.specs.Answer.{changed_text}
-use borrow.Author.Rules.{rules}
 use Rattle.answers.proofs.answer.write_changed.Goals as goal
 
 pub returns-then-unwritten : goal.returns-then-unwritten

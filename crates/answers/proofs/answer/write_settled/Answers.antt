@@ -1,7 +1,6 @@
 -- The line, then rows or what was changed.
 use Rattle.text.proofs.BufferLaws.{written_after}
 use Rattle.answers.specs.Answer.{answer_text, settled_text}
-use borrow.Author.Rules.{rules}
 use Rattle.answers.proofs.answer.write_settled.Goals as goal
 
 pub returns-then-accepted : goal.returns-then-accepted

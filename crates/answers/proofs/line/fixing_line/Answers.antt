@@ -1,5 +1,4 @@
 -- By the answer.
-use borrow.Author.Rules.{rules}
 use Rattle.answers.proofs.line.fixing_line.Goals as goal
 
 pub returns-in-Accepted : goal.returns-in-Accepted

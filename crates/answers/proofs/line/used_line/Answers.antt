@@ -1,6 +1,5 @@
 -- By whether the number is 0.
 use borrow.Author.Tests.{eq-eqb, ne_eqb}
-use borrow.Author.Rules.{rules}
 use Rattle.answers.proofs.line.used_line.Goals as goal
 
 pub returns-then-number-eq0 : goal.returns-then-number-eq0

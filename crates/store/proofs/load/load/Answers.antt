@@ -5,7 +5,6 @@ use Rattle.numbers.specs.Bounded.{list_below}
 use Rattle.journal.specs.Form.{parts_in}
 use Rattle.journal.proofs.FormLaws.{part_lies}
 use Rattle.store.specs.Store.{loaded_charges, loaded_ledger}
-use borrow.Author.Rules.{rules}
 use Rattle.store.proofs.load.load.Goals as goal
 
 pub returns : goal.returns

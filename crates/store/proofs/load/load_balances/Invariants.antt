@@ -1,15 +1,10 @@
 -- The invariant: the balances of the words passed are set.
-use mathlib.Core.Path.{◌≡◌, ◌∙◌, ap}
+use mathlib.Core.Path.{◌≡◌}
 use Prim.Native.Nat.{◌≤◌, ◌-◌}
-use native.Mathlib.Omega.{arith}
-use mir.Facts.{to_z-of_z}
-use borrow.Author.Rules.{rules, sfits_of}
 use Rattle.numbers.specs.Signed.{signed_of}
 use Rattle.numbers.specs.Sizes.{most_distributors}
 use Rattle.settlement.specs.Month.{money_below}
-use Rattle.settlement.proofs.MonthLaws.{money_none, money_next}
 use Rattle.store.specs.Store.{word_at}
-use mir.Syntax.{w64}
 use Rattle.store.proofs.load.load_balances.Given as goal
 
 abbrev pub invariant-loop-i : goal.invariant-loop-i

@@ -1,18 +1,13 @@
 -- The invariant: the places passed are filled in.
-use mathlib.Core.Path.{◌≡◌, ◌∙◌, ap}
+use mathlib.Core.Path.{◌≡◌}
 use mathlib.Core.Bool.{Bool}
 use mathlib.Core.List.{List}
 use Prim.Native.Nat.{ℕ, ◌≤◌, ◌-◌}
-use native.Mathlib.Omega.{arith}
 use lib.IntN.{ℤ}
-use mir.Facts.{to_z-of_z}
-use borrow.Author.Rules.{rules, sfits_of}
 use Rattle.numbers.specs.Sizes.{sector_places}
 use Rattle.numbers.specs.Signed.{signed_of}
 use Rattle.fixing.specs.Sector.{filled_places}
-use Rattle.fixing.proofs.SectorLaws.{places_none, places_more}
-use Rattle.store.specs.Store.{word_truth, word_at, loaded_charges}
-use mir.Syntax.{w64}
+use Rattle.store.specs.Store.{word_truth, word_at}
 use Rattle.store.proofs.load.load_charges.Given as goal
 
 abbrev pub presence : List ℕ → ℕ → Bool

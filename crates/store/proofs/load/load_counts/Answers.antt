@@ -1,11 +1,7 @@
 -- The invariant: the first i counts are those of the words.
 use mathlib.Core.Path.{refl}
-use Prim.Native.Nat.{◌-◌}
 use native.Mathlib.Omega.{arith}
-use borrow.Author.Rules.{rules}
-use Rattle.numbers.specs.Sizes.{most_distributors}
-use Rattle.numbers.proofs.ListLaws.{Written, written_none, written_more, written_all}
-use Rattle.store.specs.Store.{word_at}
+use Rattle.numbers.proofs.ListLaws.{written_none, written_more, written_all}
 use Rattle.store.proofs.load.load_counts.Goals as goal
 
 pub loop-i-preserved : goal.loop-i-preserved

@@ -1,9 +1,8 @@
 -- The invariant: the first k words are the ledger's.
 use mathlib.Core.Path.{sym, ◌∙◌}
-use Prim.Native.Nat.{◌-◌}
 use native.Mathlib.Omega.{arith}
-use Rattle.numbers.proofs.ListLaws.{Written, written_none, written_more, written_all}
-use Rattle.store.specs.Store.{kept_words, ledger_word, ledger_words}
+use Rattle.numbers.proofs.ListLaws.{written_none, written_more, written_all}
+use Rattle.store.specs.Store.{ledger_words}
 use Rattle.store.proofs.save.save_words.Goals as goal
 
 pub loop-k-preserved : goal.loop-k-preserved

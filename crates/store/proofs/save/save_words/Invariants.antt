@@ -1,9 +1,7 @@
 -- The invariant: the first k words are the ledger's.
-use mathlib.Core.Path.{sym, ◌∙◌}
 use Prim.Native.Nat.{◌-◌}
-use native.Mathlib.Omega.{arith}
-use Rattle.numbers.proofs.ListLaws.{Written, written_none, written_more, written_all}
-use Rattle.store.specs.Store.{kept_words, ledger_word, ledger_words}
+use Rattle.numbers.proofs.ListLaws.{Written}
+use Rattle.store.specs.Store.{kept_words, ledger_word}
 use Rattle.store.proofs.save.save_words.Given as goal
 
 abbrev pub invariant-loop-k : goal.invariant-loop-k

@@ -1,14 +1,13 @@
 -- The invariant: the words passed are those of a distributor below n, or zero.
 use mathlib.Core.Path.{◌≡◌, sym, ◌∙◌, ap}
 use mathlib.Core.Bool.{Bool, ◌||◌}
-use Prim.Native.Nat.{ℕ, ◌-◌}
+use Prim.Native.Nat.{ℕ}
 use native.Mathlib.Omega.{arith}
 use lib.Dec.{ltb, eqb}
 use lib.ListN.{get_or}
 use borrow.Author.Tests.{not-true, not-false}
-use borrow.Author.Rules.{rules}
-use Rattle.numbers.proofs.TestLaws.{Tested, tested_none, tested_more, tested_fails, tested_all}
-use Rattle.store.specs.Store.{kept_words, zero_past}
+use Rattle.numbers.proofs.TestLaws.{tested_none, tested_more, tested_fails, tested_all}
+use Rattle.store.specs.Store.{zero_past}
 use Rattle.store.proofs.StoreLaws.{zero_or_before}
 use Rattle.store.proofs.save.zero_past.Goals as goal
 use Rattle.store.proofs.save.zero_past.Goals.{After-word_owner}
