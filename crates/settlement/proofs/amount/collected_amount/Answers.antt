@@ -41,33 +41,40 @@ module _ (d : Start) where
 
 -- one sector more
 module _ (c : After-energy_with_losses) where
+  abbrev d : Start
+  d = (goal.at.overflow_mul-sum c).Start
+
   abbrev charge : ℤ
   charge = charge_at c.args.charges.now c.args.i c.loop-s.s
 
   under : c.loop-s.s < 8
   under = omega arith
 
-  product : to_z w64 (of_z w64 charge) *ℤ to_z w64 (of_z w64 c.energy_with_losses.result) ≡ f (goal.at.overflow_mul-sum c).Start c.loop-s.s
+  product : to_z w64 (of_z w64 charge) *ℤ to_z w64 (of_z w64 c.energy_with_losses.result)
+      ≡ f d c.loop-s.s
   product =
       product_bits charge c.energy_with_losses.result charge _ (sfits_of c.charge-1.given)
       (sfits_of c.energy_with_losses.type_inv) refl c.energy_with_losses.ensures
 
-  kept : c.loop-s.sum-bits ≡ of_z w64 (signed_sum_below c.loop-s.s (f (goal.at.overflow_mul-sum c).Start))
+  kept : c.loop-s.sum-bits ≡ of_z w64 (signed_sum_below c.loop-s.s (f d))
   kept = sym (of_z-to_z c.loop-s.auto.sum) ∙ ap (of_z w64) c.loop-s.invariant.1
 
   next : to_z w64 c.loop-s.sum-bits +ℤ to_z w64
       (of_z w64 (to_z w64 (of_z w64 charge) *ℤ to_z w64 (of_z w64 c.energy_with_losses.result))) ≡ signed_sum_below
-      (c.loop-s.s + 1) (f (goal.at.overflow_mul-sum c).Start)
+      (c.loop-s.s + 1) (f d)
   next =
-      next_bits c.loop-s.sum-bits c.loop-s.s (f (goal.at.overflow_mul-sum c).Start) _ kept product (all (goal.at.overflow_mul-sum c).Start c.loop-s.s (omega arith))
-      (one (goal.at.overflow_mul-sum c).Start c.loop-s.s under)
+      next_bits c.loop-s.sum-bits c.loop-s.s (f d) _ kept product (all d c.loop-s.s (omega arith))
+      (one d c.loop-s.s under)
 
 -- all sectors
 module _ (c : After-loop-s) where
-  whole : to_z w64 c.loop-s.sum-bits ≡ signed_sum_below 8 (f (goal.at.half_away-requires c).Start)
+  abbrev e : Start
+  e = (goal.at.half_away-requires c).Start
+
+  whole : to_z w64 c.loop-s.sum-bits ≡ signed_sum_below 8 (f e)
   whole =
       let end : c.loop-s.s ≡ 8 = omega arith in
-      c.loop-s.invariant.1 ∙ ap (λ k. signed_sum_below k (f (goal.at.half_away-requires c).Start)) end
+      c.loop-s.invariant.1 ∙ ap (λ k. signed_sum_below k (f e)) end
 
 pub loop-s-init : goal.loop-s-init
 unfolding signed_sum_below
@@ -80,8 +87,7 @@ pub overflow_add-sum : goal.overflow_add-sum
 overflow_add-sum c = rw (next c) (all (goal.at.overflow_add-sum c).Start (c.loop-s.s + 1) (omega arith))
 
 pub loop-s-preserved : goal.loop-s-preserved
-loop-s-preserved c =
-    (omega arith, to_z-of_z (overflow_add-sum c) ∙ next c)
+loop-s-preserved c = (omega arith, to_z-of_z (overflow_add-sum c) ∙ next c)
 
 pub half_away-requires : goal.half_away-requires
 half_away-requires c = omega (arith, ap nat_abs (whole c), size (goal.at.half_away-requires c).Start 8 (omega arith))
@@ -89,5 +95,7 @@ half_away-requires c = omega (arith, ap nat_abs (whole c), size (goal.at.half_aw
 pub returns : goal.returns
 unfolding collected_amount
 returns c =
+    let l = (goal.at.returns c).After-loop-s in
     ap {A = ℤ} {B = Pesos} (λ z. record { 0 = z })
-    (to_z-of_z {w = w64} (sfits_of c.half_away.type_inv) ∙ c.half_away.ensures ∙ ap (λ z. half_away z 1000) (whole (goal.at.returns c).After-loop-s))
+    (to_z-of_z {w = w64} (sfits_of c.half_away.type_inv) ∙ c.half_away.ensures
+    ∙ ap (λ z. half_away z 1000) (whole l))

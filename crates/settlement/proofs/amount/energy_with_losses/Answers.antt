@@ -15,7 +15,8 @@ use Rattle.settlement.specs.Amount.{reading_of, high_loss_of, low_loss_of, high_
 use Rattle.settlement.specs.Required.{BillingFacts}
 use Rattle.settlement.proofs.AmountLaws.{high_first, high_product, low_product, products_size}
 use Rattle.settlement.proofs.amount.energy_with_losses.Goals as goal
-use Rattle.settlement.proofs.amount.energy_with_losses.Goals.{After-difference, After-difference-2, After-loss-low_loss, Start}
+use Rattle.settlement.proofs.amount.energy_with_losses.Goals.{After-difference, After-difference-2}
+use Rattle.settlement.proofs.amount.energy_with_losses.Goals.{After-loss-low_loss, Start}
 
 -- a value as it is read back from its bits
 abbrev back : ℤ → ℤ
@@ -31,6 +32,9 @@ small s k reading p e = omega (arith, (facts s).reading s.args.s k s.requires.fa
 
 -- the loss factors
 module _ (c : After-loss-low_loss) where
+  abbrev start : Start
+  start = (goal.at.overflow_mul-high_loss c).Start
+
   highLoss : c.loss-high_loss.result ≡ high_loss_of c.args.losses.now c.args.i
   highLoss = c.loss-high_loss.ensures ∙ high_first c.args.losses.now c.args.i
 
@@ -38,13 +42,19 @@ module _ (c : After-loss-low_loss) where
   lowLoss = c.loss-low_loss.ensures
 
   most : (c.loss-high_loss.result ≤ 20000) × (c.loss-low_loss.result ≤ 20000)
-  most = omega (arith, highLoss, lowLoss, (facts (goal.at.overflow_mul-high_loss c).Start).high_most, (facts (goal.at.overflow_mul-high_loss c).Start).low_most)
+  most = omega (arith, highLoss, lowLoss, (facts start).high_most, (facts start).low_most)
 
   both : c.loss-high_loss.result * c.loss-low_loss.result ≤ 20000 * 20000
   both = mul-le-mul most.0 most.1
 
 -- the net at high voltage, carried up: in the code, and in the definition
 module _ (c : After-difference) where
+  abbrev d : Start
+  d = (goal.at.overflow_mul-carried c).Start
+
+  abbrev l : After-loss-low_loss
+  l = (goal.at.overflow_mul-carried c).After-loss-low_loss
+
   abbrev highCode : ℤ
   highCode = back c.difference-high.result *ℤ back c.difference.result
 
@@ -58,14 +68,23 @@ module _ (c : After-difference) where
   high =
       product_bits _ _ _ _ (sfits_of c.difference-high.type_inv) (sfits_of c.difference.type_inv)
       (c.difference-high.ensures ∙ ap₂ sub_ℕ c.reading.ensures c.reading-2.ensures)
-      (c.difference.ensures ∙ pos_sub_zero _ ∙ ap (λ x. pos (x * 10000)) (highLoss (goal.at.overflow_mul-carried c).After-loss-low_loss))
+      (c.difference.ensures ∙ pos_sub_zero _ ∙ ap (λ x. pos (x * 10000)) (highLoss l))
 
   highFits : SFits w64 highCode
   highFits =
-      is_fits highCode highPart high (omega (arith, high_product [] _ _ _ (facts (goal.at.overflow_mul-carried c).Start) c.args.s c.requires.fact_3))
+      is_fits highCode highPart high (omega (arith, high_product [] _ _ _ (facts d) c.args.s c.requires.fact_3))
 
 -- the net at low voltage, carried up, and the two added up
 module _ (c : After-difference-2) where
+  abbrev b : Start
+  b = (goal.at.overflow_mul-carried-2 c).Start
+
+  abbrev m : After-loss-low_loss
+  m = (goal.at.overflow_mul-carried-2 c).After-loss-low_loss
+
+  abbrev h : After-difference
+  h = (goal.at.overflow_mul-carried-2 c).After-difference
+
   abbrev lowCode : ℤ
   lowCode = back c.difference-low.result *ℤ back c.difference-2.result
 
@@ -79,26 +98,25 @@ module _ (c : After-difference-2) where
   low =
       product_bits _ _ _ _ (sfits_of c.difference-low.type_inv) (sfits_of c.difference-2.type_inv)
       (c.difference-low.ensures ∙ ap₂ sub_ℕ c.reading-3.ensures c.reading-4.ensures)
-      (c.difference-2.ensures ∙ pos_sub_zero _ ∙ ap₂ (λ x y. pos (x * y)) (highLoss (goal.at.overflow_mul-carried-2 c).After-loss-low_loss)
-      (lowLoss (goal.at.overflow_mul-carried-2 c).After-loss-low_loss))
+      (c.difference-2.ensures ∙ pos_sub_zero _ ∙ ap₂ (λ x y. pos (x * y)) (highLoss m) (lowLoss m))
 
   lowFits : SFits w64 lowCode
   lowFits =
-      is_fits lowCode lowPart low (omega (arith, low_product [] _ _ _ (facts (goal.at.overflow_mul-carried-2 c).Start) c.args.s c.requires.fact_3))
+      is_fits lowCode lowPart low (omega (arith, low_product [] _ _ _ (facts b) c.args.s c.requires.fact_3))
 
   abbrev sumCode : ℤ
-  sumCode = back (highCode (goal.at.overflow_mul-carried-2 c).After-difference) +ℤ back lowCode
+  sumCode = back (highCode h) +ℤ back lowCode
 
-  sum : sumCode ≡ highPart (goal.at.overflow_mul-carried-2 c).After-difference +ℤ lowPart
-  sum = sum_bits (highCode (goal.at.overflow_mul-carried-2 c).After-difference) lowCode _ _ (highFits (goal.at.overflow_mul-carried-2 c).After-difference) lowFits (high (goal.at.overflow_mul-carried-2 c).After-difference) low
+  sum : sumCode ≡ highPart h +ℤ lowPart
+  sum = sum_bits (highCode h) lowCode _ _ (highFits h) lowFits (high h) low
 
-  size : nat_abs (highPart (goal.at.overflow_mul-carried-2 c).After-difference +ℤ lowPart) ≤ 1200000000000000000
-  size = products_size [] _ _ _ (facts (goal.at.overflow_mul-carried-2 c).Start) c.args.s c.requires.fact_3
+  size : nat_abs (highPart h +ℤ lowPart) ≤ 1200000000000000000
+  size = products_size [] _ _ _ (facts b) c.args.s c.requires.fact_3
 
   fits : SFits w64 sumCode
-  fits = is_fits sumCode (highPart (goal.at.overflow_mul-carried-2 c).After-difference +ℤ lowPart) sum (omega (arith, size))
+  fits = is_fits sumCode (highPart h +ℤ lowPart) sum (omega (arith, size))
 
-  carried : back sumCode ≡ highPart (goal.at.overflow_mul-carried-2 c).After-difference +ℤ lowPart
+  carried : back sumCode ≡ highPart h +ℤ lowPart
   carried = to_z-of_z fits ∙ sum
 
 pub difference-high-requires : goal.difference-high-requires
@@ -144,4 +162,6 @@ half_away-requires c = omega (arith, ap nat_abs (carried c), size c)
 pub returns : goal.returns
 unfolding energy_with_losses
 returns c =
-    to_z-of_z {w = w64} (sfits_of c.half_away.type_inv) ∙ c.half_away.ensures ∙ ap (λ z. half_away z 100000000) (carried (goal.at.returns c).After-difference-2)
+    let d = (goal.at.returns c).After-difference-2 in
+    to_z-of_z {w = w64} (sfits_of c.half_away.type_inv) ∙ c.half_away.ensures
+    ∙ ap (λ z. half_away z 100000000) (carried d)

@@ -8,7 +8,9 @@ use Rattle.settlement.proofs.month.positions.Given as goal
 
 abbrev pub invariant-loop-i : goal.invariant-loop-i
 invariant-loop-i l =
-    (l.i ≤ l.n) × (l.positions ≡ money_below l.i (position_of (money_at l.balances) (collected_amount l.charges l.readings l.losses)))
+    (l.i ≤ l.n) ×
+    (l.positions
+    ≡ money_below l.i (position_of (money_at l.balances) (collected_amount l.charges l.readings l.losses)))
 
 abbrev pub decreases-loop-i : goal.decreases-loop-i
 decreases-loop-i l = l.n - l.i

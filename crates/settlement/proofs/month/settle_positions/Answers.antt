@@ -29,7 +29,8 @@ module _ (c : Joined-owing_total-owed_total) where
   abbrev position : ℕ → ℤ
   position = money_at c.args.positions
 
-  least : (c.if-owing_total-owed_total.transferred ≤ c.side_total-owing_total.result) × (c.if-owing_total-owed_total.transferred ≤ c.side_total-owed_total.result)
+  least : (c.if-owing_total-owed_total.transferred ≤ c.side_total-owing_total.result)
+      × (c.if-owing_total-owed_total.transferred ≤ c.side_total-owed_total.result)
   least = elim c.if-owing_total-owed_total.branch [
     | then-owing_total-owed_total w ↦ omega arith
     | else-owing_total-owed_total w ↦ omega arith
@@ -44,7 +45,8 @@ module _ (c : Joined-owing_total-owed_total) where
   owedTotal : c.side_total-owed_total.result ≡ side_total n (owed position)
   unfolding side_size
   owedTotal =
-      sizes_total n c.requires.few (side_size true position) _ _ c.side_sizes-owed.ensures c.side_total-owed_total.ensures
+      sizes_total n c.requires.few (side_size true position) _ _ c.side_sizes-owed.ensures
+      c.side_total-owed_total.ensures
 
   smaller : c.if-owing_total-owed_total.transferred ≡ transferred n position
   unfolding transferred
@@ -78,20 +80,21 @@ shares-received-requires c =
 
 pub moved-requires : goal.moved-requires
 moved-requires c =
+    let s = (goal.at.moved-requires c).After-side_sizes-owed in
+    let t = (goal.at.moved-requires c).Joined-owing_total-owed_total in
     record {
       fact_1 = c.requires;
-      fact_2 = shares_within (n (goal.at.moved-requires c).Joined-owing_total-owed_total) _ _ (owingSide (goal.at.moved-requires c).After-side_sizes-owed) (omega (arith, c.side_total-owing_total.ensures, least (goal.at.moved-requires c).Joined-owing_total-owed_total)) _
+      fact_2 = shares_within (n t) _ _ (owingSide s) (omega (arith, c.side_total-owing_total.ensures, least t)) _
           c.shares-paid.ensures;
-      fact_3 = shares_within (n (goal.at.moved-requires c).Joined-owing_total-owed_total) _ _ (owedSide (goal.at.moved-requires c).After-side_sizes-owed) (omega (arith, c.side_total-owed_total.ensures, least (goal.at.moved-requires c).Joined-owing_total-owed_total)) _
+      fact_3 = shares_within (n t) _ _ (owedSide s) (omega (arith, c.side_total-owed_total.ensures, least t)) _
           c.shares-received.ensures;
     }
 
 pub returns : goal.returns
 returns c =
-    let e : c.moved.result ≡ moved_month (n (goal.at.returns c).Joined-owing_total-owed_total) c.args.positions c.shares-paid.result
-    c.shares-received.result = c.moved.ensures in
-    e
-    ∙ ap₂ (moved_month (n (goal.at.returns c).Joined-owing_total-owed_total) c.args.positions)
-    (c.shares-paid.ensures ∙ ap₂ (share_list (n (goal.at.returns c).Joined-owing_total-owed_total)) c.side_sizes-owing.ensures (smaller (goal.at.returns c).Joined-owing_total-owed_total))
-    (c.shares-received.ensures ∙ ap₂ (share_list (n (goal.at.returns c).Joined-owing_total-owed_total)) c.side_sizes-owed.ensures (smaller (goal.at.returns c).Joined-owing_total-owed_total))
-    ∙ moved_settled (n (goal.at.returns c).Joined-owing_total-owed_total) c.args.positions c.requires
+    let t = (goal.at.returns c).Joined-owing_total-owed_total in
+    c.moved.ensures
+    ∙ ap₂ (moved_month (n t) c.args.positions)
+    (c.shares-paid.ensures ∙ ap₂ (share_list (n t)) c.side_sizes-owing.ensures (smaller t))
+    (c.shares-received.ensures ∙ ap₂ (share_list (n t)) c.side_sizes-owed.ensures (smaller t))
+    ∙ moved_settled (n t) c.args.positions c.requires

@@ -15,7 +15,8 @@ use Rattle.numbers.proofs.SignedLaws.{part_size, part_none}
 use native.Mathlib.Omega.{arith}
 use borrow.Author.Rules.{sfits_of}
 use Rattle.settlement.proofs.month.side_sizes.Goals as goal
-use Rattle.settlement.proofs.month.side_sizes.Goals.{After-is_negative, then-is_negative-negative, else-is_negative-negative}
+use Rattle.settlement.proofs.month.side_sizes.Goals.{After-is_negative}
+use Rattle.settlement.proofs.month.side_sizes.Goals.{then-is_negative-negative, else-is_negative-negative}
 
 -- the position at hand, and what the test says of it
 module _ (c : After-is_negative) where

@@ -29,14 +29,17 @@ module _ (c : After-other-1) where
       )
 
 pub overflow_add-rank : goal.overflow_add-rank
-overflow_add-rank c = omega (arith, few (goal.at.overflow_add-rank c).After-other-1, c.loop-j.invariant.most, c.requires.fact_1)
+overflow_add-rank c =
+    let o = (goal.at.overflow_add-rank c).After-other-1 in
+    omega (arith, few o, c.loop-j.invariant.most, c.requires.fact_1)
 
 pub loop-j-preserved : goal.loop-j-preserved
 unfolding comes_before
 loop-j-preserved c =
     let more = summed_more c.loop-j.invariant (omega arith) in
     let counts : Bool → ℕ = λ b. c.loop-j.rank + cond b 1 0 in
-    let grown : c.if-own-other.rank ≡ c.loop-j.rank + one (goal.at.loop-j-preserved c).After-other-1 c.loop-j.j =
+    let o = (goal.at.loop-j-preserved c).After-other-1 in
+    let grown : c.if-own-other.rank ≡ c.loop-j.rank + one o c.loop-j.j =
     elim c.if-own-other.branch [
       | then-own-other w ↦ omega (arith, w.rank-is, ap counts w.if-own-other.true)
       | else-own-other w ↦ omega (arith, w.rank-is, ap counts w.if-own-other.false)

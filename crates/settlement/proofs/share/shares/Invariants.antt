@@ -10,7 +10,8 @@ use Rattle.settlement.proofs.share.shares.Given as goal
 
 abbrev pub invariant-loop-i : goal.invariant-loop-i
 invariant-loop-i l =
-    (l.i ≤ l.n) × (l.shares ≡ filled_below most_distributors 0 l.i (share l.n (λ j. get_or l.sizes j 0) l.transferred))
+    (l.i ≤ l.n) ×
+    (l.shares ≡ filled_below most_distributors 0 l.i (share l.n (λ j. get_or l.sizes j 0) l.transferred))
 
 abbrev pub decreases-loop-i : goal.decreases-loop-i
 decreases-loop-i l = l.n - l.i

@@ -59,7 +59,8 @@ module _ (p : After-write_present) where
 
   whole : now ≡ map readings ++ drop (length (map readings)) p.args.into.now →
       put_mid 4 (length now - 4) now p.write_present.new.into
-      ≡ (map readings ++ present_bytes readings) ++ drop (length (map readings ++ present_bytes readings)) p.args.into.now
+      ≡ (map readings ++ present_bytes readings)
+      ++ drop (length (map readings ++ present_bytes readings)) p.args.into.now
   unfolding written_first
   whole f =
       ap (put_mid 4 (length now - 4) now) p.write_present.ensures.listed

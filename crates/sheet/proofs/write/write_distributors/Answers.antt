@@ -31,10 +31,12 @@ module _ (l : At-loop-i) where
 -- there is room for one distributor more, and its readings are there
 room : (c : In-loop-i) →
     c.loop-i.at + most_distributor_bytes ≤ length c.loop-i.buffer
-room c = omega (arith, few (goal.at.slice_bounds-own-end c).At-loop-i, long (goal.at.slice_bounds-own-end c).At-loop-i, c.requires.room)
+room c =
+    let l = (goal.at.slice_bounds-own-end c).At-loop-i in
+    omega (arith, few l, long l, c.requires.room)
 
 own_within : (c : In-loop-i) →
-    c.loop-i.i * distributor_readings + distributor_readings ≤ length (readings (goal.at.slice_bounds-own-end c).At-loop-i)
+    c.loop-i.i * distributor_readings + distributor_readings ≤ length c.args.readings.now
 own_within c = omega (arith, c.requires.read)
 
 pub loop-i-init : goal.loop-i-init
@@ -43,9 +45,11 @@ loop-i-init c = (omega arith, refl, refl)
 
 pub write_distributor-at-requires : goal.write_distributor-at-requires
 write_distributor-at-requires c =
+    let l = (goal.at.write_distributor-at-requires c).At-loop-i in
+    let i = (goal.at.write_distributor-at-requires c).In-loop-i in
     record {
-      fact_1 = mid_len (c.loop-i.i * 32) (c.loop-i.i * 32 + 32) (readings (goal.at.write_distributor-at-requires c).At-loop-i) (own_within (goal.at.write_distributor-at-requires c).In-loop-i) ∙ omega arith;
-      fact_2 = omega (arith, room (goal.at.write_distributor-at-requires c).In-loop-i, mid_len c.loop-i.at (length c.loop-i.buffer) c.loop-i.buffer (omega arith));
+      fact_1 = mid_len (c.loop-i.i * 32) (c.loop-i.i * 32 + 32) (readings l) (own_within i) ∙ omega arith;
+      fact_2 = omega (arith, room i, mid_len c.loop-i.at (length c.loop-i.buffer) c.loop-i.buffer (omega arith));
     }
 
 -- what was written of one distributor more
@@ -78,27 +82,30 @@ overflow_add-at c =
 pub loop-i-preserved : goal.loop-i-preserved
 unfolding written_first
 loop-i-preserved c =
+    let w = (goal.at.loop-i-preserved c).After-write_distributor-at in
+    let l = (goal.at.loop-i-preserved c).At-loop-i in
     let at = c.loop-i.at in
     let buffer = c.loop-i.buffer in
-    let done = sheet_bytes c.loop-i.i (readings (goal.at.loop-i-preserved c).At-loop-i) in
+    let done = sheet_bytes c.loop-i.i (readings l) in
     let found = c.args.buffer.now in
-    let next = sym (sheet_step c.loop-i.i (readings (goal.at.loop-i-preserved c).At-loop-i)) in (
+    let next = sym (sheet_step c.loop-i.i (readings l)) in (
       omega arith,
-      omega (arith, c.loop-i.invariant.1, (written (goal.at.loop-i-preserved c).After-write_distributor-at).sized, length-append done (bytes (goal.at.loop-i-preserved c).After-write_distributor-at), ap length next),
-      ap (put_mid at (length buffer - at) buffer) (written (goal.at.loop-i-preserved c).After-write_distributor-at).listed
-          ∙ front_onto done found c.loop-i.invariant.2 (bytes (goal.at.loop-i-preserved c).After-write_distributor-at) at (length buffer - at) c.loop-i.invariant.1 refl
+      omega (arith, c.loop-i.invariant.1, (written w).sized, length-append done (bytes w), ap length next),
+      ap (put_mid at (length buffer - at) buffer) (written w).listed
+          ∙ front_onto done found c.loop-i.invariant.2 (bytes w) at (length buffer - at) c.loop-i.invariant.1 refl
           ∙ ap (λ all. all ++ drop (length all) found) next,
     )
 
 pub returns : goal.returns
 unfolding written_first
 returns c =
+    let l = (goal.at.returns c).At-loop-i in
     let e : c.loop-i.i ≡ c.args.n = omega (arith, c.loop-i.invariant.0) in
     record {
-      sized = c.loop-i.invariant.1 ∙ ap (λ i. length (sheet_bytes i (readings (goal.at.returns c).At-loop-i))) e;
+      sized = c.loop-i.invariant.1 ∙ ap (λ i. length (sheet_bytes i (readings l))) e;
       listed =
           c.loop-i.invariant.2
-          ∙ ap (λ i. sheet_bytes i (readings (goal.at.returns c).At-loop-i) ++ drop (length (sheet_bytes i (readings (goal.at.returns c).At-loop-i))) c.args.buffer.now) e;
+          ∙ ap (λ i. sheet_bytes i (readings l) ++ drop (length (sheet_bytes i (readings l))) c.args.buffer.now) e;
     }
 
 pub slice_bounds-own-end : goal.slice_bounds-own-end

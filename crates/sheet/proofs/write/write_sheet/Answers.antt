@@ -43,14 +43,18 @@ returns-then-not-lengths_right c =
 
 pub returns-then-not-all_between : goal.returns-then-not-all_between
 returns-then-not-all_between c =
+    let e = (goal.at.returns-then-not-all_between c).Else-not-is_between in
+    let f = (goal.at.returns-then-not-all_between c).Else-not-lengths_right in
     rw c.refused-then-not-all_between.ensures
     (write_refused _ _ _ _
-    (reading_refused _ _ _ (counted (goal.at.returns-then-not-all_between c).Else-not-is_between) (measured (goal.at.returns-then-not-all_between c).Else-not-lengths_right)
+    (reading_refused _ _ _ (counted e) (measured f)
     (told_false c.all_between.ensures c.if-not-all_between.true-raw)))
 
 pub write_distributors-used-requires : goal.write_distributors-used-requires
 unfolding write_verdict
-write_distributors-used-requires c = lengths_due _ _ _ (passed (goal.at.write_distributors-used-requires c).Else-not-all_between)
+write_distributors-used-requires c =
+    let g = (goal.at.write_distributors-used-requires c).Else-not-all_between in
+    lengths_due _ _ _ (passed g)
 
 pub returns : goal.returns
 returns c =
