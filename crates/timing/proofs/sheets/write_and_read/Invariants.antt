@@ -1,0 +1,14 @@
+-- No more rounds are made than were asked for, and each list keeps its length.
+use mathlib.Core.Path.{◌≡◌, refl}
+use Prim.Native.Nat.{◌-◌, ◌≤◌}
+use native.Mathlib.Omega.{arith}
+use lib.ListN.{length}
+use borrow.Author.Rules.{rules}
+use Rattle.timing.proofs.sheets.write_and_read.Given as goal
+
+abbrev pub invariant-loop-run : goal.invariant-loop-run
+invariant-loop-run l =
+    (l.run ≤ l.count) × (length l.buffer ≡ 5280) × (length l.read_back ≡ 1280)
+
+abbrev pub decreases-loop-run : goal.decreases-loop-run
+decreases-loop-run l = l.count - l.run
