@@ -1,7 +1,5 @@
 -- The index stays below the table's length.
 use Prim.Native.Nat.{◌≤◌, ◌-◌}
-use native.Mathlib.Omega.{arith}
-use borrow.Author.Rules.{rules}
 use Rattle.examples.proofs.main.Given as goal
 
 abbrev pub invariant-loop-i : goal.invariant-loop-i

@@ -1,7 +1,6 @@
 -- A part is as long as its count.
 use mathlib.Core.Path.{sym}
 use lib.Seq.{length-take-le}
-use borrow.Author.Rules.{rules}
 use Rattle.unreadable.proofs.report_first.Goals as goal
 
 pub slice_bounds-report-end : goal.slice_bounds-report-end

@@ -1,8 +1,5 @@
 -- No more calls of a kind are accepted than turns are made.
 use Prim.Native.Nat.{◌≤◌, ◌-◌}
-use mathlib.Core.Logic.{⊎_elim}
-use native.Mathlib.Omega.{arith}
-use borrow.Author.Rules.{rules}
 use Rattle.timing.proofs.calls.make_calls.Given as goal
 
 abbrev pub invariant-loop-run : goal.invariant-loop-run

@@ -1,9 +1,7 @@
 -- The list keeps its length, so every place is that of a word.
-use Prim.Native.Nat.{◌≤◌, ◌-◌}
-use mathlib.Core.Path.{◌≡◌, refl}
+use mathlib.Core.Path.{refl}
 use native.Mathlib.Omega.{arith}
-use lib.ListN.{length, length-set}
-use borrow.Author.Rules.{rules}
+use lib.ListN.{length-set}
 use Rattle.timing.proofs.load.fill.Goals as goal
 
 pub loop-at-preserved : goal.loop-at-preserved

@@ -1,9 +1,7 @@
 -- The list keeps its length, so every place is that of a word.
 use Prim.Native.Nat.{◌≤◌, ◌-◌}
-use mathlib.Core.Path.{◌≡◌, refl}
-use native.Mathlib.Omega.{arith}
-use lib.ListN.{length, length-set}
-use borrow.Author.Rules.{rules}
+use mathlib.Core.Path.{◌≡◌}
+use lib.ListN.{length}
 use Rattle.timing.proofs.load.fill.Given as goal
 
 abbrev pub invariant-loop-at : goal.invariant-loop-at

@@ -1,7 +1,6 @@
 -- Neither part of 10,000 is more than it.
 use native.Mathlib.Nat.{div-le_self, mod-le}
 use native.Mathlib.Omega.{arith}
-use borrow.Author.Rules.{rules}
 use Rattle.timing.proofs.load.weight.Goals as goal
 
 pub overflow_add-result : goal.overflow_add-result

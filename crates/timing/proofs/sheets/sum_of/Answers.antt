@@ -1,8 +1,5 @@
 -- The invariant: the sum has 32 bits.
-use Prim.Native.Nat.{◌-◌, ◌<◌, ◌≤◌}
 use native.Mathlib.Omega.{arith}
-use lib.ListN.{length}
-use borrow.Author.Rules.{rules}
 use Rattle.timing.proofs.sheets.sum_of.Goals as goal
 
 pub loop-k-init : goal.loop-k-init

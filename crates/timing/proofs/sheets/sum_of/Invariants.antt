@@ -1,8 +1,6 @@
 -- The invariant: the sum has 32 bits.
 use Prim.Native.Nat.{◌-◌, ◌<◌, ◌≤◌}
-use native.Mathlib.Omega.{arith}
 use lib.ListN.{length}
-use borrow.Author.Rules.{rules}
 use Rattle.timing.proofs.sheets.sum_of.Given as goal
 
 abbrev pub invariant-loop-k : goal.invariant-loop-k

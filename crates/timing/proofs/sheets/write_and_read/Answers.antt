@@ -1,8 +1,6 @@
 -- No more rounds are made than were asked for, and each list keeps its length.
-use mathlib.Core.Path.{◌≡◌, refl}
-use Prim.Native.Nat.{◌-◌, ◌≤◌}
+use mathlib.Core.Path.{refl}
 use native.Mathlib.Omega.{arith}
-use lib.ListN.{length}
 use borrow.Author.Rules.{rules}
 use Rattle.timing.proofs.sheets.write_and_read.Goals as goal
 

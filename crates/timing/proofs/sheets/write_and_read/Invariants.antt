@@ -1,9 +1,7 @@
 -- No more rounds are made than were asked for, and each list keeps its length.
-use mathlib.Core.Path.{◌≡◌, refl}
+use mathlib.Core.Path.{◌≡◌}
 use Prim.Native.Nat.{◌-◌, ◌≤◌}
-use native.Mathlib.Omega.{arith}
 use lib.ListN.{length}
-use borrow.Author.Rules.{rules}
 use Rattle.timing.proofs.sheets.write_and_read.Given as goal
 
 abbrev pub invariant-loop-run : goal.invariant-loop-run

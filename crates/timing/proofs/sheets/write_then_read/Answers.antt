@@ -3,7 +3,6 @@ use mathlib.Core.Path.{sym}
 use Prim.Native.Nat.{◌≤◌}
 use lib.ListN.{length}
 use lib.Seq.{length-take-le}
-use borrow.Author.Rules.{rules}
 use Rattle.sheet.proofs.WriteLaws.{used_within, buffer_length}
 use Rattle.numbers.specs.Sizes.{most_distributors}
 use Rattle.timing.proofs.sheets.write_then_read.Goals as goal
