@@ -37,9 +37,9 @@ module _ (days before : ℕ) (old new : ℤ) (some : before < days) (p : nat_abs
   unfolding split_charge
   split_size = away_le (old *ℤ pos before +ℤ new *ℤ pos (days - before)) days most_charge (omega arith) weighed_size
 
-pub split_after : (fixingMonth day month : ℕ) → is_split fixingMonth day month ≡ true → 1 < day
+pub split_after : (fixing_month day month : ℕ) → is_split fixing_month day month ≡ true → 1 < day
 unfolding is_split
-split_after fixingMonth day month h = ltb-true 1 day (and_right (eqb month fixingMonth) (ltb 1 day) h)
+split_after fixing_month day month h = ltb-true 1 day (and_right (eqb month fixing_month) (ltb 1 day) h)
 
 -- the fixings of a sound ledger can be divided by days
 module _ (ledger : Ledger) (h : sound ledger ≡ true) where

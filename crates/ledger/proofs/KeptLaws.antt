@@ -245,10 +245,10 @@ settlement_adds ledger call h e =
     (balance_past ledger h))))
 
 -- what a settled month's turn says
-module _ (settled : Bool) (next : ℕ) (fixed : Bool) (fixingMonth month : ℕ)
-    (h : settlement_turn settled next fixed fixingMonth month ≡ true) where
+module _ (settled : Bool) (next : ℕ) (fixed : Bool) (fixing_month month : ℕ)
+    (h : settlement_turn settled next fixed fixing_month month ≡ true) where
   abbrev due : Bool
-  due = cond settled (eqb month next) (not fixed || eqb month fixingMonth)
+  due = cond settled (eqb month next) (not fixed || eqb month fixing_month)
 
   turn_most : month ≤ last_month
   unfolding settlement_turn
@@ -261,9 +261,9 @@ module _ (settled : Bool) (next : ℕ) (fixed : Bool) (fixingMonth month : ℕ)
   turn_later : settled ≡ true → month ≡ next
   turn_later e = eqb-true month next (rw e at turn_due)
 
-  turn_first : settled ≡ false → fixed ≡ true → month ≡ fixingMonth
+  turn_first : settled ≡ false → fixed ≡ true → month ≡ fixing_month
   turn_first p e =
-      eqb-true month fixingMonth (or_else (not fixed) (eqb month fixingMonth) (rw p at turn_due) (ap not e))
+      eqb-true month fixing_month (or_else (not fixed) (eqb month fixing_month) (rw p at turn_due) (ap not e))
 
 pub settlement_keeps : (ledger : Ledger) (call : SettlementCall) → sound ledger ≡ true →
     sound (settlement_ledger ledger call) ≡ true

@@ -25,12 +25,12 @@ split_charges n days before old new =
 
 -- whether a month is split: "the fixing's month", with days before its first day
 unfoldable pub is_split : ℕ → ℕ → ℕ → Bool
-is_split fixingMonth day month = eqb month fixingMonth && ltb 1 day
+is_split fixing_month day month = eqb month fixing_month && ltb 1 day
 
 -- what a month is billed under, of n distributors: in a split month both fixings, in any other the one in force alone
 unfoldable pub charges_for : ℕ → ℕ → ℕ → SectorCharges → SectorCharges → ℕ → SectorCharges
-charges_for n fixingMonth day older force month =
-    cond (is_split fixingMonth day month) (split_charges n (days_of fixingMonth) (day - 1) older force) force
+charges_for n fixing_month day older force month =
+    cond (is_split fixing_month day month) (split_charges n (days_of fixing_month) (day - 1) older force) force
 
 unfoldable pub billed_under : Ledger → ℕ → SectorCharges
 billed_under ledger month = charges_for ledger.n ledger.month ledger.day ledger.older ledger.force month

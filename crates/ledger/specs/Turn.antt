@@ -10,5 +10,5 @@ fixing_turn settled next month = leb month last_month && (not settled || eqb mon
 -- "The first settled month is the fixing's, later ones last+1"; "with no month settled and no fixing, no turn is due to
 -- a settlement"
 unfoldable pub settlement_turn : Bool → ℕ → Bool → ℕ → ℕ → Bool
-settlement_turn settled next fixed fixingMonth month =
-    leb month last_month && cond settled (eqb month next) (not fixed || eqb month fixingMonth)
+settlement_turn settled next fixed fixing_month month =
+    leb month last_month && cond settled (eqb month next) (not fixed || eqb month fixing_month)

@@ -26,7 +26,7 @@ use Rattle.supply.specs.declared.price.LinePrices.{LinePrices}
 -- "the ratio divides by the base value times 100" (W-202), so that both are in millionths. It stands in place of 01's
 -- "ratio = mean * 1,000,000 / base value".
 unfoldable pub ratio_of : ℕ → ℕ → ℕ
-ratio_of mean baseValue = half_up (mean * 1000000) (baseValue * 100)
+ratio_of mean base_value = half_up (mean * 1000000) (base_value * 100)
 
 -- "Indexed = base * factor / 1,000,000", in 0.001 US$/MWh
 unfoldable pub indexed_of : ℕ → ℕ → ℕ
@@ -34,7 +34,7 @@ indexed_of base factor = half_up (base * factor) 1000000
 
 -- "Purchase = indexed * purchase factor / offer factor"
 unfoldable pub purchase_of : ℕ → ℕ → ℕ → ℕ
-purchase_of taken purchaseFactor offerFactor = half_up (taken * purchaseFactor) offerFactor
+purchase_of taken purchase_factor offer_factor = half_up (taken * purchase_factor) offer_factor
 
 -- "Peso = purchase * D / 100,000", in 0.001 $/kWh
 unfoldable pub peso_of : ℕ → ℕ → ℕ
@@ -46,7 +46,7 @@ power_peso_of purchase dollar = half_up (purchase * dollar) 100
 
 -- "Reference = peso * F / purchase factor"
 unfoldable pub reference_of : ℕ → ℕ → ℕ → ℕ
-reference_of peso referenceFactor purchaseFactor = half_up (peso * referenceFactor) purchaseFactor
+reference_of peso reference_factor purchase_factor = half_up (peso * reference_factor) purchase_factor
 
 -- the mean of a term in the table, in the fixing's month
 unfoldable pub term_mean : List (List ℕ) → FixingNumbers → Term → ℕ

@@ -12,12 +12,12 @@ use Rattle.numbers.specs.declared.units.Energy.{Energy}
 use Rattle.numbers.specs.declared.units.UnsignedPesos.{UnsignedPesos}
 use Rattle.fixing.proofs.average.divide_amounts.Given as goal
 
-abbrev pub averageIn : List UnsignedPesos → List Energy → ℕ → PesoPrice
-averageIn amounts energies i = record { 0 = half_up (get_or amounts i no_total).0 (get_or energies i no_energy).0 }
+abbrev pub average_in : List UnsignedPesos → List Energy → ℕ → PesoPrice
+average_in amounts energies i = record { 0 = half_up (get_or amounts i no_total).0 (get_or energies i no_energy).0 }
 
 abbrev pub invariant-loop-i : goal.invariant-loop-i
 invariant-loop-i l =
-    (l.i ≤ l.n) × (l.averages ≡ filled_below most_distributors no_price l.i (averageIn l.amounts l.energies))
+    (l.i ≤ l.n) × (l.averages ≡ filled_below most_distributors no_price l.i (average_in l.amounts l.energies))
 
 abbrev pub decreases-loop-i : goal.decreases-loop-i
 decreases-loop-i l = l.n - l.i

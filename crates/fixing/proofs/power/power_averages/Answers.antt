@@ -17,7 +17,7 @@ use Rattle.fixing.specs.declared.power.PowerAmounts.{PowerAmounts}
 use Rattle.fixing.proofs.AverageLaws.{energy_at, supplied_some}
 use Rattle.fixing.proofs.PowerLaws.{millions_of, rest_of, parts_whole, parts_within}
 use Rattle.fixing.proofs.power.power_averages.Goals as goal
-use Rattle.fixing.proofs.power.power_averages.Invariants.{averageIn}
+use Rattle.fixing.proofs.power.power_averages.Invariants.{average_in}
 use Rattle.fixing.proofs.power.power_averages.Goals.{After-power_amounts-amounts}
 
 -- the parts of distributor i, and its energy
@@ -55,7 +55,7 @@ module _ (c : After-power_amounts-amounts) where
         (supplied_some c.args.n lines c.requires.fact_2.own c.requires.fact_4 i p))
 
     -- their average is the definition's
-    average : averageIn c.power_amounts-amounts.result.millions c.power_amounts-amounts.result.rest c.args.energies i
+    average : average_in c.power_amounts-amounts.result.millions c.power_amounts-amounts.result.rest c.args.energies i
         ≡ record { 0 = average_price price lines i }
     unfolding average_price
     average =
@@ -73,7 +73,7 @@ pub loop-i-preserved : goal.loop-i-preserved
 loop-i-preserved c = (
   omega arith,
   filled_next most_distributors no_power c.loop-i.i
-      (averageIn c.power_amounts-amounts.result.millions c.power_amounts-amounts.result.rest c.args.energies)
+      (average_in c.power_amounts-amounts.result.millions c.power_amounts-amounts.result.rest c.args.energies)
       c.loop-i.averages _ (omega (arith, c.requires.fact_1)) c.loop-i.invariant.1 c.power_average.ensures,
 )
 

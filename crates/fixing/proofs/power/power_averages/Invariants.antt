@@ -13,13 +13,13 @@ use Rattle.fixing.specs.Power.{million}
 use Rattle.fixing.proofs.power.power_averages.Given as goal
 
 -- the average of a distributor from its parts
-abbrev pub averageIn : List ℕ → List ℕ → List Energy → ℕ → PowerPrice
-averageIn millions rest energies i =
+abbrev pub average_in : List ℕ → List ℕ → List Energy → ℕ → PowerPrice
+average_in millions rest energies i =
     record { 0 = half_up (get_or millions i 0 * million + get_or rest i 0) (get_or energies i no_energy).0 }
 
 abbrev pub invariant-loop-i : goal.invariant-loop-i
 invariant-loop-i l =
-    (l.i ≤ l.n) × (l.averages ≡ filled_below most_distributors no_power l.i (averageIn l.millions l.rest l.energies))
+    (l.i ≤ l.n) × (l.averages ≡ filled_below most_distributors no_power l.i (average_in l.millions l.rest l.energies))
 
 abbrev pub decreases-loop-i : goal.decreases-loop-i
 decreases-loop-i l = l.n - l.i

@@ -8,7 +8,7 @@ use Rattle.numbers.proofs.ListLaws.{filled_none, filled_next}
 use native.Mathlib.Omega.{arith}
 use mir.Syntax.{w64}
 use Rattle.fixing.proofs.prices.charges.Goals as goal
-use Rattle.fixing.proofs.prices.charges.Invariants.{chargeOf}
+use Rattle.fixing.proofs.prices.charges.Invariants.{charge_of}
 
 pub no_charge_list-charges-requires : goal.no_charge_list-charges-requires
 no_charge_list-charges-requires c = tt
@@ -23,7 +23,7 @@ difference-requires c =
 pub loop-i-preserved : goal.loop-i-preserved
 loop-i-preserved c = (
   omega arith,
-  filled_next most_distributors (pos 0) c.loop-i.i (chargeOf c.args.averages c.args.finals) _ _ (omega arith)
+  filled_next most_distributors (pos 0) c.loop-i.i (charge_of c.args.averages c.args.finals) _ _ (omega arith)
       c.loop-i.invariant.1 (to_z-of_z {w = w64} (sfits_of c.difference.type_inv) ∙ c.difference.ensures),
 )
 

@@ -11,12 +11,12 @@ use Rattle.numbers.specs.declared.units.PesoPrice.{PesoPrice}
 use Rattle.fixing.proofs.prices.charges.Given as goal
 
 -- the charge of distributor j
-abbrev pub chargeOf : List PesoPrice → List PesoPrice → ℕ → ℤ
-chargeOf averages finals j = sub_ℕ (get_or finals j no_price).0 (get_or averages j no_price).0
+abbrev pub charge_of : List PesoPrice → List PesoPrice → ℕ → ℤ
+charge_of averages finals j = sub_ℕ (get_or finals j no_price).0 (get_or averages j no_price).0
 
 abbrev pub invariant-loop-i : goal.invariant-loop-i
 invariant-loop-i l =
-    (l.i ≤ l.n) × (l.charges ≡ filled_below most_distributors (pos 0) l.i (chargeOf l.averages l.finals))
+    (l.i ≤ l.n) × (l.charges ≡ filled_below most_distributors (pos 0) l.i (charge_of l.averages l.finals))
 
 abbrev pub decreases-loop-i : goal.decreases-loop-i
 decreases-loop-i l = l.n - l.i

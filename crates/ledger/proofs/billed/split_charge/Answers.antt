@@ -21,57 +21,57 @@ back z = to_z w64 (of_z w64 z)
 
 -- the old charge by the days before: in the code, and in the definition
 module _ (c : After-difference) where
-  abbrev oldCode : ℤ
-  oldCode = back c.args.old *ℤ back c.difference.result
+  abbrev old_code : ℤ
+  old_code = back c.args.old *ℤ back c.difference.result
 
-  abbrev oldPart : ℤ
-  oldPart = c.args.old *ℤ pos c.args.before
+  abbrev old_part : ℤ
+  old_part = c.args.old *ℤ pos c.args.before
 
-  old : oldCode ≡ oldPart
+  old : old_code ≡ old_part
   old =
       product_bits _ _ _ _ c.ranges.old (sfits_of c.difference.type_inv) refl
       (c.difference.ensures ∙ pos_sub_zero c.args.before)
 
-  oldSize : nat_abs oldPart ≤ most_charge * c.args.before
-  oldSize = size_mul_le c.args.old (pos c.args.before) c.requires.fact_3 (omega arith)
+  old_size : nat_abs old_part ≤ most_charge * c.args.before
+  old_size = size_mul_le c.args.old (pos c.args.before) c.requires.fact_3 (omega arith)
 
-  oldFits : SFits w64 oldCode
-  oldFits = is_fits oldCode oldPart old (omega (arith, oldSize, c.requires.fact_1, c.requires.fact_2))
+  old_fits : SFits w64 old_code
+  old_fits = is_fits old_code old_part old (omega (arith, old_size, c.requires.fact_1, c.requires.fact_2))
 
 -- the new charge by the days that remain, and the two added up
 module _ (c : After-difference-2) where
-  abbrev newCode : ℤ
-  newCode = back c.args.new *ℤ back c.difference-2.result
+  abbrev new_code : ℤ
+  new_code = back c.args.new *ℤ back c.difference-2.result
 
-  abbrev newPart : ℤ
-  newPart = c.args.new *ℤ pos (c.args.days - c.args.before)
+  abbrev new_part : ℤ
+  new_part = c.args.new *ℤ pos (c.args.days - c.args.before)
 
-  new : newCode ≡ newPart
+  new : new_code ≡ new_part
   new =
       product_bits _ _ _ _ c.ranges.new (sfits_of c.difference-2.type_inv) refl
       (c.difference-2.ensures ∙ pos_sub_zero (c.args.days - c.args.before))
 
-  newSize : nat_abs newPart ≤ most_charge * (c.args.days - c.args.before)
-  newSize = size_mul_le c.args.new (pos (c.args.days - c.args.before)) c.requires.fact_4 (omega arith)
+  new_size : nat_abs new_part ≤ most_charge * (c.args.days - c.args.before)
+  new_size = size_mul_le c.args.new (pos (c.args.days - c.args.before)) c.requires.fact_4 (omega arith)
 
-  newFits : SFits w64 newCode
-  newFits = is_fits newCode newPart new (omega (arith, newSize, c.requires.fact_1))
+  new_fits : SFits w64 new_code
+  new_fits = is_fits new_code new_part new (omega (arith, new_size, c.requires.fact_1))
 
-  abbrev sumCode : ℤ
-  sumCode = back (oldCode (goal.at.overflow_mul-weighed-2 c).After-difference) +ℤ back newCode
+  abbrev sum_code : ℤ
+  sum_code = back (old_code (goal.at.overflow_mul-weighed-2 c).After-difference) +ℤ back new_code
 
-  sum : sumCode ≡ oldPart (goal.at.overflow_mul-weighed-2 c).After-difference +ℤ newPart
-  sum = sum_bits (oldCode (goal.at.overflow_mul-weighed-2 c).After-difference) newCode _ _ (oldFits (goal.at.overflow_mul-weighed-2 c).After-difference) newFits (old (goal.at.overflow_mul-weighed-2 c).After-difference) new
+  sum : sum_code ≡ old_part (goal.at.overflow_mul-weighed-2 c).After-difference +ℤ new_part
+  sum = sum_bits (old_code (goal.at.overflow_mul-weighed-2 c).After-difference) new_code _ _ (old_fits (goal.at.overflow_mul-weighed-2 c).After-difference) new_fits (old (goal.at.overflow_mul-weighed-2 c).After-difference) new
 
-  size : nat_abs (oldPart (goal.at.overflow_mul-weighed-2 c).After-difference +ℤ newPart) ≤ most_charge * c.args.days
+  size : nat_abs (old_part (goal.at.overflow_mul-weighed-2 c).After-difference +ℤ new_part) ≤ most_charge * c.args.days
   size =
       weighed_size c.args.days c.args.before c.args.old c.args.new c.requires.fact_2 c.requires.fact_3
       c.requires.fact_4
 
-  fits : SFits w64 sumCode
-  fits = is_fits sumCode (oldPart (goal.at.overflow_mul-weighed-2 c).After-difference +ℤ newPart) sum (omega (arith, size, c.requires.fact_1))
+  fits : SFits w64 sum_code
+  fits = is_fits sum_code (old_part (goal.at.overflow_mul-weighed-2 c).After-difference +ℤ new_part) sum (omega (arith, size, c.requires.fact_1))
 
-  weighed : back sumCode ≡ oldPart (goal.at.overflow_mul-weighed-2 c).After-difference +ℤ newPart
+  weighed : back sum_code ≡ old_part (goal.at.overflow_mul-weighed-2 c).After-difference +ℤ new_part
   weighed = to_z-of_z {w = w64} fits ∙ sum
 
 pub difference-requires : goal.difference-requires
@@ -81,10 +81,10 @@ pub difference-requires-2 : goal.difference-requires-2
 difference-requires-2 c = omega (arith, c.requires.fact_1)
 
 pub overflow_mul-weighed : goal.overflow_mul-weighed
-overflow_mul-weighed c = oldFits c
+overflow_mul-weighed c = old_fits c
 
 pub overflow_mul-weighed-2 : goal.overflow_mul-weighed-2
-overflow_mul-weighed-2 c = newFits c
+overflow_mul-weighed-2 c = new_fits c
 
 pub overflow_add-weighed : goal.overflow_add-weighed
 overflow_add-weighed c = fits c

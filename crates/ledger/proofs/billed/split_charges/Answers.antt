@@ -30,11 +30,11 @@ module _ (c : In-loop-k) where
   abbrev k : ℕ
   k = c.loop-k.k
 
-  oldSize : nat_abs (charge_in c.args.old k) ≤ most_charge
-  oldSize = c.requires.old_within k (omega arith)
+  old_size : nat_abs (charge_in c.args.old k) ≤ most_charge
+  old_size = c.requires.old_within k (omega arith)
 
-  newSize : nat_abs (charge_in c.args.new k) ≤ most_charge
-  newSize = c.requires.new_within k (omega arith)
+  new_size : nat_abs (charge_in c.args.new k) ≤ most_charge
+  new_size = c.requires.new_within k (omega arith)
 
   small : k < sector_places
   small = few (goal.at.offset_bounds-old-k c).At-loop-k (omega arith)
@@ -55,8 +55,8 @@ split_charge-charge-requires c =
     record {
       fact_1 = c.requires.short;
       fact_2 = c.requires.some;
-      fact_3 = rw (back (charge_in c.args.old (k (goal.at.split_charge-charge-requires c).In-loop-k)) (oldSize (goal.at.split_charge-charge-requires c).In-loop-k)) (oldSize (goal.at.split_charge-charge-requires c).In-loop-k);
-      fact_4 = rw (back (charge_in c.args.new (k (goal.at.split_charge-charge-requires c).In-loop-k)) (newSize (goal.at.split_charge-charge-requires c).In-loop-k)) (newSize (goal.at.split_charge-charge-requires c).In-loop-k);
+      fact_3 = rw (back (charge_in c.args.old (k (goal.at.split_charge-charge-requires c).In-loop-k)) (old_size (goal.at.split_charge-charge-requires c).In-loop-k)) (old_size (goal.at.split_charge-charge-requires c).In-loop-k);
+      fact_4 = rw (back (charge_in c.args.new (k (goal.at.split_charge-charge-requires c).In-loop-k)) (new_size (goal.at.split_charge-charge-requires c).In-loop-k)) (new_size (goal.at.split_charge-charge-requires c).In-loop-k);
     }
 
 pub loop-k-smaller : goal.loop-k-smaller
@@ -71,7 +71,7 @@ loop-k-preserved c =
       places_more (either_present a.old a.new) d (k (goal.at.loop-k-preserved c).In-loop-k) c.loop-k.force _ _ (small (goal.at.loop-k-preserved c).In-loop-k)
           c.loop-k.invariant.1 refl
           (to_z-of_z {w = w64} (sfits_of c.split_charge-charge.type_inv) ∙ c.split_charge-charge.ensures
-          ∙ ap₂ (split_charge a.days a.before) (back _ (oldSize (goal.at.loop-k-preserved c).In-loop-k)) (back _ (newSize (goal.at.loop-k-preserved c).In-loop-k))),
+          ∙ ap₂ (split_charge a.days a.before) (back _ (old_size (goal.at.loop-k-preserved c).In-loop-k)) (back _ (new_size (goal.at.loop-k-preserved c).In-loop-k))),
     )
 
 pub returns : goal.returns

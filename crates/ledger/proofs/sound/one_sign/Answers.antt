@@ -15,8 +15,8 @@ use Rattle.numbers.proofs.TestLaws.{any_step}
 use Rattle.settlement.specs.Settlement.{one_sign}
 use Rattle.settlement.specs.Month.{money_at}
 use Rattle.ledger.proofs.sound.one_sign.Goals as goal
-use Rattle.ledger.proofs.sound.one_sign.Invariants.{isBelow}
-use Rattle.ledger.proofs.sound.one_sign.Invariants.{isAbove}
+use Rattle.ledger.proofs.sound.one_sign.Invariants.{is_below}
+use Rattle.ledger.proofs.sound.one_sign.Invariants.{is_above}
 
 pub loop-i-init : goal.loop-i-init
 unfolding any_below
@@ -29,9 +29,9 @@ loop-i-preserved c =
     let unread : to_z w64 (of_z w64 (money_at balances i)) ≡ money_at balances i = to_z-of_z {w = w64}
     (sfits_of c.struct_told-in-loop-i-1.given.0.1) in (
       omega arith,
-      ap₂ ◌||◌ c.loop-i.invariant.1 (ap (lt_z (pos 0)) unread) ∙ sym (any_step i (isAbove balances)),
+      ap₂ ◌||◌ c.loop-i.invariant.1 (ap (lt_z (pos 0)) unread) ∙ sym (any_step i (is_above balances)),
       ap₂ ◌||◌ c.loop-i.invariant.2 (ap (λ (z : ℤ). lt_z z (pos 0)) unread ∙ negative_is _) ∙ sym
-          (any_step i (isBelow balances)),
+          (any_step i (is_below balances)),
     )
 
 pub returns : goal.returns

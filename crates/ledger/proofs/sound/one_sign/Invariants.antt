@@ -12,15 +12,15 @@ use Rattle.numbers.specs.declared.units.Pesos.{Pesos}
 use Rattle.settlement.specs.Month.{money_at}
 use Rattle.ledger.proofs.sound.one_sign.Given as goal
 
-abbrev pub isAbove : List Pesos → ℕ → Bool
-isAbove balances i = lt_z (pos 0) (money_at balances i)
+abbrev pub is_above : List Pesos → ℕ → Bool
+is_above balances i = lt_z (pos 0) (money_at balances i)
 
-abbrev pub isBelow : List Pesos → ℕ → Bool
-isBelow balances i = is_negative (money_at balances i)
+abbrev pub is_below : List Pesos → ℕ → Bool
+is_below balances i = is_negative (money_at balances i)
 
 abbrev pub invariant-loop-i : goal.invariant-loop-i
 invariant-loop-i l =
-    (l.i ≤ most_distributors) × (l.above ≡ any_below l.i (isAbove l.balances)) × (l.below ≡ any_below l.i (isBelow l.balances))
+    (l.i ≤ most_distributors) × (l.above ≡ any_below l.i (is_above l.balances)) × (l.below ≡ any_below l.i (is_below l.balances))
 
 abbrev pub decreases-loop-i : goal.decreases-loop-i
 decreases-loop-i l = most_distributors - l.i

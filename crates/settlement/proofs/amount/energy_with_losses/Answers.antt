@@ -35,14 +35,14 @@ module _ (c : After-loss-low_loss) where
   abbrev start : Start
   start = (goal.at.overflow_mul-high_loss c).Start
 
-  highLoss : c.loss-high_loss.result ≡ high_loss_of c.args.losses.now c.args.i
-  highLoss = c.loss-high_loss.ensures ∙ high_first c.args.losses.now c.args.i
+  high_loss : c.loss-high_loss.result ≡ high_loss_of c.args.losses.now c.args.i
+  high_loss = c.loss-high_loss.ensures ∙ high_first c.args.losses.now c.args.i
 
-  lowLoss : c.loss-low_loss.result ≡ low_loss_of c.args.losses.now c.args.i
-  lowLoss = c.loss-low_loss.ensures
+  low_loss : c.loss-low_loss.result ≡ low_loss_of c.args.losses.now c.args.i
+  low_loss = c.loss-low_loss.ensures
 
   most : (c.loss-high_loss.result ≤ 20000) × (c.loss-low_loss.result ≤ 20000)
-  most = omega (arith, highLoss, lowLoss, (facts start).high_most, (facts start).low_most)
+  most = omega (arith, high_loss, low_loss, (facts start).high_most, (facts start).low_most)
 
   both : c.loss-high_loss.result * c.loss-low_loss.result ≤ 20000 * 20000
   both = mul-le-mul most.0 most.1
@@ -55,24 +55,24 @@ module _ (c : After-difference) where
   abbrev l : After-loss-low_loss
   l = (goal.at.overflow_mul-carried c).After-loss-low_loss
 
-  abbrev highCode : ℤ
-  highCode = back c.difference-high.result *ℤ back c.difference.result
+  abbrev high_code : ℤ
+  high_code = back c.difference-high.result *ℤ back c.difference.result
 
-  abbrev highPart : ℤ
-  highPart =
+  abbrev high_part : ℤ
+  high_part =
       high_net c.args.readings.now c.args.i c.args.s *ℤ pos
       (high_loss_of c.args.losses.now c.args.i * 10000)
 
-  high : highCode ≡ highPart
+  high : high_code ≡ high_part
   unfolding high_net
   high =
       product_bits _ _ _ _ (sfits_of c.difference-high.type_inv) (sfits_of c.difference.type_inv)
       (c.difference-high.ensures ∙ ap₂ sub_ℕ c.reading.ensures c.reading-2.ensures)
-      (c.difference.ensures ∙ pos_sub_zero _ ∙ ap (λ x. pos (x * 10000)) (highLoss l))
+      (c.difference.ensures ∙ pos_sub_zero _ ∙ ap (λ x. pos (x * 10000)) (high_loss l))
 
-  highFits : SFits w64 highCode
-  highFits =
-      is_fits highCode highPart high (omega (arith, high_product [] _ _ _ (facts d) c.args.s c.requires.fact_3))
+  high_fits : SFits w64 high_code
+  high_fits =
+      is_fits high_code high_part high (omega (arith, high_product [] _ _ _ (facts d) c.args.s c.requires.fact_3))
 
 -- the net at low voltage, carried up, and the two added up
 module _ (c : After-difference-2) where
@@ -85,38 +85,38 @@ module _ (c : After-difference-2) where
   abbrev h : After-difference
   h = (goal.at.overflow_mul-carried-2 c).After-difference
 
-  abbrev lowCode : ℤ
-  lowCode = back c.difference-low.result *ℤ back c.difference-2.result
+  abbrev low_code : ℤ
+  low_code = back c.difference-low.result *ℤ back c.difference-2.result
 
-  abbrev lowPart : ℤ
-  lowPart =
+  abbrev low_part : ℤ
+  low_part =
       low_net c.args.readings.now c.args.i c.args.s *ℤ pos
       (high_loss_of c.args.losses.now c.args.i * low_loss_of c.args.losses.now c.args.i)
 
-  low : lowCode ≡ lowPart
+  low : low_code ≡ low_part
   unfolding low_net
   low =
       product_bits _ _ _ _ (sfits_of c.difference-low.type_inv) (sfits_of c.difference-2.type_inv)
       (c.difference-low.ensures ∙ ap₂ sub_ℕ c.reading-3.ensures c.reading-4.ensures)
-      (c.difference-2.ensures ∙ pos_sub_zero _ ∙ ap₂ (λ x y. pos (x * y)) (highLoss m) (lowLoss m))
+      (c.difference-2.ensures ∙ pos_sub_zero _ ∙ ap₂ (λ x y. pos (x * y)) (high_loss m) (low_loss m))
 
-  lowFits : SFits w64 lowCode
-  lowFits =
-      is_fits lowCode lowPart low (omega (arith, low_product [] _ _ _ (facts b) c.args.s c.requires.fact_3))
+  low_fits : SFits w64 low_code
+  low_fits =
+      is_fits low_code low_part low (omega (arith, low_product [] _ _ _ (facts b) c.args.s c.requires.fact_3))
 
-  abbrev sumCode : ℤ
-  sumCode = back (highCode h) +ℤ back lowCode
+  abbrev sum_code : ℤ
+  sum_code = back (high_code h) +ℤ back low_code
 
-  sum : sumCode ≡ highPart h +ℤ lowPart
-  sum = sum_bits (highCode h) lowCode _ _ (highFits h) lowFits (high h) low
+  sum : sum_code ≡ high_part h +ℤ low_part
+  sum = sum_bits (high_code h) low_code _ _ (high_fits h) low_fits (high h) low
 
-  size : nat_abs (highPart h +ℤ lowPart) ≤ 1200000000000000000
+  size : nat_abs (high_part h +ℤ low_part) ≤ 1200000000000000000
   size = products_size [] _ _ _ (facts b) c.args.s c.requires.fact_3
 
-  fits : SFits w64 sumCode
-  fits = is_fits sumCode (highPart h +ℤ lowPart) sum (omega (arith, size))
+  fits : SFits w64 sum_code
+  fits = is_fits sum_code (high_part h +ℤ low_part) sum (omega (arith, size))
 
-  carried : back sumCode ≡ highPart h +ℤ lowPart
+  carried : back sum_code ≡ high_part h +ℤ low_part
   carried = to_z-of_z fits ∙ sum
 
 pub difference-high-requires : goal.difference-high-requires
@@ -142,7 +142,7 @@ pub difference-requires : goal.difference-requires
 difference-requires c = omega (arith, most c)
 
 pub overflow_mul-carried : goal.overflow_mul-carried
-overflow_mul-carried c = highFits c
+overflow_mul-carried c = high_fits c
 
 pub overflow_mul-high_loss-2 : goal.overflow_mul-high_loss-2
 overflow_mul-high_loss-2 c = omega (arith, both (goal.at.overflow_mul-high_loss-2 c).After-loss-low_loss)
@@ -151,7 +151,7 @@ pub difference-requires-2 : goal.difference-requires-2
 difference-requires-2 c = omega (arith, both (goal.at.difference-requires-2 c).After-loss-low_loss)
 
 pub overflow_mul-carried-2 : goal.overflow_mul-carried-2
-overflow_mul-carried-2 c = lowFits c
+overflow_mul-carried-2 c = low_fits c
 
 pub overflow_add-carried : goal.overflow_add-carried
 overflow_add-carried c = fits c

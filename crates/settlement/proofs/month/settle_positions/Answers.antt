@@ -15,11 +15,11 @@ use Rattle.settlement.proofs.month.settle_positions.Goals.{then-owing_total-owed
 
 -- the two sides
 module _ (c : After-side_sizes-owed) where
-  owingSide : Side c.args.n c.side_sizes-owing.result
-  owingSide = sizes_within c.args.n c.args.positions c.requires false _ c.side_sizes-owing.ensures
+  owing_side : Side c.args.n c.side_sizes-owing.result
+  owing_side = sizes_within c.args.n c.args.positions c.requires false _ c.side_sizes-owing.ensures
 
-  owedSide : Side c.args.n c.side_sizes-owed.result
-  owedSide = sizes_within c.args.n c.args.positions c.requires true _ c.side_sizes-owed.ensures
+  owed_side : Side c.args.n c.side_sizes-owed.result
+  owed_side = sizes_within c.args.n c.args.positions c.requires true _ c.side_sizes-owed.ensures
 
 -- their totals, and the smaller one
 module _ (c : Joined-owing_total-owed_total) where
@@ -36,15 +36,15 @@ module _ (c : Joined-owing_total-owed_total) where
     | else-owing_total-owed_total w ↦ omega arith
   ]
 
-  owingTotal : c.side_total-owing_total.result ≡ side_total n (owing position)
+  owing_total : c.side_total-owing_total.result ≡ side_total n (owing position)
   unfolding side_size
-  owingTotal =
+  owing_total =
       sizes_total n c.requires.few (side_size false position) _ _ c.side_sizes-owing.ensures
       c.side_total-owing_total.ensures
 
-  owedTotal : c.side_total-owed_total.result ≡ side_total n (owed position)
+  owed_total : c.side_total-owed_total.result ≡ side_total n (owed position)
   unfolding side_size
-  owedTotal =
+  owed_total =
       sizes_total n c.requires.few (side_size true position) _ _ c.side_sizes-owed.ensures
       c.side_total-owed_total.ensures
 
@@ -52,20 +52,20 @@ module _ (c : Joined-owing_total-owed_total) where
   unfolding transferred
   smaller =
       elim c.if-owing_total-owed_total.branch [
-        | then-owing_total-owed_total w ↦ omega (arith, owingTotal, owedTotal)
-        | else-owing_total-owed_total w ↦ omega (arith, owingTotal, owedTotal)
+        | then-owing_total-owed_total w ↦ omega (arith, owing_total, owed_total)
+        | else-owing_total-owed_total w ↦ omega (arith, owing_total, owed_total)
       ]
 
 pub side_total-owing_total-requires : goal.side_total-owing_total-requires
-side_total-owing_total-requires c = owingSide (goal.at.side_total-owing_total-requires c).After-side_sizes-owed
+side_total-owing_total-requires c = owing_side (goal.at.side_total-owing_total-requires c).After-side_sizes-owed
 
 pub side_total-owed_total-requires : goal.side_total-owed_total-requires
-side_total-owed_total-requires c = owedSide (goal.at.side_total-owed_total-requires c).After-side_sizes-owed
+side_total-owed_total-requires c = owed_side (goal.at.side_total-owed_total-requires c).After-side_sizes-owed
 
 pub shares-paid-requires : goal.shares-paid-requires
 shares-paid-requires c =
     record {
-      fact_1 = owingSide (goal.at.shares-paid-requires c).After-side_sizes-owed;
+      fact_1 = owing_side (goal.at.shares-paid-requires c).After-side_sizes-owed;
       fact_2 = c.side_total-owing_total.ensures;
       fact_3 = (least (goal.at.shares-paid-requires c).Joined-owing_total-owed_total).0;
     }
@@ -73,7 +73,7 @@ shares-paid-requires c =
 pub shares-received-requires : goal.shares-received-requires
 shares-received-requires c =
     record {
-      fact_1 = owedSide (goal.at.shares-received-requires c).After-side_sizes-owed;
+      fact_1 = owed_side (goal.at.shares-received-requires c).After-side_sizes-owed;
       fact_2 = c.side_total-owed_total.ensures;
       fact_3 = (least (goal.at.shares-received-requires c).Joined-owing_total-owed_total).1;
     }
@@ -84,9 +84,9 @@ moved-requires c =
     let t = (goal.at.moved-requires c).Joined-owing_total-owed_total in
     record {
       fact_1 = c.requires;
-      fact_2 = shares_within (n t) _ _ (owingSide s) (omega (arith, c.side_total-owing_total.ensures, least t)) _
+      fact_2 = shares_within (n t) _ _ (owing_side s) (omega (arith, c.side_total-owing_total.ensures, least t)) _
           c.shares-paid.ensures;
-      fact_3 = shares_within (n t) _ _ (owedSide s) (omega (arith, c.side_total-owed_total.ensures, least t)) _
+      fact_3 = shares_within (n t) _ _ (owed_side s) (omega (arith, c.side_total-owed_total.ensures, least t)) _
           c.shares-received.ensures;
     }
 

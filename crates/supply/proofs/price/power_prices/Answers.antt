@@ -10,7 +10,7 @@ use Rattle.numbers.proofs.ListLaws.{filled_none, filled_next}
 use Rattle.supply.specs.Line.{most_lines, most_power_price}
 use Rattle.supply.specs.Price.{power_peso_of}
 use Rattle.supply.proofs.price.power_prices.Goals as goal
-use Rattle.supply.proofs.price.power_prices.Invariants.{priceIn}
+use Rattle.supply.proofs.price.power_prices.Invariants.{price_in}
 use Rattle.supply.proofs.price.power_prices.Goals.{In-loop-j}
 
 pub loop-j-init : goal.loop-j-init
@@ -27,7 +27,7 @@ pub loop-j-preserved : goal.loop-j-preserved
 unfolding power_peso_of
 loop-j-preserved c = (
   omega arith,
-  filled_next most_lines no_power c.loop-j.j (priceIn c.args.purchases c.args.dollar) c.loop-j.power _
+  filled_next most_lines no_power c.loop-j.j (price_in c.args.purchases c.args.dollar) c.loop-j.power _
       (omega (arith, c.requires.fact_1.few)) c.loop-j.invariant.1
       (ap {B = PowerPrice} (λ x. record { 0 = x }) c.half_up.ensures),
 )

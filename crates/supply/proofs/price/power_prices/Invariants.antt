@@ -10,12 +10,12 @@ use Rattle.supply.specs.Line.{most_lines}
 use Rattle.supply.specs.Price.{power_peso_of}
 use Rattle.supply.proofs.price.power_prices.Given as goal
 
-abbrev pub priceIn : List ℕ → ℕ → ℕ → PowerPrice
-priceIn purchases dollar j = record { 0 = power_peso_of (get_or purchases j 0) dollar }
+abbrev pub price_in : List ℕ → ℕ → ℕ → PowerPrice
+price_in purchases dollar j = record { 0 = power_peso_of (get_or purchases j 0) dollar }
 
 abbrev pub invariant-loop-j : goal.invariant-loop-j
 invariant-loop-j l =
-    (l.j ≤ l.count) × (l.power ≡ filled_below most_lines no_power l.j (priceIn l.purchases l.dollar))
+    (l.j ≤ l.count) × (l.power ≡ filled_below most_lines no_power l.j (price_in l.purchases l.dollar))
 
 abbrev pub decreases-loop-j : goal.decreases-loop-j
 decreases-loop-j l = l.count - l.j
