@@ -1,7 +1,7 @@
 -- The class examples of document 01, by its own numbers, as document 02 restates them, each evaluated by the
 -- definitions that the contracts cite. Assumes nothing.
 use Rattle.std.specs.Prelude.{List, [], ◌∷◌, ◌++◌, ℕ, zero, suc, replicate, ℤ, pos, negsuc}
-use Rattle.std.proofs.Math.Option.{Option, none, some}
+use Rattle.std.specs.Prelude.{Option, Some, None}
 use Rattle.numbers.specs.Bounded.{list_below}
 use Rattle.numbers.specs.Refusal.{Answered, verdict_answered}
 use Rattle.numbers.specs.declared.units.Pesos.{Pesos}
@@ -24,8 +24,8 @@ use Rattle.examples.specs.Table.{Example, whole}
 
 -- a month as a value: -1 where it is below 0
 unfoldable pub month_value : Option ℕ → ℤ
-month_value none = negsuc 0
-month_value (some month) = pos month
+month_value None = negsuc 0
+month_value (Some month) = pos month
 
 -- the lent words of a table with one month in each row, of which coal and CPI have a value
 unfoldable pub row_of : ℕ → List ℕ

@@ -8,7 +8,7 @@ use lib.ListN.{get_or}
 use Rattle.numbers.specs.Rounding.{half_up}
 use Rattle.numbers.specs.Units.{no_price}
 use Rattle.numbers.specs.Sizes.{most_distributors}
-use Rattle.numbers.specs.declared.refusal.Verdict.TheVariants.{Passed}
+use Rattle.std.specs.Prelude.{Ok, Err}
 use Rattle.numbers.specs.declared.units.PesoPrice.{PesoPrice}
 use Rattle.numbers.specs.declared.units.Energy.{Energy}
 use Rattle.numbers.proofs.SumLaws.{sum_same}
@@ -75,7 +75,7 @@ module _ (n : ℕ) (one other : FixingInput) (same : SameButPower one other) whe
   unfolding input_distributors
   distributors_same = ap₂ (distributors n) averages_same energies_same
 
-  pub fixing_same : input_verdict n one ≡ Passed → input_verdict n other ≡ Passed →
+  pub fixing_same : input_verdict n one ≡ Ok tt → input_verdict n other ≡ Ok tt →
       SameEnergyParts (fixing_of n one) (fixing_of n other)
   unfolding accepted_fixing input_distributors
   fixing_same p q =

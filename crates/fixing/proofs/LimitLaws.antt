@@ -2,7 +2,7 @@
 -- Assumes nothing.
 use mathlib.Core.Path.{◌≡◌, refl, sym, ◌∙◌, ap}
 use mathlib.Core.Bool.{Bool, true, false, cond, not, ◌&&◌, ◌||◌}
-use mathlib.Core.Option.{Option, none, some}
+use Rattle.std.specs.Prelude.{Option, Some, None}
 use Prim.Native.Nat.{ℕ, zero, suc, ◌+◌, ◌-◌, ◌*◌, ◌≤◌, ◌<◌, min}
 use native.Mathlib.Omega.{arith}
 use native.Mathlib.Decide.{dec_lt}
@@ -200,7 +200,7 @@ module _ (d : Distributors) (r : InRange d) where
       rounds_before_last d ≡ k
   unfolding rounds_before_last
   last_is k f e =
-      let stop : ℕ → Option ℕ = λ j. cond (any_joins_after d j) none (some j) in
+      let stop : ℕ → Option ℕ = λ j. cond (any_joins_after d j) None (Some j) in
       ap or_zero (first_is stop k d.count k (joined_below k f) (first_never stop k (λ j p. rw (f j p))) (rw e))
 
   last : Fails (any_joins_after d)

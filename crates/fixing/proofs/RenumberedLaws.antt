@@ -12,7 +12,7 @@ use Rattle.numbers.specs.Renumbering.{Renumbering, place_by, moved_along}
 use Rattle.numbers.specs.Rounding.{half_up}
 use Rattle.numbers.specs.Sizes.{most_distributors, sector_count, sector_places}
 use Rattle.numbers.specs.Units.{no_price, no_power, no_energy}
-use Rattle.numbers.specs.declared.refusal.Verdict.TheVariants.{Passed}
+use Rattle.std.specs.Prelude.{Ok, Err}
 use Rattle.numbers.specs.declared.units.PesoPrice.{PesoPrice}
 use Rattle.numbers.specs.declared.units.PowerPrice.{PowerPrice}
 use Rattle.numbers.specs.declared.units.Energy.{Energy}
@@ -208,7 +208,7 @@ module _ {n : ℕ} (r : Renumbering n) (one other : FixingInput) (h : Renumbered
           energy = energies_renumbered;
         }
 
-    pub fixing_renumbered : input_verdict n one ≡ Passed → input_verdict n other ≡ Passed →
+    pub fixing_renumbered : input_verdict n one ≡ Ok tt → input_verdict n other ≡ Ok tt →
         RenumberedFixing r (fixing_of n one) (fixing_of n other)
     unfolding accepted_fixing fixed_prices final_prices charge_list
     fixing_renumbered p q =

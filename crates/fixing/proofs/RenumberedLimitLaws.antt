@@ -3,7 +3,7 @@
 -- rounds and residue are the same, and each distributor has the same final price and charge. Assumes nothing.
 use mathlib.Core.Path.{◌≡◌, refl, ◌∙◌, ap, ap₂}
 use mathlib.Core.Bool.{Bool, cond, not, ◌&&◌, ◌||◌}
-use mathlib.Core.Option.{none, some}
+use Rattle.std.specs.Prelude.{Some, None}
 use Prim.Native.Nat.{ℕ, zero, suc, ◌+◌, ◌-◌, ◌*◌, ◌/◌, ◌<◌}
 use lib.Dec.{ltb}
 use lib.IntN.{sub_ℕ}
@@ -93,8 +93,8 @@ module _ (one other : Distributors) (r : Renumbering one.count) (h : RenumberedD
   unfolding rounds_before_last
   last_renumbered =
       ap or_zero
-      (ap (λ n. first_below n (λ k. cond (any_joins_after other k) none (some k))) h.count
-      ∙ first_same _ _ one.count (λ k p. ap (λ b. cond b none (some k)) (joins_renumbered k)))
+      (ap (λ n. first_below n (λ k. cond (any_joins_after other k) None (Some k))) h.count
+      ∙ first_same _ _ one.count (λ k p. ap (λ b. cond b None (Some k)) (joins_renumbered k)))
 
   pub rounds_renumbered : rounds other ≡ rounds one
   unfolding rounds

@@ -3,7 +3,7 @@
 use mathlib.Core.Path.{◌≡◌, refl, sym, ◌∙◌, ap}
 use mathlib.Core.Bool.{true, false}
 use mathlib.Core.List.{List}
-use mathlib.Core.Option.{none}
+use Rattle.std.specs.Prelude.{None, Ok, Err}
 use Prim.Native.Nat.{ℕ, ◌≤◌, ◌<◌}
 use native.Mathlib.Omega.{arith}
 use lib.ListN.{get_or}
@@ -11,9 +11,8 @@ use Rattle.numbers.specs.Checks.{verdict_of}
 use Rattle.numbers.specs.Units.{no_price, no_power, least_price, most_price}
 use Rattle.numbers.specs.declared.refusal.Refusal.{Refusal}
 use Rattle.numbers.specs.declared.refusal.Refusal.TheVariants.{OutOfRange, ValueTooLarge, WrongSector, NoLine}
-use Rattle.numbers.specs.declared.refusal.Verdict.{Verdict}
+use Rattle.numbers.specs.Refusal.{Verdict}
 use Rattle.numbers.specs.Required.{ValuesWithin}
-use Rattle.numbers.specs.declared.refusal.Verdict.TheVariants.{Passed, Refused}
 use Rattle.numbers.specs.declared.units.PesoPrice.{PesoPrice}
 use Rattle.numbers.specs.declared.units.PowerPrice.{PowerPrice}
 use Rattle.numbers.proofs.ListLaws.{filled_at}
@@ -45,7 +44,7 @@ use Rattle.fixing.proofs.InputLaws.{own_lines, accepted_range}
 
 -- lines are looked for before months: a distributor without line is 9, whatever months are missing
 pub no_line : (n : ℕ) (input : FixingInput) → ranged n input ≡ true → values_in_range input.series ≡ true →
-    sectors_allowed n input.sectors ≡ true → supplied n input ≡ false → verdict_of (input_checks n input) ≡ Refused
+    sectors_allowed n input.sectors ≡ true → supplied n input ≡ false → verdict_of (input_checks n input) ≡ Err
     NoLine
 unfolding FirstPass input_checks
 no_line n input a b c =
@@ -75,12 +74,12 @@ module _ (n : ℕ) (input : FixingInput) where
     checked_table table e = rw e (table_in_range input.series ok.small)
 
     -- references of which none is out of bounds can be averaged
-    pub checked_accepted : beyond_line input ≡ none → (prices : List PesoPrice) → prices ≡ input_references input →
+    pub checked_accepted : beyond_line input ≡ None → (prices : List PesoPrice) → prices ≡ input_references input →
         AcceptedLines n prices input.lines
     unfolding input_references reference_list
     checked_accepted h prices e =
         record {
-          some = ok.lengths.some;
+          Some = ok.lengths.some;
           few = ok.lengths.few;
           priced = record { own = checked_own; priced = λ j p. omega (arith, listed j p, (within j p).1) };
           least = λ j p. omega (arith, listed j p, (within j p).0);
@@ -97,7 +96,7 @@ module _ (n : ℕ) (input : FixingInput) where
             (omega (arith, ok.lengths.lines))))
 
     -- and so can power prices
-    pub checked_power : beyond_line input ≡ none → (power : List PowerPrice) → power ≡ input_power_prices input →
+    pub checked_power : beyond_line input ≡ None → (power : List PowerPrice) → power ≡ input_power_prices input →
         PowerPricedLines power input.lines
     unfolding input_power_prices power_list
     checked_power h power e =
@@ -122,8 +121,8 @@ module _ (n : ℕ) (input : FixingInput) where
   verdict_is = go (input_verdict n input)
     where
       go : (v : Verdict) → (fixing_by v (worked_fixing n input)).verdict ≡ v
-      go Passed = refl
-      go (Refused refusal) = refl
+      go (Ok _) = refl
+      go (Err refusal) = refl
 
   pub input_told : AllTold (input_checks n input)
   unfolding AllTold input_checks
@@ -151,7 +150,7 @@ module _ (n : ℕ) (input : FixingInput) where
       }
 
   pub worked_refused : (fixing : Fixing) (refusal : Refusal) → fixing ≡ refused_fixing refusal →
-      verdict_of (input_checks n input) ≡ Refused refusal →
+      verdict_of (input_checks n input) ≡ Err refusal →
       InputPromise n input fixing
   unfolding fixing_of input_verdict
   worked_refused fixing refusal e h = fixing_worked fixing (e ∙ ap (λ v. fixing_by v (worked_fixing n input)) (sym h))
@@ -177,21 +176,21 @@ module _ (n : ℕ) (input : FixingInput) where
           ∙ sym promise.judged.answered ∙ v
 
       pub priced_refused : (fixing : Fixing) (refusal : Refusal) → fixing ≡ refused_fixing refusal →
-          given.verdict ≡ Refused refusal → InputPromise n input fixing
-      priced_refused fixing refusal f v = worked_refused fixing refusal f (table_left ∙ priced (Refused refusal) v)
+          given.verdict ≡ Err refusal → InputPromise n input fixing
+      priced_refused fixing refusal f v = worked_refused fixing refusal f (table_left ∙ priced (Err refusal) v)
 
-      module _ (v : given.verdict ≡ Passed) where
-        prices_are : given ≡ prices_by Passed (input_references input) (input_power_prices input)
+      module _ (v : given.verdict ≡ Ok tt) where
+        prices_are : given ≡ prices_by (Ok tt) (input_references input) (input_power_prices input)
         unfolding input_references input_power_prices
         prices_are =
             passed_prices table input.numbers input.lines input.in_force given promise v
-            ∙ ap (λ t. prices_by Passed
+            ∙ ap (λ t. prices_by (Ok tt)
             (reference_list (term_mean t input.numbers) input.numbers input.lines input.in_force)
             (power_list (term_mean t input.numbers) input.numbers input.lines)) e
 
-        within : beyond_line input ≡ none
+        within : beyond_line input ≡ None
         within =
-            passed_bounds (index_table input) input.numbers input.lines input.in_force (priced Passed v)
+            passed_bounds (index_table input) input.numbers input.lines input.in_force (priced (Ok tt) v)
 
         pub priced_accepted : AcceptedLines n given.references input.lines
         priced_accepted =
@@ -209,10 +208,10 @@ module _ (n : ℕ) (input : FixingInput) where
             fixing_worked fixing
             (f ∙ ap (λ (p : LinePrices). accepted_fixing n (average_list n p.references input.lines)
             (power_averages n p.power input.lines) (energy_list input.lines) input.sectors) prices_are
-            ∙ ap (λ x. fixing_by x (worked_fixing n input)) (sym (table_left ∙ priced Passed v)))
+            ∙ ap (λ x. fixing_by x (worked_fixing n input)) (sym (table_left ∙ priced (Ok tt) v)))
 
   -- input that passed every check
-  module _ (passed : input_verdict n input ≡ Passed) where
+  module _ (passed : input_verdict n input ≡ Ok tt) where
     pub passed_fixing : fixing_of n input ≡ accepted_fixing n (input_averages n input) (input_power n input)
         (input_energies input) input.sectors
     unfolding fixing_of worked_fixing

@@ -1,10 +1,10 @@
 -- What a fixing is given beside the ledger, and the checks that it makes of it, causes 6 to 11 of document 01 and 14 of
 -- document 02, each over the whole input. Their order is the list `input_checks`. Assumes nothing.
 use Rattle.std.specs.Prelude.{◌≡◌, Bool, List, ◌∷◌, ℕ}
-use Rattle.std.proofs.Math.Option.{Option}
+use Rattle.std.specs.Prelude.{Option}
 use Rattle.numbers.specs.Checks.{Check, check, verdict_of}
 use Rattle.numbers.specs.declared.refusal.Refusal.TheVariants.{OutOfRange, ValueTooLarge, WrongSector, NoLine}
-use Rattle.numbers.specs.declared.refusal.Verdict.{Verdict}
+use Rattle.numbers.specs.Refusal.{Verdict}
 use Rattle.numbers.specs.declared.units.PesoPrice.{PesoPrice}
 use Rattle.numbers.specs.declared.units.PowerPrice.{PowerPrice}
 use Rattle.numbers.specs.declared.units.Energy.{Energy}

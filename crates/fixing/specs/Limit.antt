@@ -4,7 +4,7 @@
 -- A difference below is never cut off at 0 and no divisor is 0: proofs/LimitLaws shows it for every input in range.
 -- Assumes nothing.
 use Rattle.std.specs.Prelude.{Bool, cond, not, ◌&&◌, ◌||◌, ℕ, zero, suc, ◌+◌, ◌-◌, ◌*◌, ◌/◌, ◌≤◌, ◌<◌, ltb, ℤ}
-use Rattle.std.proofs.Math.Option.{Option, none, some}
+use Rattle.std.specs.Prelude.{Option, Some, None}
 use Rattle.std.proofs.Math.IntN.{sub_ℕ}
 use Rattle.numbers.specs.Bounded.{sum_below, any_below, first_below}
 use Rattle.numbers.specs.Rounding.{divide_up}
@@ -68,12 +68,12 @@ unfoldable pub any_above : Distributors → Bool
 any_above d = any_below d.count (above_limit d 0)
 
 abbrev pub or_zero : Option ℕ → ℕ
-or_zero none = 0
-or_zero (some k) = k
+or_zero None = 0
+or_zero (Some k) = k
 
 -- how many rounds stand before the last one, "that in which nobody joins". The search below n never runs out
 unfoldable pub rounds_before_last : Distributors → ℕ
-rounds_before_last d = or_zero (first_below d.count (λ k. cond (any_joins_after d k) none (some k)))
+rounds_before_last d = or_zero (first_below d.count (λ k. cond (any_joins_after d k) None (Some k)))
 
 -- "the count of rounds made": 0 if no p_i is above L
 unfoldable pub rounds : Distributors → ℕ
@@ -106,7 +106,7 @@ residue d = collected d - contract_total d
 -- the input that 01 lets reach the limit: 1 to 40 distributors, each average within the bounds of a peso price, each
 -- energy at least 1, and at most 256 lines of 10,000,000 in all
 pub record InRange (d : Distributors) : Type 0 where
-  pub some : 1 ≤ d.count
+  pub Some : 1 ≤ d.count
   pub few : d.count ≤ most_distributors
   pub least : (i : ℕ) → i < d.count → 1000 ≤ d.average i
   pub most : (i : ℕ) → i < d.count → d.average i ≤ 2000000

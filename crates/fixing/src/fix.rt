@@ -6,56 +6,30 @@ ghost use Rattle.fixing.specs.Average.{average_list, energy_list};
 ghost use Rattle.fixing.specs.Power.{power_averages};
 ghost use Rattle.fixing.specs.Sector.{sectors_allowed};
 ghost use Rattle.fixing.specs.Input.{input_of};
-ghost use Rattle.fixing.specs.Fixing.{refused_fixing, accepted_fixing, InputPromise};
+ghost use Rattle.fixing.specs.Fixing.{accepted_fixing, InputPromise};
 ghost use Rattle.fixing.specs.Required.{AcceptedLines, PowerPricedLines, RightLengths};
 
 use crate::average::{averages, energies, every_energy};
-use crate::power::{no_power, power_averages};
-use crate::prices::{FixedPrices, charges, fix_prices, no_charge_list, no_prices};
-use crate::sector::{SectorCharges, no_charges, sector_charges, sectors_allowed};
-use numbers::refusal::{Refusal, Verdict};
+use crate::power::power_averages;
+use crate::prices::{FixedPrices, charges, fix_prices};
+use crate::sector::{SectorCharges, sector_charges, sectors_allowed};
+use numbers::refusal::Refusal;
 use numbers::sizes::MOST_DISTRIBUTORS;
-use numbers::units::{Energy, PesoPrice, PowerPrice, UnsignedPesos};
+use numbers::units::{Energy, PesoPrice, PowerPrice};
 use series::table::{fill, values_in_range};
 use supply::market::FixingNumbers;
 use supply::price::{LinePrices, price_lines};
 use supply::range::input_in_range;
 
-// What a fixing comes to: where the verdict is not Passed, all else is empty.
+// What an accepted fixing comes to.
 #[derive(Clone, Copy)]
 pub struct Fixing {
-    pub verdict: Verdict,
     pub averages: [PesoPrice; MOST_DISTRIBUTORS],
     pub power: [PowerPrice; MOST_DISTRIBUTORS],
     pub prices: FixedPrices,
     // Final price less average, signed, in 0.001 $/kWh.
     pub charges: [i64; MOST_DISTRIBUTORS],
     pub sectors: SectorCharges,
-}
-
-// A refused fixing.
-fn refused(refusal: Refusal) -> Fixing
-    ensures { result ≡ refused_fixing refusal }
-{
-    let none = no_prices();
-    let prices = FixedPrices {
-        limit: PesoPrice(0),
-        surcharge: PesoPrice(0),
-        rounds: 0,
-        residue: UnsignedPesos(0),
-        finals: none,
-    };
-    let power = no_power();
-    let charges = no_charge_list();
-    let sectors = no_charges();
-    Fixing {
-        verdict: Verdict::Refused(refusal),
-        averages: none,
-        power,
-        prices,
-        charges,
-        sectors,
-    }
 }
 
 // An accepted fixing: the prices of lines that passed every check.
@@ -84,7 +58,6 @@ fn accepted(
     let charges = charges(n, averages, finals);
     let sectors = sector_charges(n, charges, sectors);
     Fixing {
-        verdict: Verdict::Passed,
         averages,
         power,
         prices,
@@ -101,28 +74,24 @@ pub fn fix_input(
     lines: &[u64],
     sectors: &[u64],
     in_force: &[u64],
-) -> Fixing
+) -> Result<Fixing, Refusal>
     requires { RightLengths n (input_of numbers series.now lines.now sectors.now in_force.now) }
     ensures { InputPromise n (input_of numbers series.now lines.now sectors.now
         in_force.now) result }
 {
     if !input_in_range(n, numbers, lines, in_force) {
-        return refused(Refusal::OutOfRange);
+        return Err(Refusal::OutOfRange);
     }
     if !values_in_range(series) {
-        return refused(Refusal::ValueTooLarge);
+        return Err(Refusal::ValueTooLarge);
     }
     if !sectors_allowed(n, sectors) {
-        return refused(Refusal::WrongSector);
+        return Err(Refusal::WrongSector);
     }
     let energies = energies(lines);
     if !every_energy(n, energies) {
-        return refused(Refusal::NoLine);
+        return Err(Refusal::NoLine);
     }
-    let priced = price_lines(fill(series), numbers, lines, in_force);
-    let verdict = priced.verdict;
-    if let Verdict::Refused(refusal) = verdict {
-        return refused(refusal);
-    }
-    accepted(n, priced, lines, energies, sectors)
+    let priced = price_lines(fill(series), numbers, lines, in_force)?;
+    Ok(accepted(n, priced, lines, energies, sectors))
 }

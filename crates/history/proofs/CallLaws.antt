@@ -2,7 +2,7 @@
 use mathlib.Core.Path.{◌≡◌, refl, sym, ◌∙◌, ap, ap₂}
 use mathlib.Core.Bool.{Bool, true, false, cond, not, ◌&&◌, ◌||◌, true≢false}
 use mathlib.Core.List.{List, [], ◌∷◌}
-use mathlib.Core.Option.{Option, none, some}
+use Rattle.std.specs.Prelude.{Option, Some, None}
 use Prim.Native.Nat.{ℕ, ◌+◌, ◌≤◌, ◌<◌}
 use native.Mathlib.Omega.{arith}
 use lib.Dec.{ltb, eqb}
@@ -64,8 +64,8 @@ pub record Same (answered : Answered) (passed : Bool) (plain : Answered) : Type 
 
 -- the ledger's checks beside the plain ledger's causes: each is met at once, with one number and the same values
 abbrev told : ℕ → Option Met → Option Answered
-told number none = none
-told number (some met) = some (record { number = number; values = met.values })
+told number None = None
+told number (Some met) = Some (record { number = number; values = met.values })
 
 unfoldable Alike : List Check → List (Option Answered) → Type 0
 Alike [] [] = Unit {0}
@@ -83,8 +83,8 @@ first_same (c ∷ checks) (o ∷ causes) values h = rw (← h.0) (go c.met (firs
   where
     go : (m : Option Met) → answered_by checks values ≡ first_cause causes values →
         answered_or c.number m (answered_by checks values) ≡ first_cause (told c.number m ∷ causes) values
-    go none later = later
-    go (some met) later = refl
+    go None later = later
+    go (Some met) later = refl
 
 call_same : (checks : List Check) (causes : List (Option Answered)) (values : List ℕ) → AllTold checks →
     Alike checks causes →
@@ -104,12 +104,12 @@ test_same number refusal true = refl
 test_same number refusal false = refl
 
 term_same : (place : Option Place) → told 10 (missing_at place) ≡ cause_at_term 10 place
-term_same none = refl
-term_same (some place) = refl
+term_same None = refl
+term_same (Some place) = refl
 
 line_same : (line : Option ℕ) → told 11 (out_of_bounds_at line) ≡ cause_at_line 11 line
-line_same none = refl
-line_same (some line) = refl
+line_same None = refl
+line_same (Some line) = refl
 
 -- the ledger that follows is sound
 module _ (plain : Plain) (h : sound (image plain) ≡ true) where
@@ -131,14 +131,14 @@ module _ (plain : Plain) (h : sound (image plain) ≡ true) where
 -- the fixing that is made the older, by its arguments and by its presences and charges
 module _ (n : ℕ) (call : FixingCall) where
   kept_same : (later same : Bool) (older : Option FixingCall) →
-      ((later || (is_held older && same)) ≡ is_held (cond later (some call) (cond same older none)))
-      × (cond later (held_force n (some call)) (cond (is_held older && same) (held_force n older) no_charges) ≡ held_force n
-      (cond later (some call) (cond same older none)))
+      ((later || (is_held older && same)) ≡ is_held (cond later (Some call) (cond same older None)))
+      × (cond later (held_force n (Some call)) (cond (is_held older && same) (held_force n older) no_charges) ≡ held_force n
+      (cond later (Some call) (cond same older None)))
   kept_same true same older = (refl, refl)
-  kept_same false true none = (refl, refl)
-  kept_same false true (some o) = (refl, refl)
-  kept_same false false none = (refl, refl)
-  kept_same false false (some o) = (refl, refl)
+  kept_same false true None = (refl, refl)
+  kept_same false true (Some o) = (refl, refl)
+  kept_same false false None = (refl, refl)
+  kept_same false false (Some o) = (refl, refl)
 
 older_same : (plain : Plain) (month : ℕ) → sound (image plain) ≡ true →
     (older_stands (image plain) month ≡ is_held (older_for plain.held plain.older month))
@@ -152,9 +152,9 @@ older_same plain month h = go plain.held plain.older (sound_facts (image plain) 
         × (cond (is_held held && ltb (held_month held) month) (held_force plain.count held)
         (cond (is_held older && eqb month (held_month held)) (held_force plain.count older) no_charges) ≡ held_force
         plain.count (older_for held older month))
-    go none none beside = (refl, refl)
-    go none (some o) beside = absurd (true≢false (sym (beside refl)))
-    go (some call) older beside =
+    go None None beside = (refl, refl)
+    go None (Some o) beside = absurd (true≢false (sym (beside refl)))
+    go (Some call) older beside =
         kept_same plain.count call (ltb call.input.numbers.month month)
         (eqb month call.input.numbers.month) older
 

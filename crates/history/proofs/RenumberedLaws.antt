@@ -15,8 +15,8 @@ use Rattle.numbers.specs.Renumbering.{Renumbering, moved_along, StandUnder}
 use Rattle.numbers.specs.Sizes.{most_distributors, sector_count}
 use Rattle.numbers.specs.Units.{no_price, no_power}
 use Rattle.numbers.specs.declared.refusal.Refusal.TheVariants.{Unsound, WrongLength}
-use Rattle.numbers.specs.declared.refusal.Verdict.{Verdict}
-use Rattle.numbers.specs.declared.refusal.Verdict.TheVariants.{Passed, Refused}
+use Rattle.numbers.specs.Refusal.{Verdict}
+use Rattle.std.specs.Prelude.{Ok, Err}
 use Rattle.numbers.specs.declared.units.PesoPrice.{PesoPrice}
 use Rattle.numbers.specs.declared.units.PowerPrice.{PowerPrice}
 use Rattle.numbers.proofs.CheckLaws.{FirstPass, passes, refused_unless}
@@ -43,7 +43,7 @@ use Rattle.history.specs.Renumbered.{SameUnder}
 use Rattle.history.proofs.RenumberedLedgerLaws.{any_settled_moved, sound_moved, beside_moved, entries_moved}
 
 -- what an accepted fixing wrote of distributor i
-module _ (ledger : Ledger) (call : FixingCall) (v : fixing_verdict ledger call ≡ Passed) (i k : ℕ) (p : i < ledger.n)
+module _ (ledger : Ledger) (call : FixingCall) (v : fixing_verdict ledger call ≡ Ok tt) (i k : ℕ) (p : i < ledger.n)
   where
     abbrev worked : Fixing
     worked = fixing_of ledger.n call.input
@@ -69,12 +69,12 @@ part_same k e f g = rw (e, f, g)
 
 -- what is refused before the input is looked at
 module _ (ledger : Ledger) (call : FixingCall) where
-  unsound_refused : sound ledger ≡ false → fixing_verdict ledger call ≡ Refused Unsound
+  unsound_refused : sound ledger ≡ false → fixing_verdict ledger call ≡ Err Unsound
   unfolding fixing_verdict fixing_checks FirstPass
   unsound_refused = refused_unless 0 (fixing_checks ledger call) 2 (sound ledger) Unsound _ tt refl
 
   length_refused : sound ledger ≡ true → call_lengths ledger.n call ≡ false →
-      fixing_verdict ledger call ≡ Refused WrongLength
+      fixing_verdict ledger call ≡ Err WrongLength
   unfolding fixing_verdict fixing_checks FirstPass
   length_refused whole =
       refused_unless 1 (fixing_checks ledger call) 3 (call_lengths ledger.n call) WrongLength _
@@ -152,17 +152,17 @@ module _ (ledger : Ledger) (r : Renumbering ledger.n) (call given : FixingCall) 
           )
 
     -- and where it is accepted
-    module _ (passed : fixing_verdict ledger call ≡ Passed) where
+    module _ (passed : fixing_verdict ledger call ≡ Ok tt) where
       whole : sound ledger ≡ true
       whole = (fixing_passed ledger call (ap is_passed passed)).whole
 
       right : call_lengths ledger.n call ≡ true
       right = (fixing_passed ledger call (ap is_passed passed)).lengths
 
-      input_passed : input_verdict ledger.n call.input ≡ Passed
+      input_passed : input_verdict ledger.n call.input ≡ Ok tt
       input_passed = (fixing_passed ledger call (ap is_passed passed)).passed
 
-      verdict : fixing_verdict (moved_ledger r ledger) given ≡ Passed
+      verdict : fixing_verdict (moved_ledger r ledger) given ≡ Ok tt
       unfolding fixing_verdict
       verdict = ap verdict_of (checks_same whole right) ∙ passed
 
@@ -243,8 +243,8 @@ module _ (ledger : Ledger) (r : Renumbering ledger.n) (call given : FixingCall) 
     answer_same = go (fixing_verdict ledger call) refl
       where
         go : (v : Verdict) → fixing_verdict ledger call ≡ v → fixing_answer other given ≡ fixing_answer ledger call
-        go Passed e = ap (λ l. fixing_answer l given) (other_moved (whole e)) ∙ accepted_answer_lem e
-        go (Refused refusal) e = rw (verdict_same, e)
+        go (Ok _) e = ap (λ l. fixing_answer l given) (other_moved (whole e)) ∙ accepted_answer_lem e
+        go (Err refusal) e = rw (verdict_same, e)
 
     ledger_same : fixing_ledger other given ≡ renumbered_ledger r (fixing_ledger ledger call)
     unfolding fixing_ledger renumbered_ledger
@@ -252,18 +252,18 @@ module _ (ledger : Ledger) (r : Renumbering ledger.n) (call given : FixingCall) 
       where
         go : (v : Verdict) → fixing_verdict ledger call ≡ v →
             fixing_ledger other given ≡ renumbered_ledger r (fixing_ledger ledger call)
-        go Passed e =
+        go (Ok _) e =
             ap (λ l. fixing_ledger l given) (other_moved (whole e)) ∙ booked e
             ∙ sym (rw (fixing_keeps ledger call (whole e)))
-        go (Refused refusal) e = rw (verdict_same, e)
+        go (Err refusal) e = rw (verdict_same, e)
 
     sound_before : sound (fixing_ledger ledger call) ≡ true → sound ledger ≡ true
     unfolding fixing_ledger
     sound_before h = go (fixing_verdict ledger call) refl
       where
         go : (v : Verdict) → fixing_verdict ledger call ≡ v → sound ledger ≡ true
-        go Passed e = whole e
-        go (Refused refusal) e = rw e at h
+        go (Ok _) e = whole e
+        go (Err refusal) e = rw e at h
 
     pub same_under : (first second : HandedBack) → HandsBack ledger call first → HandsBack other given second →
         SameUnder r first second

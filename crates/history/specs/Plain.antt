@@ -3,7 +3,7 @@
 -- through its image, the ledger that follows from it. Joins are "done on the plain ledger in the same way" (W-205 of
 -- document 02), and it "keeps the older fixing by the same rules" (W-206). Assumes nothing.
 use Rattle.std.specs.Prelude.{Bool, true, false, cond, not, List, [], ◌∷◌, ℕ, ◌+◌, ltb, eqb, ℤ, pos, ◌+ℤ◌}
-use Rattle.std.proofs.Math.Option.{Option, none, some}
+use Rattle.std.specs.Prelude.{Option, Some, None}
 use Rattle.numbers.specs.Bounded.{any_below, filled_below}
 use Rattle.numbers.specs.Refusal.{Answered, accepted, without_values}
 use Rattle.numbers.specs.Signed.{signed_sum_below}
@@ -38,33 +38,33 @@ pub record Plain : Type 0 where
 
 -- "at first n, zeros and no fixing"
 unfoldable pub plain_opened : ℕ → Plain
-plain_opened n = record { count = n; months = λ i. 0; last = 0; held = none; older = none; balance = λ i. pos 0 }
+plain_opened n = record { count = n; months = λ i. 0; last = 0; held = None; older = None; balance = λ i. pos 0 }
 
 -- what follows from the arguments held: whether there is a fixing, its month, its first day, its presences and sector
 -- charges
 abbrev pub is_held : Option FixingCall → Bool
-is_held none = false
-is_held (some call) = true
+is_held None = false
+is_held (Some call) = true
 
 abbrev pub held_month : Option FixingCall → ℕ
-held_month none = 0
-held_month (some call) = call.input.numbers.month
+held_month None = 0
+held_month (Some call) = call.input.numbers.month
 
 abbrev pub held_day : Option FixingCall → ℕ
-held_day none = 0
-held_day (some call) = call.input.numbers.day
+held_day None = 0
+held_day (Some call) = call.input.numbers.day
 
 abbrev pub held_force : ℕ → Option FixingCall → SectorCharges
-held_force n none = no_charges
-held_force n (some call) = sector_charges n (charge (input_distributors n call.input)) call.input.sectors
+held_force n None = no_charges
+held_force n (Some call) = sector_charges n (charge (input_distributors n call.input)) call.input.sectors
 
 -- the arguments kept as the older beside a new fixing for a month: for a later one those held, for the same one the
 -- older as before, for an earlier one none
 unfoldable pub older_for : Option FixingCall → Option FixingCall → ℕ → Option FixingCall
-older_for none older month = none
-older_for (some call) older month =
-    cond (ltb call.input.numbers.month month) (some call)
-    (cond (eqb month call.input.numbers.month) older none)
+older_for None older month = None
+older_for (Some call) older month =
+    cond (ltb call.input.numbers.month month) (Some call)
+    (cond (eqb month call.input.numbers.month) older None)
 
 -- whether any month is settled, the month that comes next, and what a month is billed under: "where days are split, ..
 -- the arguments of the fixing in force and of the older one"
@@ -98,22 +98,22 @@ image plain =
 
 -- a cause by its number, met where a test fails
 abbrev pub cause : ℕ → Bool → Option Answered
-cause number passed = cond passed none (some (without_values number))
+cause number passed = cond passed None (Some (without_values number))
 
 -- a cause that returns its place: "line, term" and "first such line"
 abbrev pub cause_at_term : ℕ → Option Place → Option Answered
-cause_at_term number none = none
-cause_at_term number (some place) = some (record { number = number; values = place.line ∷ place.term ∷ [] })
+cause_at_term number None = None
+cause_at_term number (Some place) = Some (record { number = number; values = place.line ∷ place.term ∷ [] })
 
 abbrev pub cause_at_line : ℕ → Option ℕ → Option Answered
-cause_at_line number none = none
-cause_at_line number (some line) = some (record { number = number; values = line ∷ [] })
+cause_at_line number None = None
+cause_at_line number (Some line) = Some (record { number = number; values = line ∷ [] })
 
 -- the first cause that is met, or the values of what is accepted
 unfoldable pub first_cause : List (Option Answered) → List ℕ → Answered
 first_cause [] values = accepted values
-first_cause (none ∷ rest) values = first_cause rest values
-first_cause (some met ∷ rest) values = met
+first_cause (None ∷ rest) values = first_cause rest values
+first_cause (Some met ∷ rest) values = met
 
 -- "Each call is put to the checks below, in their order, on the plain ledger": a fixing, regular or interim
 unfoldable pub fixing_causes : Plain → FixingCall → List (Option Answered)
@@ -193,7 +193,7 @@ plain_change plain (fixing call) =
       count = plain.count;
       months = plain.months;
       last = plain.last;
-      held = some call;
+      held = Some call;
       older = older_for plain.held plain.older call.input.numbers.month;
       balance = plain.balance;
     }
@@ -211,8 +211,8 @@ plain_change plain join =
       count = plain.count + 1;
       months = with_one_more plain.count plain.months 0;
       last = plain.last;
-      held = none;
-      older = none;
+      held = None;
+      older = None;
       balance = with_one_more plain.count plain.balance (pos 0);
     }
 

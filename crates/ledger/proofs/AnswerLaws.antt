@@ -10,7 +10,7 @@ use Rattle.ledger.specs.Settle.{SettlementCall, billing_lengths, settlement_chec
 use Rattle.ledger.specs.Sound.{sound}
 use Rattle.ledger.specs.Turn.{settlement_turn}
 use Rattle.numbers.specs.declared.refusal.Refusal.TheVariants.{Unsound, WrongLength, OutOfTurn}
-use Rattle.numbers.specs.declared.refusal.Verdict.TheVariants.{Refused}
+use Rattle.std.specs.Prelude.{Ok, Err}
 use Rattle.numbers.proofs.CheckLaws.{FirstPass, passes, refused_unless}
 use Rattle.ledger.specs.declared.ledger.Ledger.{Ledger}
 use Rattle.ledger.proofs.Computed.{ledger_computed}
@@ -23,7 +23,7 @@ example_settled = refl
 pub out_of_turn : (ledger : Ledger) (call : SettlementCall) → sound ledger ≡ true →
     billing_lengths ledger.n call ≡ true →
     settlement_turn (any_settled ledger) (next_month ledger) ledger.fixed ledger.month call.month ≡ false →
-    verdict_of (settlement_checks ledger call) ≡ Refused OutOfTurn
+    verdict_of (settlement_checks ledger call) ≡ Err OutOfTurn
 unfolding FirstPass settlement_checks
 out_of_turn ledger call a b =
     refused_unless 2 (settlement_checks ledger call) 4 _ OutOfTurn _ (passes Unsound a, (passes WrongLength b, tt)) refl

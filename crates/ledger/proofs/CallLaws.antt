@@ -11,7 +11,7 @@ use Rattle.numbers.specs.Units.{between}
 use Rattle.numbers.specs.Sizes.{most_distributors, sector_count}
 use Rattle.numbers.specs.declared.refusal.Refusal.TheVariants.{Unsound, WrongLength, OutOfTurn, NoFixing, WrongReading}
 use Rattle.numbers.specs.declared.refusal.Refusal.TheVariants.{PositionBeyond, LedgerFull, WrongDay}
-use Rattle.numbers.specs.declared.refusal.Verdict.TheVariants.{Passed}
+use Rattle.std.specs.Prelude.{Ok, Err}
 use Rattle.numbers.proofs.BoolLaws.{and_left, and_right, and_five}
 use Rattle.numbers.proofs.CheckLaws.{FirstPass, passed_test, verdict_from, all_passed, is_passed_lem}
 use Rattle.numbers.proofs.UnitLaws.{between_high}
@@ -43,13 +43,13 @@ pub record FixingPassed (ledger : Ledger) (call : FixingCall) : Type 0 where
   pub turn : fixing_turn (any_settled ledger) (next_month ledger) call.input.numbers.month ≡ true
   pub day : day_allowed call.input.numbers.month call.input.numbers.day
       (older_stands ledger call.input.numbers.month) ≡ true
-  pub passed : input_verdict ledger.n call.input ≡ Passed
+  pub passed : input_verdict ledger.n call.input ≡ Ok tt
 
 pub fixing_passed : (ledger : Ledger) (call : FixingCall) → is_passed (fixing_verdict ledger call) ≡ true →
     FixingPassed ledger call
 unfolding fixing_verdict fixing_checks input_verdict FirstPass
 fixing_passed ledger call h =
-    let passed : verdict_of (fixing_checks ledger call) ≡ Passed = is_passed_lem (fixing_verdict ledger call) h in
+    let passed : verdict_of (fixing_checks ledger call) ≡ Ok tt = is_passed_lem (fixing_verdict ledger call) h in
     let all = all_passed (fixing_checks ledger call) passed in
     let later = all.1.1.1 in
     let four : FirstPass 4 (fixing_checks ledger call) = (all.0, (all.1.0, (all.1.1.0, (later.0, tt)))) in
@@ -97,7 +97,7 @@ right_lengths n call p q h =
 
 -- so its distributors are in range of the limit
 pub passed_range : (n : ℕ) (call : FixingCall) → 1 ≤ n → n ≤ most_distributors → call_lengths n call ≡ true →
-    input_verdict n call.input ≡ Passed → InRange (input_distributors n call.input)
+    input_verdict n call.input ≡ Ok tt → InRange (input_distributors n call.input)
 unfolding input_distributors
 passed_range n call p q h v = input_range n call.input v (right_lengths n call p q h)
 

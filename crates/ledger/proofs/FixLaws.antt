@@ -13,8 +13,8 @@ use Rattle.numbers.specs.Refusal.{Answered, verdict_answered, is_passed}
 use Rattle.numbers.specs.Checks.{verdict_of, answered_by}
 use Rattle.numbers.specs.declared.refusal.Refusal.{Refusal}
 use Rattle.numbers.specs.declared.refusal.Refusal.TheVariants.{Unsound, WrongLength, OutOfTurn, WrongDay}
-use Rattle.numbers.specs.declared.refusal.Verdict.{Verdict}
-use Rattle.numbers.specs.declared.refusal.Verdict.TheVariants.{Passed, Refused}
+use Rattle.numbers.specs.Refusal.{Verdict}
+use Rattle.std.specs.Prelude.{Ok, Err}
 use Rattle.numbers.specs.Units.{no_price}
 use Rattle.numbers.specs.declared.units.PesoPrice.{PesoPrice}
 use Rattle.numbers.proofs.ListLaws.{list_at}
@@ -88,10 +88,10 @@ module _ (ledger : Ledger) (call : FixingCall) where
       go : (v : Verdict) → fixing_verdict ledger call ≡ v →
           fixing_answered (answer_by v (accepted_answer (fixing_of ledger.n call.input).prices)) ≡ verdict_answered
           values v
-      go Passed e =
+      go (Ok _) e =
           ap (λ (f : Fixing). fixing_answered (accepted_answer f.prices))
           (passed_fixing ledger.n call.input (fixing_passed ledger call (ap is_passed e)).passed)
-      go (Refused refusal) e = refl
+      go (Err refusal) e = refl
 
   numbered_by : fixing_answered (fixing_answer ledger call) ≡ answered_by (fixing_checks ledger call)
       (returned_values (input_distributors ledger.n call.input))
@@ -100,7 +100,7 @@ module _ (ledger : Ledger) (call : FixingCall) where
 
   -- what is handed back with number 0 passed every check
   pub accepted_passed : (given : HandedBack) → HandsBack ledger call given → IsAccepted given →
-      fixing_verdict ledger call ≡ Passed
+      fixing_verdict ledger call ≡ Ok tt
   accepted_passed given promise number =
       is_passed_lem (fixing_verdict ledger call)
       (passed_number _ (fixing_verdict ledger call)
@@ -108,7 +108,7 @@ module _ (ledger : Ledger) (call : FixingCall) where
       ∙ eq-eqb _ 0 number)
 
   -- what is promised of a refusal: ledger and lists as they were
-  pub fixed_refused : (refusal : Refusal) → verdict_of (fixing_checks ledger call) ≡ Refused refusal →
+  pub fixed_refused : (refusal : Refusal) → verdict_of (fixing_checks ledger call) ≡ Err refusal →
       (r : FixingOutcome) → r ≡ record { answer = answer.Refused refusal; ledger = ledger } →
       FixingPromise ledger call r.answer r.ledger call.prices call.power
   unfolding fixing_ledger fixing_list fixing_power_list fixing_answer fixing_verdict
@@ -133,11 +133,11 @@ module _ (ledger : Ledger) (call : FixingCall) where
         verdict_from 4 (fixing_checks ledger call) first
         ∙ sym (ap (λ (f : Fixing). f.verdict) e ∙ verdict_is ledger.n call.input)
 
-    pub input_passes : fixing.verdict ≡ Passed → input_verdict ledger.n call.input ≡ Passed
+    pub input_passes : fixing.verdict ≡ Ok tt → input_verdict ledger.n call.input ≡ Ok tt
     input_passes h = sym (verdict_is ledger.n call.input) ∙ ap (λ (f : Fixing). f.verdict) (sym e) ∙ h
 
     -- what is promised of an accepted fixing
-    pub fixed_accepted : RightLengths ledger.n call.input → fixing.verdict ≡ Passed →
+    pub fixed_accepted : RightLengths ledger.n call.input → fixing.verdict ≡ Ok tt →
         (r : FixingOutcome) (list : List ℤ) (power : List ℕ) → r ≡ record {
           answer = accepted_answer fixing.prices;
           ledger = fixed_ledger ledger call.input.numbers fixing.sectors;

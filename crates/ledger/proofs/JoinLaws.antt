@@ -6,7 +6,7 @@ use Rattle.numbers.specs.Checks.{verdict_of}
 use Rattle.numbers.specs.Sizes.{most_distributors}
 use Rattle.numbers.specs.declared.refusal.Refusal.{Refusal}
 use Rattle.numbers.specs.declared.refusal.Refusal.TheVariants.{Unsound, LedgerFull}
-use Rattle.numbers.specs.declared.refusal.Verdict.TheVariants.{Passed, Refused}
+use Rattle.std.specs.Prelude.{Ok, Err}
 use Rattle.numbers.proofs.CheckLaws.{FirstPass, AllTold, passes, check_told, verdict_passed, judged}
 use Rattle.ledger.specs.Ledger.{joined_ledger}
 use Rattle.ledger.specs.Sound.{sound}
@@ -22,8 +22,8 @@ module _ (ledger : Ledger) where
     (check_told 15 (ltb ledger.n most_distributors) LedgerFull refl, tt),
   )
 
-  pub join_refused : (refusal : Refusal) → verdict_of (join_checks ledger) ≡ Refused refusal → (r : Outcome) →
-      r ≡ record { verdict = Refused refusal; ledger = ledger } → JoinPromise ledger r.verdict r.ledger
+  pub join_refused : (refusal : Refusal) → verdict_of (join_checks ledger) ≡ Err refusal → (r : Outcome) →
+      r ≡ record { verdict = Err refusal; ledger = ledger } → JoinPromise ledger r.verdict r.ledger
   unfolding join_ledger join_verdict
   join_refused refusal v r e =
       record {
@@ -32,9 +32,9 @@ module _ (ledger : Ledger) where
       }
 
   pub join_accepted : sound ledger ≡ true → ltb ledger.n most_distributors ≡ true → (next : Ledger) →
-      next ≡ joined_ledger ledger → JoinPromise ledger Passed next
+      next ≡ joined_ledger ledger → JoinPromise ledger (Ok tt) next
   unfolding join_ledger join_verdict join_checks FirstPass
   join_accepted h p next e =
-      let v : verdict_of (join_checks ledger) ≡ Passed =
+      let v : verdict_of (join_checks ledger) ≡ Ok tt =
       verdict_passed (join_checks ledger) (passes Unsound h, (passes LedgerFull p, tt)) in
-      record { judged = judged (join_checks ledger) join_told Passed (sym v); booked = e ∙ rw v }
+      record { judged = judged (join_checks ledger) join_told (Ok _) (sym v); booked = e ∙ rw v }

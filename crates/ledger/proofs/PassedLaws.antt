@@ -16,7 +16,7 @@ use Rattle.fixing.specs.Input.{FixingInput, input_verdict, input_averages, input
 use Rattle.fixing.specs.Required.{RightLengths}
 use Rattle.fixing.specs.Fixing.{accepted_fixing, fixing_of}
 use Rattle.fixing.specs.declared.fix.Fixing.{Fixing}
-use Rattle.numbers.specs.declared.refusal.Verdict.TheVariants.{Passed}
+use Rattle.std.specs.Prelude.{Ok, Err}
 use Rattle.fixing.proofs.FixingLaws.{final_at}
 use Rattle.fixing.proofs.LimitLaws.{final_most}
 use Rattle.fixing.proofs.VerdictLaws.{passed_fixing, input_range}
@@ -41,7 +41,7 @@ filled_most k f h i = go (dec_lt i k) (dec_lt i most_distributors)
               (omega (arith, filled_length most_distributors no_price f k))),
         )
 
-module _ (n : ℕ) (input : FixingInput) (right : RightLengths n input) (passed : input_verdict n input ≡ Passed) where
+module _ (n : ℕ) (input : FixingInput) (right : RightLengths n input) (passed : input_verdict n input ≡ Ok tt) where
   accepted_small : PricesSmall (input_averages n input)
       (fixed_prices (distributors n (input_averages n input) (input_energies input))).finals
   unfolding input_averages average_list fixed_prices final_prices

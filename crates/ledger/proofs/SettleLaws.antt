@@ -16,7 +16,7 @@ use Rattle.numbers.specs.Sizes.{most_distributors}
 use Rattle.numbers.specs.declared.refusal.Refusal.{Refusal}
 use Rattle.numbers.specs.declared.refusal.Refusal.TheVariants.{Unsound, WrongLength, OutOfTurn, NoFixing, WrongReading}
 use Rattle.numbers.specs.declared.refusal.Refusal.TheVariants.{PositionBeyond}
-use Rattle.numbers.specs.declared.refusal.Verdict.TheVariants.{Passed, Refused}
+use Rattle.std.specs.Prelude.{Ok, Err}
 use Rattle.numbers.specs.declared.units.Pesos.{Pesos}
 use Rattle.numbers.proofs.BoolLaws.{and_three}
 use Rattle.numbers.proofs.ListLaws.{list_at}
@@ -67,8 +67,8 @@ module _ (ledger : Ledger) (call : SettlementCall) where
   )
 
   -- what is promised of a refusal: ledger and list as they were
-  pub month_refused : (refusal : Refusal) → verdict_of (settlement_checks ledger call) ≡ Refused refusal →
-      (r : Outcome) → r ≡ record { verdict = Refused refusal; ledger = ledger } →
+  pub month_refused : (refusal : Refusal) → verdict_of (settlement_checks ledger call) ≡ Err refusal →
+      (r : Outcome) → r ≡ record { verdict = Err refusal; ledger = ledger } →
       SettlementPromise ledger call r.verdict r.ledger call.transfers
   unfolding settlement_ledger settlement_list settlement_verdict
   month_refused refusal v r e =
@@ -138,7 +138,7 @@ module _ (ledger : Ledger) (call : SettlementCall) where
 
         module _ (positions : List Pesos) (e : positions ≡ positions_of ledger call) where
           pub position_beyond : positions_in_range ledger.n (money_at positions) ≡ false →
-              verdict_of (settlement_checks ledger call) ≡ Refused PositionBeyond
+              verdict_of (settlement_checks ledger call) ≡ Err PositionBeyond
           unfolding FirstPass settlement_checks
           position_beyond f =
               refused_unless 5 (settlement_checks ledger call) 13 _ PositionBeyond [] first_billed refl
@@ -148,30 +148,30 @@ module _ (ledger : Ledger) (call : SettlementCall) where
           pub month_settled : positions_in_range ledger.n (money_at positions) ≡ true →
               (settled : SettledMonth) (next : Ledger) (list : List ℤ) → settled ≡ settled_month ledger.n positions →
               next ≡ settled_ledger ledger call.month settled.balances →
-              list ≡ list_below ledger.n (money_at settled.transfers) → SettlementPromise ledger call Passed next
+              list ≡ list_below ledger.n (money_at settled.transfers) → SettlementPromise ledger call (Ok tt) next
               list
           unfolding settlement_ledger settlement_list settlement_verdict settlement_checks FirstPass
           month_settled f settled next list g q r =
               let within = ap (λ (l : List Pesos). positions_in_range ledger.n (money_at l)) (sym e) ∙ f in
-              let last : verdict_of (drop 5 (settlement_checks ledger call)) ≡ Passed =
+              let last : verdict_of (drop 5 (settlement_checks ledger call)) ≡ Ok tt =
               verdict_passed (drop 5 (settlement_checks ledger call)) (passes PositionBeyond within, tt) in
               let v = verdict_from 5 (settlement_checks ledger call) first_billed ∙ last in
               let month : settled ≡ settled_month ledger.n (positions_of ledger call) = g
               ∙ ap (settled_month ledger.n)
               e in
               record {
-                judged = judged (settlement_checks ledger call) settlement_told Passed (sym v);
+                judged = judged (settlement_checks ledger call) settlement_told (Ok tt) (sym v);
                 booked = q ∙ ap (λ (s : SettledMonth). settled_ledger ledger call.month s.balances) month ∙ rw v;
                 listed = r ∙ ap (λ (s : SettledMonth). list_below ledger.n (money_at s.transfers)) month ∙ rw v;
               }
 
 -- what an accepted settlement hands back for distributor i: the balance and the transfer that the definitions settle
 module _ (ledger next : Ledger) (call : SettlementCall) (list : List ℤ)
-    (promise : SettlementPromise ledger call Passed next list) (i : ℕ) (p : i < ledger.n) where
+    (promise : SettlementPromise ledger call (Ok tt) next list) (i : ℕ) (p : i < ledger.n) where
   abbrev settled : SettledMonth
   settled = settled_month ledger.n (positions_of ledger call)
 
-  passed : settlement_verdict ledger call ≡ Passed
+  passed : settlement_verdict ledger call ≡ Ok tt
   unfolding settlement_verdict
   passed = sym promise.judged.answered
 

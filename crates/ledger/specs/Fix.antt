@@ -2,11 +2,11 @@
 -- handed back, and the two lists written, of prices and of power prices (W-204). Assumes nothing.
 use Rattle.std.specs.Prelude.{◌≡◌, Bool, true, cond, ◌&&◌, List, [], ◌∷◌, ℕ, zero, suc, ◌*◌, ◌/◌, ◌%◌, eqb, ltb, length, get_or, ℤ, pos}
 use Rattle.numbers.specs.Bounded.{list_below}
-use Rattle.numbers.specs.Refusal.{Answered, accepted, refusal_answered, is_passed}
+use Rattle.numbers.specs.Refusal.{Answered, Verdict, answer_by, result_answered, is_passed}
 use Rattle.numbers.specs.Checks.{Check, check, verdict_of, answered_by}
 use Rattle.numbers.specs.declared.refusal.Refusal.TheVariants.{Unsound, WrongLength, OutOfTurn, WrongDay}
-use Rattle.numbers.specs.declared.refusal.Verdict.{Verdict}
-use Rattle.numbers.specs.declared.refusal.Verdict.TheVariants.{Passed, Refused}
+use Rattle.numbers.specs.declared.refusal.Refusal.{Refusal}
+use Rattle.std.specs.Prelude.{Result, Ok, Err}
 use Rattle.numbers.specs.Units.{between, no_price, no_power}
 use Rattle.numbers.specs.Sizes.{sector_count}
 use Rattle.numbers.specs.declared.units.PesoPrice.{PesoPrice}
@@ -23,8 +23,7 @@ use Rattle.ledger.specs.Ledger.{any_settled, next_month, older_stands, fixed_led
 use Rattle.ledger.specs.Sound.{sound}
 use Rattle.ledger.specs.Turn.{fixing_turn}
 use Rattle.ledger.specs.declared.ledger.Ledger.{Ledger}
-use Rattle.ledger.specs.declared.fix.FixingAnswer.{FixingAnswer}
-use Rattle.ledger.specs.declared.fix.FixingAnswer.TheVariants as answer
+use Rattle.ledger.specs.declared.fix.FixingValues.{FixingValues}
 
 -- what a fixing is given beside the ledger: its input, whether it is an interim one, and the lent lists for the prices
 -- and for the power prices, as found
@@ -83,27 +82,32 @@ unfoldable pub fixing_verdict : Ledger → FixingCall → Verdict
 fixing_verdict ledger call = verdict_of (fixing_checks ledger call)
 
 -- an accepted fixing "returns L, r (0 if none), rounds, residue"
-unfoldable pub accepted_answer : FixedPrices → FixingAnswer
-accepted_answer prices = answer.Accepted prices.limit prices.surcharge prices.rounds prices.residue
+unfoldable pub accepted_values : FixedPrices → FixingValues
+accepted_values prices =
+    record {
+      limit = prices.limit;
+      surcharge = prices.surcharge;
+      rounds = prices.rounds;
+      residue = prices.residue;
+    }
 
-abbrev pub answer_by : Verdict → FixingAnswer → FixingAnswer
-answer_by Passed accepted = accepted
-answer_by (Refused refusal) accepted = answer.Refused refusal
+-- these, or why a fixing is refused
+abbrev pub FixingAnswer : Type 0
+FixingAnswer = Result FixingValues Refusal
 
 unfoldable pub fixing_answer : Ledger → FixingCall → FixingAnswer
 fixing_answer ledger call =
-    answer_by (fixing_verdict ledger call) (accepted_answer (fixing_of ledger.n call.input).prices)
+    answer_by (fixing_verdict ledger call) (accepted_values (fixing_of ledger.n call.input).prices)
 
 -- the number of each answer (0: accepted), and the values returned with it
 abbrev pub fixing_answered : FixingAnswer → Answered
-fixing_answered (answer.Accepted limit surcharge rounds residue) =
-    accepted (limit.0 ∷ surcharge.0 ∷ rounds ∷ residue.0 ∷ [])
-fixing_answered (answer.Refused refusal) = refusal_answered refusal
+fixing_answered answer =
+    result_answered (λ values. values.limit.0 ∷ values.surcharge.0 ∷ values.rounds ∷ values.residue.0 ∷ []) answer
 
 -- "the count of rounds made" is below the number of distributors
 abbrev pub rounds_below : ℕ → FixingAnswer → Bool
-rounds_below n (answer.Accepted limit surcharge rounds residue) = ltb rounds n
-rounds_below n (answer.Refused refusal) = true
+rounds_below n (Ok values) = ltb values.rounds n
+rounds_below n (Err refusal) = true
 
 -- the ledger handed back: a refused one unchanged
 unfoldable pub fixing_ledger : Ledger → FixingCall → Ledger

@@ -5,7 +5,7 @@ use Rattle.numbers.specs.Refusal.{is_passed}
 use Rattle.numbers.specs.Checks.{Check, check, verdict_of, Judged}
 use Rattle.numbers.specs.Sizes.{most_distributors}
 use Rattle.numbers.specs.declared.refusal.Refusal.TheVariants.{Unsound, LedgerFull}
-use Rattle.numbers.specs.declared.refusal.Verdict.{Verdict}
+use Rattle.numbers.specs.Refusal.{Verdict}
 use Rattle.ledger.specs.Ledger.{joined_ledger}
 use Rattle.ledger.specs.Sound.{sound}
 use Rattle.ledger.specs.declared.ledger.Ledger.{Ledger}

@@ -8,7 +8,7 @@ use Rattle.numbers.specs.Checks.{Check, check, verdict_of, Judged}
 use Rattle.numbers.specs.Sizes.{most_distributors}
 use Rattle.numbers.specs.Units.{between, no_money}
 use Rattle.numbers.specs.declared.refusal.Refusal.TheVariants.{WrongCount}
-use Rattle.numbers.specs.declared.refusal.Verdict.{Verdict}
+use Rattle.numbers.specs.Refusal.{Verdict}
 use Rattle.numbers.specs.declared.units.Pesos.{Pesos}
 use Rattle.supply.specs.declared.market.FixingNumbers.{FixingNumbers}
 use Rattle.fixing.specs.Sector.{no_charges}

@@ -6,7 +6,7 @@ use Rattle.numbers.specs.Refusal.{is_passed}
 use Rattle.numbers.specs.Checks.{Check, check, verdict_of, Judged}
 use Rattle.numbers.specs.declared.refusal.Refusal.TheVariants.{Unsound, WrongLength, OutOfTurn, NoFixing, WrongReading}
 use Rattle.numbers.specs.declared.refusal.Refusal.TheVariants.{PositionBeyond}
-use Rattle.numbers.specs.declared.refusal.Verdict.{Verdict}
+use Rattle.numbers.specs.Refusal.{Verdict}
 use Rattle.numbers.specs.declared.units.Pesos.{Pesos}
 use Rattle.settlement.specs.Amount.{billing_in_range}
 use Rattle.settlement.specs.Settlement.{positions_in_range}

@@ -1,28 +1,27 @@
 // The open calls of fixing, regular and interim: no requires. Both make the same fixing, an interim one with a price in
 // force for each line. Causes 2, 3, 4 and 16 are the ledger's, the others the fixing's; the prices and the power prices
 // are written only when all of them are passed.
-ghost use Rattle.std.specs.Prelude.{◌≡◌, true, false, [], ◌*◌, ◌≤◌, ◌<◌, ◌^◌, length, get_or};
+ghost use Rattle.std.specs.Prelude.{◌≡◌, Ok, true, false, [], ◌*◌, ◌≤◌, ◌<◌, ◌^◌, length, get_or};
 ghost use Rattle.numbers.specs.Bounded.{list_below};
 ghost use Rattle.numbers.specs.Units.{no_power};
 ghost use Rattle.ledger.specs.Ledger.{fixed_ledger};
 ghost use Rattle.ledger.specs.Turn.{fixing_turn};
-ghost use Rattle.ledger.specs.declared.fix.FixingAnswer.TheVariants.{Refused};
 ghost use Rattle.numbers.specs.Sizes.{most_distributors};
 ghost use Rattle.ledger.specs.Fix.{fixing_call_of, lines_whole, fixing_lengths, in_force_length};
 ghost use Rattle.ledger.specs.Fix.{price_part, price_word, price_list, average_power_list};
-ghost use Rattle.ledger.specs.Fix.{fixing_answered, accepted_answer, FixingPromise};
+ghost use Rattle.ledger.specs.Fix.{accepted_values, FixingPromise};
 ghost use Rattle.ledger.specs.Fix.{FixingCall, HandedBack, FixingAccepted, SameButPowerList};
 ghost use Rattle.ledger.specs.declared.ledger.Ledger.{Ledger};
 ghost use Rattle.fixing.specs.Input.{SameButPower};
 ghost use Rattle.ledger.specs.Required.{PricesSmall};
 
 use crate::calendar::day_allowed;
-use crate::ledger::Ledger;
+use crate::ledger::{Ledger, Outcome, refused};
 use crate::sound::is_sound;
 use fixing::fix::{Fixing, fix_input};
 use fixing::prices::FixedPrices;
 use fixing::sector::SectorCharges;
-use numbers::refusal::{Refusal, Verdict, refusal_number};
+use numbers::refusal::Refusal;
 use numbers::signed::difference;
 use numbers::sizes::{MOST_DISTRIBUTORS, SECTORS};
 use numbers::units::{PesoPrice, PowerPrice, UnsignedPesos, is_between};
@@ -30,22 +29,13 @@ use series::table::{LAST_MONTH, WORDS};
 use supply::line::{LINE_WORDS, MOST_LINES, line_count};
 use supply::market::FixingNumbers;
 
+// What an accepted fixing returns.
 #[derive(Clone, Copy)]
-pub enum FixingAnswer {
-    Accepted {
-        limit: PesoPrice,
-        surcharge: PesoPrice,
-        rounds: u64,
-        residue: UnsignedPesos,
-    },
-    Refused(Refusal),
-}
-
-// The answer, and the ledger handed back.
-#[derive(Clone, Copy)]
-pub struct FixingOutcome {
-    pub answer: FixingAnswer,
-    pub ledger: Ledger,
+pub struct FixingValues {
+    pub limit: PesoPrice,
+    pub surcharge: PesoPrice,
+    pub rounds: u64,
+    pub residue: UnsignedPesos,
 }
 
 // The numbers of a fixing, and whether it is an interim one.
@@ -168,29 +158,15 @@ fn write_power(averages: [PowerPrice; MOST_DISTRIBUTORS], power: &mut [u64])
     }
 }
 
-// What an accepted fixing answers.
-fn accepted(fixed: FixedPrices) -> FixingAnswer
-    ensures { result ≡ accepted_answer fixed }
+// What an accepted fixing returns of its prices.
+fn accepted(fixed: FixedPrices) -> FixingValues
+    ensures { result ≡ accepted_values fixed }
 {
-    let limit = fixed.limit;
-    let surcharge = fixed.surcharge;
-    let rounds = fixed.rounds;
-    let residue = fixed.residue;
-    FixingAnswer::Accepted {
-        limit,
-        surcharge,
-        rounds,
-        residue,
-    }
-}
-
-// A refusal hands the ledger back as it was.
-fn refused(refusal: Refusal, ledger: Ledger) -> FixingOutcome
-    ensures { result ≡ record { answer = Refused refusal; ledger = ledger } }
-{
-    FixingOutcome {
-        answer: FixingAnswer::Refused(refusal),
-        ledger,
+    FixingValues {
+        limit: fixed.limit,
+        surcharge: fixed.surcharge,
+        rounds: fixed.rounds,
+        residue: fixed.residue,
     }
 }
 
@@ -201,13 +177,13 @@ fn accept(
     fixing: Fixing,
     prices: &mut [i64],
     power: &mut [u64],
-) -> FixingOutcome
+) -> Outcome<FixingValues>
     requires fact_1 { ledger.n ≤ most_distributors }
     requires fact_2 { length prices.old ≡ ledger.n * 3 }
     requires fact_3 { length power.old ≡ ledger.n }
     requires fact_4 { PricesSmall fixing.averages fixing.prices.finals }
     ensures fact_1 { result ≡ record {
-      answer = accepted_answer fixing.prices;
+      answer = Ok (accepted_values fixing.prices);
       ledger = fixed_ledger ledger numbers fixing.sectors;
     } }
     ensures fact_2 { prices.new ≡ price_list ledger.n fixing }
@@ -222,9 +198,9 @@ fn accept(
     let power_averages = fixing.power;
     write_prices(n, averages, finals, charges, prices);
     write_power(power_averages, power);
-    let answer = accepted(fixed);
+    let answer = Ok(accepted(fixed));
     let ledger = ledger.book_fixing(numbers, force);
-    FixingOutcome { answer, ledger }
+    Outcome { answer, ledger }
 }
 
 // A fixing, regular or interim.
@@ -237,7 +213,7 @@ fn make_fixing(
     in_force: &[u64],
     prices: &mut [i64],
     power: &mut [u64],
-) -> FixingOutcome
+) -> Outcome<FixingValues>
     ensures { FixingPromise ledger
         (fixing_call_of request.is_interim request.numbers series.now lines.now
         sectors.now in_force.now prices.old power.old)
@@ -259,12 +235,10 @@ fn make_fixing(
     if !day_allowed(month, numbers.day, ledger.older_stands(month)) {
         return refused(Refusal::WrongDay, ledger);
     }
-    let fixing = fix_input(n, numbers, series, lines, sectors, in_force);
-    let verdict = fixing.verdict;
-    if let Verdict::Refused(refusal) = verdict {
-        return refused(refusal, ledger);
+    match fix_input(n, numbers, series, lines, sectors, in_force) {
+        Ok(fixing) => accept(ledger, numbers, fixing, prices, power),
+        Err(refusal) => refused(refusal, ledger),
     }
-    accept(ledger, numbers, fixing, prices, power)
 }
 
 // A fixing of the ledger's distributors for a month, or from a later day of it on, from the dollar, the reference
@@ -279,7 +253,7 @@ pub fn fix(
     sectors: &[u64],
     prices: &mut [i64],
     power: &mut [u64],
-) -> FixingOutcome
+) -> Outcome<FixingValues>
     ensures { FixingPromise ledger
         (fixing_call_of false numbers series.now lines.now sectors.now []
         prices.old power.old)
@@ -306,7 +280,7 @@ pub fn interim(
     in_force: &[u64],
     prices: &mut [i64],
     power: &mut [u64],
-) -> FixingOutcome
+) -> Outcome<FixingValues>
     ensures { FixingPromise ledger
         (fixing_call_of true numbers series.now lines.now sectors.now
         in_force.now prices.old power.old)
@@ -329,18 +303,3 @@ pub fn prices_independent_of_power()
         (first second : HandedBack) → FixingAccepted ledger one first → FixingAccepted ledger other second →
         SameButPowerList first second }
 {}
-
-// The number of a fixing's answer: 0 where it is accepted.
-pub fn fixing_number(answer: FixingAnswer) -> u64
-    ensures { result ≡ (fixing_answered answer).number }
-{
-    match answer {
-        FixingAnswer::Accepted {
-            limit: _,
-            surcharge: _,
-            rounds: _,
-            residue: _,
-        } => 0,
-        FixingAnswer::Refused(refusal) => refusal_number(refusal),
-    }
-}

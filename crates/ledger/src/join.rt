@@ -7,7 +7,7 @@ ghost use Rattle.ledger.specs.Join.{JoinPromise};
 use crate::ledger::{Ledger, Outcome, refused};
 use crate::sound::is_sound;
 use fixing::sector::no_charges;
-use numbers::refusal::{Refusal, Verdict};
+use numbers::refusal::Refusal;
 use numbers::sizes::MOST_DISTRIBUTORS;
 use numbers::units::Pesos;
 
@@ -34,8 +34,8 @@ impl Ledger {
 
 // A distributor joins: where it is accepted it stands at the end of the ledger handed back, with balance and count
 // zero, and no fixing is in force; where it is refused the ledger is as it was.
-pub fn join(ledger: Ledger) -> Outcome
-    ensures { JoinPromise ledger result.verdict result.ledger }
+pub fn join(ledger: Ledger) -> Outcome<()>
+    ensures { JoinPromise ledger result.answer result.ledger }
 {
     if !is_sound(ledger) {
         return refused(Refusal::Unsound, ledger);
@@ -45,7 +45,7 @@ pub fn join(ledger: Ledger) -> Outcome
     }
     let ledger = ledger.book_join();
     Outcome {
-        verdict: Verdict::Passed,
+        answer: Ok(()),
         ledger,
     }
 }

@@ -1,12 +1,11 @@
 // The ledger by value, what is asked of it by name (whether a month is settled, which month comes next, and which older
 // fixing would stand beside a new one), and how a call hands it back.
-ghost use Rattle.std.specs.Prelude.{◌≡◌, ◌≤◌};
-ghost use Rattle.numbers.specs.declared.refusal.Verdict.TheVariants.{Refused};
+ghost use Rattle.std.specs.Prelude.{Err, ◌≡◌, ◌≤◌};
 ghost use Rattle.series.specs.Series.{last_month};
 ghost use Rattle.ledger.specs.Ledger.{any_settled, next_month, makes_older, stays_older, older_stands, older_beside};
 
 use fixing::sector::{SectorCharges, no_charges};
-use numbers::refusal::{Refusal, Verdict};
+use numbers::refusal::Refusal;
 use numbers::sizes::MOST_DISTRIBUTORS;
 use numbers::units::Pesos;
 
@@ -30,19 +29,19 @@ pub struct Ledger {
     pub counts: [u64; MOST_DISTRIBUTORS],
 }
 
-// The verdict on a call, and the ledger handed back.
+// What a call answers, and the ledger handed back.
 #[derive(Clone, Copy)]
-pub struct Outcome {
-    pub verdict: Verdict,
+pub struct Outcome<T> {
+    pub answer: Result<T, Refusal>,
     pub ledger: Ledger,
 }
 
 // A refusal hands the ledger back as it was.
-pub(crate) fn refused(refusal: Refusal, ledger: Ledger) -> Outcome
-    ensures { result ≡ record { verdict = Refused refusal; ledger = ledger } }
+pub(crate) fn refused<T>(refusal: Refusal, ledger: Ledger) -> Outcome<T>
+    ensures { result ≡ record { answer = Err refusal; ledger = ledger } }
 {
     Outcome {
-        verdict: Verdict::Refused(refusal),
+        answer: Err(refusal),
         ledger,
     }
 }

@@ -4,7 +4,7 @@ ghost use Rattle.ledger.specs.Ledger.{empty_ledger, OpeningPromise};
 
 use crate::ledger::{Ledger, Outcome, refused};
 use fixing::sector::no_charges;
-use numbers::refusal::{Refusal, Verdict};
+use numbers::refusal::Refusal;
 use numbers::sizes::MOST_DISTRIBUTORS;
 use numbers::units::{Pesos, is_between};
 
@@ -29,13 +29,13 @@ fn empty(n: usize) -> Ledger
 }
 
 // A new ledger of 1 to 40 distributors; any other count is refused with the all-zero ledger.
-pub fn open(n: usize) -> Outcome
-    ensures { OpeningPromise n result.verdict result.ledger }
+pub fn open(n: usize) -> Outcome<()>
+    ensures { OpeningPromise n result.answer result.ledger }
 {
     if is_between(1, MOST_DISTRIBUTORS as u64, n as u64) {
         let ledger = empty(n);
         return Outcome {
-            verdict: Verdict::Passed,
+            answer: Ok(()),
             ledger,
         };
     }

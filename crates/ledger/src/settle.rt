@@ -1,8 +1,7 @@
 // The open call of settlement: no requires. Causes 2, 3, 4, 5, 12 and 13 in their order; the transfers are written only
 // when all of them are passed.
-ghost use Rattle.std.specs.Prelude.{true, List, ◌≡◌, ℕ, ◌≤◌, ◌<◌, ℤ, pos, length, get_or};
+ghost use Rattle.std.specs.Prelude.{Ok, true, List, ◌≡◌, ℕ, ◌≤◌, ◌<◌, ℤ, pos, length, get_or};
 ghost use Rattle.numbers.specs.Bounded.{list_below};
-ghost use Rattle.numbers.specs.declared.refusal.Verdict.TheVariants.{Passed};
 ghost use Rattle.numbers.specs.Sizes.{most_distributors};
 ghost use Rattle.settlement.specs.Month.{money_at};
 ghost use Rattle.settlement.specs.Settlement.{on_smaller_side, NoSignTurned};
@@ -15,7 +14,7 @@ ghost use Rattle.ledger.specs.Required.{CountsWithin, Due};
 
 use crate::ledger::{Ledger, Outcome, refused};
 use crate::sound::is_sound;
-use numbers::refusal::{Refusal, Verdict};
+use numbers::refusal::Refusal;
 use numbers::sizes::MOST_DISTRIBUTORS;
 use numbers::units::Pesos;
 use series::table::LAST_MONTH;
@@ -92,10 +91,10 @@ fn settle_month(
     readings: &[u64],
     losses: &[u64],
     transfers: &mut [i64],
-) -> Outcome
+) -> Outcome<()>
     requires { Due ledger (settlement_call_of month readings.now losses.now transfers.old) }
     ensures { SettlementPromise ledger
-        (settlement_call_of month readings.now losses.now transfers.old) result.verdict
+        (settlement_call_of month readings.now losses.now transfers.old) result.answer
         result.ledger transfers.new }
 {
     let n = ledger.n;
@@ -116,7 +115,7 @@ fn settle_month(
     write_transfers(n, amounts, transfers);
     let ledger = ledger.book_month(month, balances);
     Outcome {
-        verdict: Verdict::Passed,
+        answer: Ok(()),
         ledger,
     }
 }
@@ -129,9 +128,9 @@ pub fn settle(
     readings: &[u64],
     losses: &[u64],
     transfers: &mut [i64],
-) -> Outcome
+) -> Outcome<()>
     ensures { SettlementPromise ledger
-        (settlement_call_of month readings.now losses.now transfers.old) result.verdict
+        (settlement_call_of month readings.now losses.now transfers.old) result.answer
         result.ledger transfers.new }
 {
     if !is_sound(ledger) {
@@ -156,7 +155,7 @@ pub fn settle(
 // whatever `settle` hands back where it accepts. The function does nothing; its ensures is the statement.
 pub fn smaller_side_clears()
     ensures { (ledger next : Ledger) (call : SettlementCall) (list : List ℤ) →
-        SettlementPromise ledger call Passed next list → (i : ℕ) → i < ledger.n →
+        SettlementPromise ledger call (Ok tt) next list → (i : ℕ) → i < ledger.n →
         on_smaller_side ledger.n (money_at (positions_of ledger call)) i ≡ true →
         SettledInFull ledger call next list i }
 {}
@@ -165,6 +164,6 @@ pub fn smaller_side_clears()
 // back where it accepts. The function does nothing; its ensures is the statement.
 pub fn no_sign_turns()
     ensures { (ledger next : Ledger) (call : SettlementCall) (list : List ℤ) →
-        SettlementPromise ledger call Passed next list → (i : ℕ) → i < ledger.n →
+        SettlementPromise ledger call (Ok tt) next list → (i : ℕ) → i < ledger.n →
         NoSignTurned (money_at (positions_of ledger call) i) (get_or list i (pos 0)) (money_at next.balances i) }
 {}

@@ -3,34 +3,32 @@
 use mathlib.Core.Path.{◌≡◌, refl, sym, ◌∙◌, ap}
 use mathlib.Core.Bool.{Bool, true, false, cond}
 use mathlib.Core.List.{List, [], ◌∷◌}
-use mathlib.Core.Option.{Option, none, some}
+use Rattle.std.specs.Prelude.{Option, Some, None, Result, Ok, Err}
 use Prim.Native.Nat.{ℕ, zero, suc}
 use native.Mathlib.Omega.{arith}
 use lib.Dec.{eqb}
 use lib.ListN.{length, drop}
-use Rattle.numbers.specs.Refusal.{Answered, accepted, without_values, refusal_answered, verdict_answered, is_passed}
+use Rattle.numbers.specs.Refusal.{Answered, accepted, without_values, refusal_answered, Verdict, answer_by, result_answered, verdict_answered, is_passed}
 use Rattle.numbers.specs.Checks.{Met, Check, met_unless, check, refused_or, answered_or, verdict_of, answered_by}
-use Rattle.numbers.specs.Checks.{Promised, Judged, accepted_where}
+use Rattle.numbers.specs.Checks.{Promised, Judged, AnswersBy, accepted_where}
 use Rattle.numbers.specs.declared.refusal.Refusal.{Refusal}
 use Rattle.numbers.specs.declared.refusal.Refusal.TheVariants.{WrongCount, Unsound, WrongLength, OutOfTurn}
 use Rattle.numbers.specs.declared.refusal.Refusal.TheVariants.{NoFixing, OutOfRange, ValueTooLarge, WrongSector}
 use Rattle.numbers.specs.declared.refusal.Refusal.TheVariants.{NoLine, MonthMissing, OutOfBounds, WrongReading}
 use Rattle.numbers.specs.declared.refusal.Refusal.TheVariants.{PositionBeyond, NoLineMoved, LedgerFull, WrongDay}
 use Rattle.numbers.specs.declared.refusal.Refusal.TheVariants.{WrongSheetLength, ZeroReading}
-use Rattle.numbers.specs.declared.refusal.Verdict.{Verdict}
-use Rattle.numbers.specs.declared.refusal.Verdict.TheVariants.{Passed, Refused}
 
 -- the first k checks pass
 unfoldable pub FirstPass : ℕ → List Check → Type 0
 FirstPass zero checks = Unit {0}
 FirstPass (suc k) [] = Unit {0}
-FirstPass (suc k) (c ∷ rest) = (c.met ≡ none) × FirstPass k rest
+FirstPass (suc k) (c ∷ rest) = (c.met ≡ None) × FirstPass k rest
 
 -- a test and its cause
-pub passes : (refusal : Refusal) {passed : Bool} → passed ≡ true → met_unless passed refusal ≡ none
+pub passes : (refusal : Refusal) {passed : Bool} → passed ≡ true → met_unless passed refusal ≡ None
 passes refusal h = ap (λ b. met_unless b refusal) h
 
-pub passed_test : (refusal : Refusal) (passed : Bool) → met_unless passed refusal ≡ none → passed ≡ true
+pub passed_test : (refusal : Refusal) (passed : Bool) → met_unless passed refusal ≡ None → passed ≡ true
 passed_test refusal true h = refl
 passed_test refusal false h = absurd (let z : ◌≡◌ {A = ℕ} 0 1 = cc in omega arith)
 
@@ -42,34 +40,34 @@ verdict_from (suc k) [] h = refl
 verdict_from (suc k) (c ∷ rest) h = rw h.0 (verdict_from k rest h.1)
 
 -- where the verdict is that all passed, each did
-pub all_passed : (checks : List Check) → verdict_of checks ≡ Passed → FirstPass (length checks) checks
+pub all_passed : (checks : List Check) → verdict_of checks ≡ Ok tt → FirstPass (length checks) checks
 unfolding verdict_of FirstPass
 all_passed [] h = tt
 all_passed (c ∷ rest) h = go c.met refl h (λ v. all_passed rest v)
   where
-    go : (o : Option Met) → c.met ≡ o → refused_or o (verdict_of rest) ≡ Passed →
-        (verdict_of rest ≡ Passed → FirstPass (length rest) rest) → (c.met ≡ none) × FirstPass (length rest) rest
-    go none e v later = (e, later v)
-    go (some met) e v later = absurd (let z : ◌≡◌ {A = ℕ} 0 1 = cc in omega arith)
+    go : (o : Option Met) → c.met ≡ o → refused_or o (verdict_of rest) ≡ Ok tt →
+        (verdict_of rest ≡ Ok tt → FirstPass (length rest) rest) → (c.met ≡ None) × FirstPass (length rest) rest
+    go None e v later = (e, later v)
+    go (Some met) e v later = absurd (let z : ◌≡◌ {A = ℕ} 0 1 = cc in omega arith)
 
 -- one check refuses before any others
-pub refused_first : (c : Check) (rest : List Check) (refusal : Refusal) → verdict_of (c ∷ []) ≡ Refused refusal →
-    verdict_of (c ∷ rest) ≡ Refused refusal
+pub refused_first : (c : Check) (rest : List Check) (refusal : Refusal) → verdict_of (c ∷ []) ≡ Err refusal →
+    verdict_of (c ∷ rest) ≡ Err refusal
 unfolding verdict_of
 refused_first c rest refusal h = go c.met h
   where
-    go : (o : Option Met) → refused_or o Passed ≡ Refused refusal → refused_or o (verdict_of rest) ≡ Refused refusal
-    go none e = absurd (let z : ◌≡◌ {A = ℕ} 0 1 = cc in omega arith)
-    go (some met) e = e
+    go : (o : Option Met) → refused_or o (Ok tt) ≡ Err refusal → refused_or o (verdict_of rest) ≡ Err refusal
+    go None e = absurd (let z : ◌≡◌ {A = ℕ} 0 1 = cc in omega arith)
+    go (Some met) e = e
 
 -- one check alone passes
-pub passed_alone : (c : Check) → verdict_of (c ∷ []) ≡ Passed → c.met ≡ none
+pub passed_alone : (c : Check) → verdict_of (c ∷ []) ≡ Ok tt → c.met ≡ None
 unfolding FirstPass
 passed_alone c h = (all_passed (c ∷ []) h).0
 
 -- check k is the first that is met
 pub refused_at : (k : ℕ) (checks : List Check) (c : Check) (rest : List Check) (met : Met) → FirstPass k checks →
-    drop k checks ≡ c ∷ rest → c.met ≡ some met → verdict_of checks ≡ Refused met.refusal
+    drop k checks ≡ c ∷ rest → c.met ≡ Some met → verdict_of checks ≡ Err met.refusal
 unfolding verdict_of
 refused_at k checks c rest met h e m =
     verdict_from k checks h ∙ ap verdict_of e ∙ ap (λ o. refused_or o (verdict_of rest)) m
@@ -77,26 +75,26 @@ refused_at k checks c rest met h e m =
 pub refused_unless : (k : ℕ) (checks : List Check) (number : ℕ) (passed : Bool) (refusal : Refusal)
     (rest : List Check) →
     FirstPass k checks → drop k checks ≡ check number passed refusal ∷ rest → passed ≡ false →
-    verdict_of checks ≡ Refused refusal
+    verdict_of checks ≡ Err refusal
 refused_unless k checks number passed refusal rest h e f =
     refused_at k checks (check number passed refusal) rest (record { refusal = refusal; values = [] }) h e
     (ap (λ b. met_unless b refusal) f)
 
 -- and where each did, the verdict is that
-pub verdict_passed : (checks : List Check) → FirstPass (length checks) checks → verdict_of checks ≡ Passed
+pub verdict_passed : (checks : List Check) → FirstPass (length checks) checks → verdict_of checks ≡ Ok tt
 unfolding verdict_of FirstPass
 verdict_passed [] h = refl
 verdict_passed (c ∷ rest) h = rw h.0 (verdict_passed rest h.1)
 
 -- a verdict by whether it passed
-pub is_passed_lem : (v : Verdict) → is_passed v ≡ true → v ≡ Passed
-is_passed_lem Passed h = refl
-is_passed_lem (Refused refusal) h = absurd (let z : ◌≡◌ {A = ℕ} 0 1 = cc in omega arith)
+pub is_passed_lem : (v : Verdict) → is_passed v ≡ true → v ≡ Ok tt
+is_passed_lem (Ok _) h = refl
+is_passed_lem (Err refusal) h = absurd (let z : ◌≡◌ {A = ℕ} 0 1 = cc in omega arith)
 
 -- no refusal has the number of what is accepted
 pub passed_number : (values : List ℕ) (v : Verdict) → is_passed v ≡ eqb (verdict_answered values v).number 0
-passed_number values Passed = refl
-passed_number values (Refused refusal) = go refusal
+passed_number values (Ok _) = refl
+passed_number values (Err refusal) = go refusal
   where
     go : (r : Refusal) → false ≡ eqb (refusal_answered r).number 0
     go WrongCount = refl
@@ -121,19 +119,19 @@ passed_number values (Refused refusal) = go refusal
 -- a check whose number and values are those of its refusal
 abbrev pub Told : Check → Type 0
 Told c =
-    (met : Met) → c.met ≡ some met → refusal_answered met.refusal ≡ record
+    (met : Met) → c.met ≡ Some met → refusal_answered met.refusal ≡ record
     { number = c.number; values = met.values }
 
 unfoldable pub AllTold : List Check → Type 0
 AllTold [] = Unit {0}
 AllTold (c ∷ rest) = Told c × AllTold rest
 
-pub none_told : (number : ℕ) → Told (record { number = number; met = none })
+pub none_told : (number : ℕ) → Told (record { number = number; met = None })
 none_told number met e = absurd (let z : ◌≡◌ {A = ℕ} 0 1 = cc in omega arith)
 
 pub met_told : (number : ℕ) (given : Met) →
     refusal_answered given.refusal ≡ record { number = number; values = given.values } →
-    Told (record { number = number; met = some given })
+    Told (record { number = number; met = Some given })
 met_told number given h met e =
     let m : given ≡ met = cc in
     ap (λ (x : Met). refusal_answered x.refusal) (sym m) ∙ h
@@ -152,8 +150,8 @@ verdict_told (c ∷ rest) values h = go c.met refl (verdict_told rest values h.1
   where
     go : (o : Option Met) → c.met ≡ o → verdict_answered values (verdict_of rest) ≡ answered_by rest values →
         verdict_answered values (refused_or o (verdict_of rest)) ≡ answered_or c.number o (answered_by rest values)
-    go none e later = later
-    go (some met) e later = h.0 met e
+    go None e later = later
+    go (Some met) e later = h.0 met e
 
 -- a promise from the definition's own number and values
 pub promised : {A : Type 0} (tell : A → Answered) (answer defined : A) (told : Answered) → answer ≡ defined →
@@ -164,6 +162,16 @@ pub judged : (checks : List Check) → AllTold checks → (verdict : Verdict) �
     Judged verdict checks
 judged checks told verdict e =
     promised (verdict_answered []) verdict (verdict_of checks) (answered_by checks []) e (verdict_told checks [] told)
+
+pub answers_by : {A : Type 0} (values : A → List ℕ) (checks : List Check) (worked : A) → AllTold checks →
+    (answer : Result A Refusal) → answer ≡ answer_by (verdict_of checks) worked → AnswersBy values answer checks worked
+answers_by values checks worked told answer e =
+    promised (result_answered values) answer (answer_by (verdict_of checks) worked) (answered_by checks (values worked)) e
+    (go (verdict_of checks) ∙ verdict_told checks (values worked) told)
+  where
+    go : (verdict : Verdict) → result_answered values (answer_by verdict worked) ≡ verdict_answered (values worked) verdict
+    go (Ok _) = refl
+    go (Err refusal) = refl
 
 -- an answer that one test picks
 pub picked : {A : Type 0} (tell : A → Answered) (passed : Bool) (given missing : A) (values : List ℕ) (number : ℕ) →

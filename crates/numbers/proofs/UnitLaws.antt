@@ -13,7 +13,7 @@ use Rattle.numbers.specs.Units.{price_answered}
 use Rattle.numbers.specs.Bounded.{all_below}
 use Rattle.numbers.specs.Checks.{accepted_where}
 use Rattle.numbers.specs.Required.{ValuesWithin}
-use Rattle.numbers.specs.declared.units.CheckedPrice.TheVariants.{Within, OutsideBounds}
+use Rattle.std.specs.Prelude.{Some, None}
 use Rattle.numbers.proofs.BoolLaws.{and_left, and_right}
 use Rattle.numbers.proofs.TestLaws.{all_at, all_same}
 use Rattle.numbers.proofs.CheckLaws.{picked}
@@ -58,5 +58,5 @@ pub price_told : (word : ℕ) →
     price_answered (checked_price word) ≡ accepted_where (between least_price most_price word) (word ∷ []) 11
 unfolding checked_price
 price_told word =
-    picked price_answered (between least_price most_price word) (Within (record { 0 = word })) OutsideBounds (word ∷ []) 11
+    picked price_answered (between least_price most_price word) (Some (record { 0 = word })) None (word ∷ []) 11
     refl refl

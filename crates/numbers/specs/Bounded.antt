@@ -3,7 +3,7 @@
 -- distributors is one of these, so each loop's invariant is the same combinator at the loop's index. Their laws are in
 -- proofs/. Assumes nothing.
 use Rattle.std.specs.Prelude.{Bool, true, false, cond, ◌&&◌, ◌||◌, List, [], ◌∷◌, ◌++◌, ℕ, zero, suc, ◌+◌, ltb}
-use Rattle.std.proofs.Math.Option.{Option, none, some}
+use Rattle.std.specs.Prelude.{Option, Some, None}
 
 -- f 0 + f 1 + .. up to below the bound
 unfoldable pub sum_below : ℕ → (ℕ → ℕ) → ℕ
@@ -22,12 +22,12 @@ any_below (suc k) t = any_below k t || t k
 
 -- the first answer, or the second where the first is none
 abbrev pub or_else : {A : Type 0} → Option A → Option A → Option A
-or_else none b = b
-or_else (some a) b = some a
+or_else None b = b
+or_else (Some a) b = Some a
 
 -- the answer at the least index below the bound that has one
 unfoldable pub first_below : {A : Type 0} → ℕ → (ℕ → Option A) → Option A
-first_below zero f = none
+first_below zero f = None
 first_below (suc k) f = or_else (first_below k f) (f k)
 
 -- f 0, f 1, .. up to below the bound

@@ -1,15 +1,13 @@
 -- "Refusals by cause" of document 01 and those that document 02 adds: the number of each refusal and the values
 -- returned with it, case by case.
 -- Assumes nothing.
-use Rattle.std.specs.Prelude.{Bool, true, false, List, [], ◌∷◌, ℕ}
+use Rattle.std.specs.Prelude.{Bool, true, false, List, [], ◌∷◌, ℕ, Result, Ok, Err}
 use Rattle.numbers.specs.declared.refusal.Refusal.{Refusal}
 use Rattle.numbers.specs.declared.refusal.Refusal.TheVariants.{WrongCount, Unsound, WrongLength, OutOfTurn}
 use Rattle.numbers.specs.declared.refusal.Refusal.TheVariants.{NoFixing, OutOfRange, ValueTooLarge, WrongSector}
 use Rattle.numbers.specs.declared.refusal.Refusal.TheVariants.{NoLine, MonthMissing, OutOfBounds, WrongReading}
 use Rattle.numbers.specs.declared.refusal.Refusal.TheVariants.{PositionBeyond, NoLineMoved, LedgerFull, WrongDay}
 use Rattle.numbers.specs.declared.refusal.Refusal.TheVariants.{WrongSheetLength, ZeroReading}
-use Rattle.numbers.specs.declared.refusal.Verdict.{Verdict}
-use Rattle.numbers.specs.declared.refusal.Verdict.TheVariants.{Passed, Refused}
 
 -- the number of an answer (0: accepted) and the values returned with it; an empty list stands for the zeros
 pub record Answered : Type 0 where
@@ -48,11 +46,24 @@ refusal_answered WrongSheetLength = without_values 17
 -- "18 when a present reading is zero"
 refusal_answered ZeroReading = without_values 18
 
--- of a verdict, where what passes returns values of its own
-abbrev pub verdict_answered : List ℕ → Verdict → Answered
-verdict_answered values Passed = accepted values
-verdict_answered values (Refused refusal) = refusal_answered refusal
+-- the verdict on a call: that it passes, or why it is refused
+abbrev pub Verdict : Type 0
+Verdict = Result (Unit {0}) Refusal
 
-abbrev pub is_passed : Verdict → Bool
-is_passed Passed = true
-is_passed (Refused refusal) = false
+-- what a call answers by its verdict: what it works where that passes, else the refusal
+abbrev pub answer_by : {A : Type 0} → Verdict → A → Result A Refusal
+answer_by (Ok passed) worked = Ok worked
+answer_by (Err refusal) worked = Err refusal
+
+-- of an answer, where what passes returns these values
+abbrev pub result_answered : {A : Type 0} → (A → List ℕ) → Result A Refusal → Answered
+result_answered values (Ok given) = accepted (values given)
+result_answered values (Err refusal) = refusal_answered refusal
+
+-- of a verdict
+abbrev pub verdict_answered : List ℕ → Verdict → Answered
+verdict_answered values verdict = result_answered (λ _. values) verdict
+
+abbrev pub is_passed : {A : Type 0} → Result A Refusal → Bool
+is_passed (Ok given) = true
+is_passed (Err refusal) = false

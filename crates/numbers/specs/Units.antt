@@ -1,6 +1,6 @@
 -- The units of document 01: "Peso price, energy and money are kept apart as units", and the bounds that "belong to
 -- the peso price itself"; and the power price, "thousandths of $/kW/month" (W-204 of document 02). Assumes nothing.
-use Rattle.std.specs.Prelude.{Bool, cond, ◌&&◌, List, [], ◌∷◌, ℕ, leb, length, get_or, pos}
+use Rattle.std.specs.Prelude.{Bool, cond, ◌&&◌, List, [], ◌∷◌, ℕ, leb, length, get_or, pos, Option, Some, None}
 use Rattle.numbers.specs.Bounded.{all_below}
 use Rattle.numbers.specs.Refusal.{Answered, accepted, without_values}
 use Rattle.numbers.specs.declared.units.PesoPrice.{PesoPrice}
@@ -8,8 +8,6 @@ use Rattle.numbers.specs.declared.units.PowerPrice.{PowerPrice}
 use Rattle.numbers.specs.declared.units.Energy.{Energy}
 use Rattle.numbers.specs.declared.units.Pesos.{Pesos}
 use Rattle.numbers.specs.declared.units.UnsignedPesos.{UnsignedPesos}
-use Rattle.numbers.specs.declared.units.CheckedPrice.{CheckedPrice}
-use Rattle.numbers.specs.declared.units.CheckedPrice.TheVariants.{Within, OutsideBounds}
 
 -- an empty place of a list of prices, of power prices, and of energies
 abbrev pub no_price : PesoPrice
@@ -48,10 +46,10 @@ unfoldable pub bound_where : Bool → ℕ → ℕ
 bound_where held bound = cond held bound 0
 
 -- the price of a word, where it keeps the bounds
-unfoldable pub checked_price : ℕ → CheckedPrice
-checked_price word = cond (between least_price most_price word) (Within (record { 0 = word })) OutsideBounds
+unfoldable pub checked_price : ℕ → Option PesoPrice
+checked_price word = cond (between least_price most_price word) (Some (record { 0 = word })) None
 
 -- the number of each answer (0: accepted), and the values returned with it
-abbrev pub price_answered : CheckedPrice → Answered
-price_answered (Within p) = accepted (p.0 ∷ [])
-price_answered OutsideBounds = without_values 11
+abbrev pub price_answered : Option PesoPrice → Answered
+price_answered (Some p) = accepted (p.0 ∷ [])
+price_answered None = without_values 11

@@ -25,13 +25,6 @@ pub struct Pesos(pub i64);
 #[derive(Clone, Copy)]
 pub struct UnsignedPesos(pub u64);
 
-// What the checked constructor of a peso price answers.
-#[derive(Clone, Copy)]
-pub enum CheckedPrice {
-    Within(PesoPrice),
-    OutsideBounds,
-}
-
 impl PesoPrice {
     // The ends that a reference, and so an average, must keep.
     pub const LEAST: u64 = 1000;
@@ -39,14 +32,14 @@ impl PesoPrice {
     pub const MOST: u64 = 2000000;
 
     // The price of a word, where it keeps the bounds.
-    pub fn checked(word: u64) -> CheckedPrice
+    pub fn checked(word: u64) -> Option<PesoPrice>
         ensures { Promised price_answered result (checked_price word)
             (accepted_where (between least_price most_price word) (word ∷ []) 11) }
     {
         if is_between(Self::LEAST, Self::MOST, word) {
-            CheckedPrice::Within(PesoPrice(word))
+            Some(PesoPrice(word))
         } else {
-            CheckedPrice::OutsideBounds
+            None
         }
     }
 }

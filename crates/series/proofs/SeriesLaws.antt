@@ -4,7 +4,7 @@
 use mathlib.Core.Path.{◌≡◌, refl, sym, ◌∙◌, ap}
 use mathlib.Core.Bool.{Bool, true, false, cond, ◌&&◌, ◌||◌, false≢true}
 use mathlib.Core.List.{List, []}
-use mathlib.Core.Option.{Option, none, some}
+use Rattle.std.specs.Prelude.{Option, Some, None}
 use Prim.Native.Nat.{ℕ, ◌+◌, ◌-◌, ◌*◌, ◌≤◌, ◌<◌}
 use native.Mathlib.Omega.{arith}
 use native.Mathlib.Decide.{dec_lt}
@@ -86,7 +86,7 @@ module _ (row : List ℕ) (first t lag k : ℕ) where
 
 -- a window that begins before month 0 or before the table lacks its oldest month; one that ends past the table its
 -- newest
-module _ (row : List ℕ) (first t lag window : ℕ) (some : 1 ≤ window) where
+module _ (row : List ℕ) (first t lag window : ℕ) (Some : 1 ≤ window) where
   lacks : (k : ℕ) → k < window → term_value row first t lag k ≡ 0 → window_missing row first t lag window ≡ true
   unfolding window_missing
   lacks k p h = any_holds window (λ i. eqb (term_value row first t lag i) 0) k p (eq-eqb _ _ h)
@@ -117,8 +117,8 @@ module _ (row : List ℕ) (ok : ValuesWithin most_value row) (first t lag : ℕ)
   value_most k = go (term_month t lag k)
     where
       go : (m : Option ℕ) → value_of row first m ≤ most_value
-      go none = omega arith
-      go (some m) = pick_most (leb first m && ltb (m - first) month_count) _ _ (ok.most (m - first))
+      go None = omega arith
+      go (Some m) = pick_most (leb first m && ltb (m - first) month_count) _ _ (ok.most (m - first))
 
   pub values_most : (k : ℕ) → sum_below k (term_value row first t lag) ≤ k * most_value
   values_most k = sum_le k most_value (term_value row first t lag) (λ j p. value_most j)

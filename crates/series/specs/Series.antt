@@ -2,7 +2,7 @@
 -- W-202 of document 02. Series: 0 diesel, 1 coal, 2 gas, 3 CPI, 4 Brent, in ten-thousandths; months count from January
 -- 2000, month 0. Assumes nothing.
 use Rattle.std.specs.Prelude.{Bool, cond, ◌&&◌, ◌||◌, List, ℕ, ◌+◌, ◌-◌, ◌*◌, get_or, leb, ltb, eqb}
-use Rattle.std.proofs.Math.Option.{Option, none, some}
+use Rattle.std.specs.Prelude.{Option, Some, None}
 use Rattle.numbers.specs.Bounded.{sum_below, all_below, any_below, list_below}
 use Rattle.numbers.specs.Rounding.{half_up}
 
@@ -51,11 +51,11 @@ value_in row first month =
 
 -- month k of a term with lag G in month t, counted back from t - G; none where it is below 0
 unfoldable pub term_month : ℕ → ℕ → ℕ → Option ℕ
-term_month t lag k = cond (leb (lag + k) t) (some (t - (lag + k))) none
+term_month t lag k = cond (leb (lag + k) t) (Some (t - (lag + k))) None
 
 abbrev pub value_of : List ℕ → ℕ → Option ℕ → ℕ
-value_of row first none = 0
-value_of row first (some month) = value_in row first month
+value_of row first None = 0
+value_of row first (Some month) = value_in row first month
 
 -- the value in month k of a term, 0 where the month is missing
 unfoldable pub term_value : List ℕ → ℕ → ℕ → ℕ → ℕ → ℕ

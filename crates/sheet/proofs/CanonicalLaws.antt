@@ -12,7 +12,7 @@ use Rattle.numbers.specs.Checks.{check, verdict_of}
 use Rattle.numbers.specs.Required.{ValuesWithin}
 use Rattle.numbers.specs.Sizes.{distributor_readings}
 use Rattle.numbers.specs.declared.refusal.Refusal.TheVariants.{WrongSheetLength, ZeroReading}
-use Rattle.numbers.specs.declared.refusal.Verdict.TheVariants.{Passed}
+use Rattle.std.specs.Prelude.{Ok, Err}
 use Rattle.numbers.proofs.SumLaws.{sum_same}
 use Rattle.numbers.proofs.ListLaws.{list_length, list_at}
 use Rattle.numbers.proofs.CheckLaws.{FirstPass, passed_test, all_passed, passed_alone}
@@ -34,7 +34,7 @@ module _ (sheet : List ℕ) (bytes : ValuesWithin 255 sheet) where
     pub presence : bit ≡ presence_bit (reading_by bit sheet place)
     pub stands : Stands sheet place (reading_bytes (reading_by bit sheet place))
 
-  reading_passing : (bit place : ℕ) → bit ≤ 1 → verdict_of (reading_checks bit sheet place) ≡ Passed →
+  reading_passing : (bit place : ℕ) → bit ≤ 1 → verdict_of (reading_checks bit sheet place) ≡ Ok tt →
       Passing bit place
   unfolding reading_checks reading_by presence_bit reading_bytes FirstPass whole_check
   reading_passing zero place p h = record { presence = refl; stands = stands_nothing sheet place }
@@ -50,7 +50,7 @@ module _ (sheet : List ℕ) (bytes : ValuesWithin 255 sheet) where
   reading_passing (suc (suc bit)) place p h = absurd (omega arith)
 
   -- a distributor that passes
-  module _ (place : ℕ) (h : verdict_of (distributor_checks sheet place) ≡ Passed) where
+  module _ (place : ℕ) (h : verdict_of (distributor_checks sheet place) ≡ Ok tt) where
     abbrev readings : List ℕ
     readings = list_below distributor_readings (reading_at sheet place)
 
@@ -84,14 +84,14 @@ module _ (sheet : List ℕ) (bytes : ValuesWithin 255 sheet) where
         (λ b p. stands_at (reading_place_lem mapped b (omega arith)) (rw (reading_is b p) at (passing b p).stands))))
 
   -- a sheet that passes
-  module _ (n : ℕ) (h : verdict_of (sheet_checks n sheet) ≡ Passed) where
+  module _ (n : ℕ) (h : verdict_of (sheet_checks n sheet) ≡ Ok tt) where
     abbrev readings_at : ℕ → List ℕ
     readings_at i = list_below distributor_readings (reading_at sheet (map_place sheet i))
 
     abbrev bytes_at : ℕ → List ℕ
     bytes_at i = distributor_bytes (readings_at i)
 
-    distributor_passed : (i : ℕ) → i < n → verdict_of (distributor_checks sheet (map_place sheet i)) ≡ Passed
+    distributor_passed : (i : ℕ) → i < n → verdict_of (distributor_checks sheet (map_place sheet i)) ≡ Ok tt
     unfolding sheet_checks
     distributor_passed i p =
         join_passed (each_checks sheet) n (first_passed _ _ h) i p

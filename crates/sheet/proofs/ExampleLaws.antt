@@ -4,7 +4,7 @@ use mathlib.Core.Path.{◌≡◌, refl}
 use Prim.Native.Nat.{ℕ}
 use Rattle.numbers.specs.Checks.{verdict_of}
 use Rattle.numbers.specs.declared.refusal.Refusal.TheVariants.{WrongSheetLength, ZeroReading}
-use Rattle.numbers.specs.declared.refusal.Verdict.TheVariants.{Passed, Refused}
+use Rattle.std.specs.Prelude.{Ok, Err}
 use Rattle.numbers.proofs.Computed.{numbers_computed}
 use Rattle.sheet.specs.Number.{number_bytes, number_at}
 use Rattle.sheet.specs.Sheet.{presence_bit, bit_map, reading_bytes, distributor_bytes, sheet_bytes}
@@ -25,18 +25,18 @@ pub example_read : sheet_readings 2 example_sheet ≡ example_readings
 unfolding sheet_computed
 example_read = refl
 
-pub example_passed : verdict_of (sheet_checks 2 example_sheet) ≡ Passed
+pub example_passed : verdict_of (sheet_checks 2 example_sheet) ≡ Ok tt
 unfolding sheet_computed
 example_passed = refl
 
-pub example_zero_first : verdict_of (sheet_checks 1 zero_then_short) ≡ Refused ZeroReading
+pub example_zero_first : verdict_of (sheet_checks 1 zero_then_short) ≡ Err ZeroReading
 unfolding sheet_computed
 example_zero_first = refl
 
-pub example_short_first : verdict_of (sheet_checks 1 short_before_zero) ≡ Refused WrongSheetLength
+pub example_short_first : verdict_of (sheet_checks 1 short_before_zero) ≡ Err WrongSheetLength
 unfolding sheet_computed
 example_short_first = refl
 
-pub example_bytes_left : verdict_of (sheet_checks 1 example_sheet) ≡ Refused WrongSheetLength
+pub example_bytes_left : verdict_of (sheet_checks 1 example_sheet) ≡ Err WrongSheetLength
 unfolding sheet_computed
 example_bytes_left = refl

@@ -2,7 +2,7 @@
 -- lies within the sheet. Assumes nothing.
 use mathlib.Core.Path.{◌≡◌, ◌∙◌, ap}
 use mathlib.Core.List.{List, [], ◌∷◌}
-use mathlib.Core.Option.{none}
+use Rattle.std.specs.Prelude.{None, Ok, Err}
 use Prim.Native.Nat.{ℕ, zero, suc, ◌+◌, ◌-◌, ◌*◌, ◌/◌, ◌%◌, ◌^◌, ◌≤◌, ◌<◌}
 use native.Mathlib.Numerals.{add-one}
 use native.Mathlib.Nat.{pow-suc, div-div-eq-div-mul, zero-add, suc-add}
@@ -14,7 +14,6 @@ use Rattle.numbers.specs.Bounded.{sum_below, join_below}
 use Rattle.numbers.specs.Checks.{Check, verdict_of}
 use Rattle.numbers.specs.Sizes.{distributor_readings}
 use Rattle.numbers.specs.declared.refusal.Refusal.TheVariants.{WrongSheetLength}
-use Rattle.numbers.specs.declared.refusal.Verdict.TheVariants.{Passed}
 use Rattle.numbers.proofs.CheckLaws.{FirstPass, passed_test, all_passed}
 use Rattle.numbers.proofs.JoinLaws.{rest_passed, join_passed}
 use Rattle.numbers.proofs.SumLaws.{sum_step, sum_mono}
@@ -90,7 +89,7 @@ maps_rise sheet i n p =
     rw e at (map_up sheet i (n - i))
 
 -- a number that stands whole in the sheet
-pub whole_within : (sheet : List ℕ) (place : ℕ) → (whole_check sheet place).met ≡ none → place + number_size ≤ length sheet
+pub whole_within : (sheet : List ℕ) (place : ℕ) → (whole_check sheet place).met ≡ None → place + number_size ≤ length sheet
 unfolding whole_check
 whole_within sheet place h =
     leb-true (place + number_size) (length sheet)
@@ -98,7 +97,7 @@ whole_within sheet place h =
 
 -- a reading whose checks pass
 pub reading_within : (bit : ℕ) (sheet : List ℕ) (place : ℕ) → bit ≤ 1 → place ≤ length sheet →
-    verdict_of (reading_checks bit sheet place) ≡ Passed → place + bit * number_size ≤ length sheet
+    verdict_of (reading_checks bit sheet place) ≡ Ok tt → place + bit * number_size ≤ length sheet
 unfolding reading_checks FirstPass
 reading_within zero sheet place p q h = omega (arith, q)
 reading_within (suc zero) sheet place p q h = omega (arith, whole_within sheet place (all_passed _ h).0)
@@ -113,8 +112,8 @@ abbrev pub each_checks : List ℕ → ℕ → List Check
 each_checks sheet i = distributor_checks sheet (map_place sheet i)
 
 -- a distributor whose checks pass
-module _ (sheet : List ℕ) (place : ℕ) (h : verdict_of (distributor_checks sheet place) ≡ Passed) where
-  pub readings_passed : verdict_of (join_below distributor_readings (own_checks sheet place)) ≡ Passed
+module _ (sheet : List ℕ) (place : ℕ) (h : verdict_of (distributor_checks sheet place) ≡ Ok tt) where
+  pub readings_passed : verdict_of (join_below distributor_readings (own_checks sheet place)) ≡ Ok tt
   unfolding distributor_checks
   readings_passed =
       rest_passed (whole_check sheet place ∷ []) (join_below distributor_readings (own_checks sheet place)) h

@@ -14,8 +14,8 @@ use Rattle.numbers.specs.Sizes.{most_distributors, distributor_readings}
 use Rattle.numbers.specs.Units.{between}
 use Rattle.numbers.specs.declared.refusal.Refusal.{Refusal}
 use Rattle.numbers.specs.declared.refusal.Refusal.TheVariants.{WrongCount, WrongLength, WrongSheetLength, ZeroReading}
-use Rattle.numbers.specs.declared.refusal.Verdict.{Verdict}
-use Rattle.numbers.specs.declared.refusal.Verdict.TheVariants.{Passed, Refused}
+use Rattle.numbers.specs.Refusal.{Verdict}
+use Rattle.std.specs.Prelude.{Ok, Err}
 use Rattle.numbers.proofs.CheckLaws.{AllTold, check_told, judged}
 use Rattle.numbers.proofs.JoinLaws.{verdict_after, refused_before, told_both, told_join}
 use Rattle.numbers.proofs.JoinLaws.{join_none, join_more, join_refused, join_passed, first_passed}
@@ -31,39 +31,39 @@ use Rattle.sheet.proofs.PlaceLaws.{places_within, next_map}
 
 -- what a place says of the verdict that gave it
 pub place_at : (verdict : Verdict) (place next : ℕ) → At next ≡ place_by verdict place →
-    (verdict ≡ Passed) × (next ≡ place)
-place_at Passed place next h = (refl, cc)
-place_at (Refused refusal) place next h = absurd (let z : ◌≡◌ {A = ℕ} 0 1 = cc in omega arith)
+    (verdict ≡ Ok tt) × (next ≡ place)
+place_at (Ok _) place next h = (refl, cc)
+place_at (Err refusal) place next h = absurd (let z : ◌≡◌ {A = ℕ} 0 1 = cc in omega arith)
 
 pub place_wrong : (verdict : Verdict) (place : ℕ) (refusal : Refusal) → Wrong refusal ≡ place_by verdict place →
-    verdict ≡ Refused refusal
-place_wrong Passed place refusal h = absurd (let z : ◌≡◌ {A = ℕ} 0 1 = cc in omega arith)
-place_wrong (Refused met) place refusal h = cc
+    verdict ≡ Err refusal
+place_wrong (Ok tt) place refusal h = absurd (let z : ◌≡◌ {A = ℕ} 0 1 = cc in omega arith)
+place_wrong (Err met) place refusal h = cc
 
 -- a reading: absent, cut off, zero, and neither
 module _ (sheet : List ℕ) (place : ℕ) where
-  pub absent_passes : verdict_of (reading_checks 0 sheet place) ≡ Passed
+  pub absent_passes : verdict_of (reading_checks 0 sheet place) ≡ Ok tt
   unfolding reading_checks verdict_of
   absent_passes = refl
 
   pub short_refused : length sheet < place + number_size →
-      verdict_of (reading_checks 1 sheet place) ≡ Refused WrongSheetLength
+      verdict_of (reading_checks 1 sheet place) ≡ Err WrongSheetLength
   unfolding reading_checks whole_check verdict_of
   short_refused p = rw (lt-leb (place + number_size) (length sheet) p)
 
   module _ (whole : place + number_size ≤ length sheet) where
-    pub zero_refused : number_at sheet place ≡ 0 → verdict_of (reading_checks 1 sheet place) ≡ Refused ZeroReading
+    pub zero_refused : number_at sheet place ≡ 0 → verdict_of (reading_checks 1 sheet place) ≡ Err ZeroReading
     unfolding reading_checks whole_check verdict_of
     zero_refused e = rw (le-leb (place + number_size) (length sheet) whole, e)
 
-    pub present_passes : 0 < number_at sheet place → verdict_of (reading_checks 1 sheet place) ≡ Passed
+    pub present_passes : 0 < number_at sheet place → verdict_of (reading_checks 1 sheet place) ≡ Ok tt
     unfolding reading_checks whole_check verdict_of
     present_passes p =
         rw (le-leb (place + number_size) (length sheet) whole, lt-ltb 0 (number_at sheet place) p)
 
   -- a distributor: its map cut off, and else by its readings
   pub map_refused : length sheet < place + number_size →
-      verdict_of (distributor_checks sheet place) ≡ Refused WrongSheetLength
+      verdict_of (distributor_checks sheet place) ≡ Err WrongSheetLength
   unfolding distributor_checks whole_check verdict_of
   map_refused p = rw (lt-leb (place + number_size) (length sheet) p)
 
@@ -77,7 +77,7 @@ module _ (sheet : List ℕ) (place : ℕ) where
 pub record Checked (sheet : List ℕ) (place bits at b : ℕ) : Type 0 where
   pub walked : Walked sheet place bits at b
   pub within : at ≤ length sheet
-  pub passed : verdict_of (join_below b (own_checks sheet place)) ≡ Passed
+  pub passed : verdict_of (join_below b (own_checks sheet place)) ≡ Ok tt
 
 module _ (sheet : List ℕ) (place bits at b : ℕ) (h : Checked sheet place bits at b) (p : b < distributor_readings)
     (after : Place) (e : after ≡ place_by (verdict_of (reading_checks (bits % 2) sheet at)) (at + bits % 2 * number_size))
@@ -110,23 +110,23 @@ pub checked_all : (sheet : List ℕ) (place bits at b : ℕ) → Checked sheet p
     At at ≡ place_by (verdict_of (distributor_checks sheet place)) (reading_place sheet place distributor_readings)
 checked_all sheet place bits at b h p q =
     let e : b ≡ distributor_readings = omega (arith, h.walked.most) in
-    let passed : verdict_of (join_below distributor_readings (own_checks sheet place)) ≡ Passed = rw e at h.passed in
+    let passed : verdict_of (join_below distributor_readings (own_checks sheet place)) ≡ Ok tt = rw e at h.passed in
     rw (map_passes sheet place q, passed) (ap At (h.walked.stands ∙ ap (reading_place sheet place) e))
 
 -- a sheet: a distributor's refusal, bytes left, and neither
 module _ (n : ℕ) (sheet : List ℕ) where
-  pub sheet_refused : (refusal : Refusal) → verdict_of (join_below n (each_checks sheet)) ≡ Refused refusal →
-      verdict_of (sheet_checks n sheet) ≡ Refused refusal
+  pub sheet_refused : (refusal : Refusal) → verdict_of (join_below n (each_checks sheet)) ≡ Err refusal →
+      verdict_of (sheet_checks n sheet) ≡ Err refusal
   unfolding sheet_checks
   sheet_refused refusal h = refused_before (join_below n (each_checks sheet)) _ refusal h
 
-  module _ (h : verdict_of (join_below n (each_checks sheet)) ≡ Passed) where
-    pub left_refused : map_place sheet n < length sheet → verdict_of (sheet_checks n sheet) ≡ Refused WrongSheetLength
+  module _ (h : verdict_of (join_below n (each_checks sheet)) ≡ Ok tt) where
+    pub left_refused : map_place sheet n < length sheet → verdict_of (sheet_checks n sheet) ≡ Err WrongSheetLength
     unfolding sheet_checks verdict_of
     left_refused p =
         verdict_after (join_below n (each_checks sheet)) _ h ∙ rw (lt-leb (length sheet) (map_place sheet n) p) refl
 
-    pub sheet_passes : length sheet ≤ map_place sheet n → verdict_of (sheet_checks n sheet) ≡ Passed
+    pub sheet_passes : length sheet ≤ map_place sheet n → verdict_of (sheet_checks n sheet) ≡ Ok tt
     unfolding sheet_checks verdict_of
     sheet_passes p =
         verdict_after (join_below n (each_checks sheet)) _ h ∙ rw (le-leb (length sheet) (map_place sheet n) p) refl
@@ -136,7 +136,7 @@ pub record SheetChecked (n : ℕ) (sheet : List ℕ) (at i : ℕ) : Type 0 where
   pub most : i ≤ n
   pub stands : at ≡ map_place sheet i
   pub within : at ≤ length sheet
-  pub passed : verdict_of (join_below i (each_checks sheet)) ≡ Passed
+  pub passed : verdict_of (join_below i (each_checks sheet)) ≡ Ok tt
 
 pub sheet_none : (n : ℕ) (sheet : List ℕ) → SheetChecked n sheet 0 0
 unfolding map_place
@@ -151,7 +151,7 @@ module _ (n : ℕ) (sheet : List ℕ) (at i : ℕ) (h : SheetChecked n sheet at 
 
     pub sheet_more : (next : ℕ) → after ≡ At next → SheetChecked n sheet next (i + 1)
     sheet_more next t =
-        let w : (verdict_of (distributor_checks sheet at) ≡ Passed) × (next ≡ reading_place sheet at distributor_readings) =
+        let w : (verdict_of (distributor_checks sheet at) ≡ Ok tt) × (next ≡ reading_place sheet at distributor_readings) =
         place_at _ _ next (sym t ∙ e) in
         record {
           most = omega arith;
@@ -161,7 +161,7 @@ module _ (n : ℕ) (sheet : List ℕ) (at i : ℕ) (h : SheetChecked n sheet at 
         }
 
     pub sheet_wrong : (refusal : Refusal) → after ≡ Wrong refusal →
-        Refused refusal ≡ verdict_of (sheet_checks n sheet)
+        Err refusal ≡ verdict_of (sheet_checks n sheet)
     sheet_wrong refusal t =
         let met = place_wrong _ _ refusal (sym t ∙ e) in
         sym (sheet_refused n sheet refusal
@@ -172,13 +172,13 @@ module _ (n : ℕ) (sheet : List ℕ) (at i : ℕ) (h : SheetChecked n sheet at 
     end : i ≡ n
     end = omega (arith, h.most)
 
-    all : verdict_of (join_below n (each_checks sheet)) ≡ Passed
+    all : verdict_of (join_below n (each_checks sheet)) ≡ Ok tt
     all = rw end at h.passed
 
-    pub sheet_left : at < length sheet → Refused WrongSheetLength ≡ verdict_of (sheet_checks n sheet)
+    pub sheet_left : at < length sheet → Err WrongSheetLength ≡ verdict_of (sheet_checks n sheet)
     sheet_left q = sym (left_refused n sheet all (omega (arith, h.stands, ap (map_place sheet) end)))
 
-    pub sheet_all : length sheet ≤ at → Passed ≡ verdict_of (sheet_checks n sheet)
+    pub sheet_all : length sheet ≤ at → Ok tt ≡ verdict_of (sheet_checks n sheet)
     sheet_all q = sym (sheet_passes n sheet all (omega (arith, h.stands, ap (map_place sheet) end)))
 
 -- each check has the number of its refusal
@@ -217,7 +217,7 @@ read_told n sheet lent = (
 )
 
 -- where all checks pass the last map's end lies within the sheet
-pub maps_within : (n : ℕ) (sheet : List ℕ) → verdict_of (sheet_checks n sheet) ≡ Passed → map_place sheet n ≤ length sheet
+pub maps_within : (n : ℕ) (sheet : List ℕ) → verdict_of (sheet_checks n sheet) ≡ Ok tt → map_place sheet n ≤ length sheet
 unfolding sheet_checks map_place
 maps_within zero sheet h = omega arith
 maps_within (suc i) sheet h =
@@ -227,13 +227,13 @@ maps_within (suc i) sheet h =
 
 -- the open call: its verdict, check by check, and its promise
 module _ (n : ℕ) (sheet lent : List ℕ) where
-  pub count_refused : between 1 most_distributors n ≡ false → verdict_of (read_checks n sheet lent) ≡ Refused WrongCount
+  pub count_refused : between 1 most_distributors n ≡ false → verdict_of (read_checks n sheet lent) ≡ Err WrongCount
   unfolding read_checks verdict_of
   count_refused h = rw h
 
   module _ (h : between 1 most_distributors n ≡ true) where
     pub length_refused : (length lent ≡ n * distributor_readings → ⊥) →
-        verdict_of (read_checks n sheet lent) ≡ Refused WrongLength
+        verdict_of (read_checks n sheet lent) ≡ Err WrongLength
     unfolding read_checks verdict_of
     length_refused e = rw (h, ne_eqb (length lent) (n * distributor_readings) e)
 
@@ -242,17 +242,17 @@ module _ (n : ℕ) (sheet lent : List ℕ) where
     unfolding read_checks verdict_of
     read_due e = rw (h, eq-eqb (length lent) (n * distributor_readings) e)
 
-  pub read_refused : (refusal : Refusal) → verdict_of (read_checks n sheet lent) ≡ Refused refusal →
-      ReadPromise n sheet lent (Refused refusal) lent
+  pub read_refused : (refusal : Refusal) → verdict_of (read_checks n sheet lent) ≡ Err refusal →
+      ReadPromise n sheet lent (Err refusal) lent
   unfolding read_list
   read_refused refusal h =
       record {
-        judged = judged (read_checks n sheet lent) (read_told n sheet lent) (Refused refusal) (sym h);
+        judged = judged (read_checks n sheet lent) (read_told n sheet lent) (Err refusal) (sym h);
         listed = rw h;
       }
 
-  pub read_accepted : (list : List ℕ) → verdict_of (read_checks n sheet lent) ≡ Passed → list ≡ sheet_readings n sheet →
-      ReadPromise n sheet lent Passed list
+  pub read_accepted : (list : List ℕ) → verdict_of (read_checks n sheet lent) ≡ Ok tt → list ≡ sheet_readings n sheet →
+      ReadPromise n sheet lent (Ok tt) list
   unfolding read_list
   read_accepted list h e =
-      record { judged = judged (read_checks n sheet lent) (read_told n sheet lent) Passed (sym h); listed = rw h e }
+      record { judged = judged (read_checks n sheet lent) (read_told n sheet lent) (Ok _) (sym h); listed = rw h e }

@@ -11,8 +11,8 @@ use Rattle.numbers.specs.Required.{ValuesWithin}
 use Rattle.numbers.specs.Sizes.{distributor_readings, most_reading, most_distributors}
 use Rattle.numbers.specs.Units.{between}
 use Rattle.numbers.specs.declared.refusal.Refusal.TheVariants.{WrongCount, WrongReading}
-use Rattle.numbers.specs.declared.refusal.Verdict.{Verdict}
-use Rattle.numbers.specs.declared.refusal.Verdict.TheVariants.{Passed}
+use Rattle.numbers.specs.Refusal.{Verdict}
+use Rattle.std.specs.Prelude.{Ok, Err}
 use Rattle.numbers.proofs.UnitLaws.{values_within}
 use Rattle.numbers.proofs.CheckLaws.{FirstPass, passed_test, verdict_from, all_passed}
 use Rattle.sheet.specs.Sheet.{sheet_bytes, sheet_readings, sheet_checks}
@@ -26,8 +26,8 @@ use Rattle.sheet.proofs.WriteLaws.{lengths_due}
 
 -- what an accepted write says
 module _ (n : ℕ) (readings buffer : List ℕ) (used : ℕ) (left : List ℕ)
-    (promise : WritePromise n readings buffer Passed used left) where
-  accepted : write_verdict n readings buffer ≡ Passed
+    (promise : WritePromise n readings buffer (Ok tt) used left) where
+  accepted : write_verdict n readings buffer ≡ Ok tt
   accepted = sym promise.judged.answered
 
   used_is : used ≡ length (sheet_bytes n readings)
@@ -59,15 +59,15 @@ module _ (n : ℕ) (readings buffer : List ℕ) (used : ℕ) (left : List ℕ)
   readings_within = values_within 0 most_reading readings (passed_test WrongReading _ tests.1.1.0)
 
   read_passes : (lent : List ℕ) → length lent ≡ n * distributor_readings →
-      verdict_of (read_checks n (sheet_bytes n readings) lent) ≡ Passed
+      verdict_of (read_checks n (sheet_bytes n readings) lent) ≡ Ok tt
   read_passes lent e =
       read_due n (sheet_bytes n readings) lent count_passed e ∙ written_passes n readings readings_within
 
   pub written_is_read : (lent list : List ℕ) (verdict : Verdict) → length lent ≡ n * distributor_readings →
-      ReadPromise n (take used left) lent verdict list → (verdict ≡ Passed) × (list ≡ readings)
+      ReadPromise n (take used left) lent verdict list → (verdict ≡ Ok tt) × (list ≡ readings)
   unfolding read_list
   written_is_read lent list verdict e read =
-      let passed : verdict_of (read_checks n (take used left) lent) ≡ Passed =
+      let passed : verdict_of (read_checks n (take used left) lent) ≡ Ok tt =
       ap (λ sheet. verdict_of (read_checks n sheet lent)) sheet_is ∙ read_passes lent e in (
         read.judged.answered ∙ passed,
         read.listed ∙ ap (λ v. cond (is_passed v) (sheet_readings n (take used left)) lent) passed
@@ -75,19 +75,19 @@ module _ (n : ℕ) (readings buffer : List ℕ) (used : ℕ) (left : List ℕ)
       )
 
 -- an accepted sheet of bytes is the sheet of its readings
-accepted_sheet : (n : ℕ) (sheet lent list : List ℕ) → ValuesWithin 255 sheet → ReadPromise n sheet lent Passed list →
+accepted_sheet : (n : ℕ) (sheet lent list : List ℕ) → ValuesWithin 255 sheet → ReadPromise n sheet lent (Ok tt) list →
     sheet ≡ sheet_bytes n list
 unfolding read_checks read_list FirstPass
 accepted_sheet n sheet lent list bytes read =
-    let passed : verdict_of (read_checks n sheet lent) ≡ Passed = sym read.judged.answered in
+    let passed : verdict_of (read_checks n sheet lent) ≡ Ok tt = sym read.judged.answered in
     let readings : list ≡ sheet_readings n sheet =
     read.listed ∙ ap (λ v. cond (is_passed v) (sheet_readings n sheet) lent) passed in
     let tests = all_passed (read_checks n sheet lent) passed in
-    let rest : verdict_of (sheet_checks n sheet) ≡ Passed =
+    let rest : verdict_of (sheet_checks n sheet) ≡ Ok tt =
     sym (verdict_from 2 (read_checks n sheet lent) (tests.0, (tests.1.0, tt))) ∙ passed in
     canonical sheet bytes n rest ∙ ap (sheet_bytes n) (sym readings)
 
 pub equal_readings : (n : ℕ) (one other lent also list : List ℕ) → ValuesWithin 255 one → ValuesWithin 255 other →
-    ReadPromise n one lent Passed list → ReadPromise n other also Passed list → one ≡ other
+    ReadPromise n one lent (Ok tt) list → ReadPromise n other also (Ok tt) list → one ≡ other
 equal_readings n one other lent also list p q first second =
     accepted_sheet n one lent list p first ∙ sym (accepted_sheet n other also list q second)

@@ -17,8 +17,8 @@ use Rattle.numbers.specs.Sizes.{most_distributors, distributor_readings, most_re
 use Rattle.numbers.specs.Units.{between, all_between}
 use Rattle.numbers.specs.declared.refusal.Refusal.{Refusal}
 use Rattle.numbers.specs.declared.refusal.Refusal.TheVariants.{WrongCount, WrongLength, WrongReading}
-use Rattle.numbers.specs.declared.refusal.Verdict.{Verdict}
-use Rattle.numbers.specs.declared.refusal.Verdict.TheVariants.{Passed, Refused}
+use Rattle.numbers.specs.Refusal.{Verdict}
+use Rattle.std.specs.Prelude.{Ok, Err}
 use Rattle.numbers.proofs.BoolLaws.{and_left, and_right}
 use Rattle.numbers.proofs.CheckLaws.{FirstPass, AllTold, passed_test, all_passed, check_told, verdict_told}
 use Rattle.numbers.proofs.UnitLaws.{between_high}
@@ -112,7 +112,7 @@ sheet_step i readings = join_step (λ j. distributor_bytes (readings_of readings
 
 -- what is used and what is left, of a call that is accepted or refused
 module _ (n : ℕ) (readings buffer : List ℕ) where
-  pub lengths_due : verdict_of (write_checks n readings buffer) ≡ Passed → Writable n readings buffer
+  pub lengths_due : verdict_of (write_checks n readings buffer) ≡ Ok tt → Writable n readings buffer
   unfolding write_checks write_lengths FirstPass
   lengths_due h =
       let checks = all_passed (write_checks n readings buffer) h in
@@ -131,8 +131,8 @@ module _ (n : ℕ) (readings buffer : List ℕ) where
   by_verdict P given kept p q = go (verdict_of (write_checks n readings buffer)) refl
     where
       go : (v : Verdict) → verdict_of (write_checks n readings buffer) ≡ v → P (cond (is_passed v) given kept)
-      go Passed e = p (lengths_due e)
-      go (Refused refusal) e = q
+      go (Ok _) e = p (lengths_due e)
+      go (Err refusal) e = q
 
   pub used_few : used_bytes n readings buffer ≤ 5280
   unfolding used_bytes
@@ -164,27 +164,27 @@ module _ (n : ℕ) (readings buffer : List ℕ) where
   )
 
   -- the verdict, check by check, and the promise
-  pub count_refused : between 1 most_distributors n ≡ false → write_verdict n readings buffer ≡ Refused WrongCount
+  pub count_refused : between 1 most_distributors n ≡ false → write_verdict n readings buffer ≡ Err WrongCount
   unfolding write_verdict write_checks verdict_of
   count_refused h = rw h
 
   pub length_refused : between 1 most_distributors n ≡ true → write_lengths n readings buffer ≡ false →
-      write_verdict n readings buffer ≡ Refused WrongLength
+      write_verdict n readings buffer ≡ Err WrongLength
   unfolding write_verdict write_checks verdict_of
   length_refused h l = rw (h, l)
 
   pub reading_refused : between 1 most_distributors n ≡ true → write_lengths n readings buffer ≡ true →
-      all_between 0 most_reading readings ≡ false → write_verdict n readings buffer ≡ Refused WrongReading
+      all_between 0 most_reading readings ≡ false → write_verdict n readings buffer ≡ Err WrongReading
   unfolding write_verdict write_checks verdict_of
   reading_refused h l r = rw (h, l, r)
 
   pub write_passes : between 1 most_distributors n ≡ true → write_lengths n readings buffer ≡ true →
-      all_between 0 most_reading readings ≡ true → write_verdict n readings buffer ≡ Passed
+      all_between 0 most_reading readings ≡ true → write_verdict n readings buffer ≡ Ok tt
   unfolding write_verdict write_checks verdict_of
   write_passes h l r = rw (h, l, r)
 
   told : (used : ℕ) (verdict : Verdict) → verdict ≡ write_verdict n readings buffer →
-      (verdict ≡ Passed → used ≡ length (sheet_bytes n readings)) →
+      (verdict ≡ Ok tt → used ≡ length (sheet_bytes n readings)) →
       verdict_answered (used ∷ []) verdict
       ≡ answered_by (write_checks n readings buffer) (length (sheet_bytes n readings) ∷ [])
   unfolding write_verdict
@@ -193,31 +193,31 @@ module _ (n : ℕ) (readings buffer : List ℕ) where
       ∙ ap (verdict_answered (length (sheet_bytes n readings) ∷ [])) e
       ∙ verdict_told (write_checks n readings buffer) (length (sheet_bytes n readings) ∷ []) write_told
     where
-      go : (v : Verdict) → (v ≡ Passed → used ≡ length (sheet_bytes n readings)) →
+      go : (v : Verdict) → (v ≡ Ok tt → used ≡ length (sheet_bytes n readings)) →
           verdict_answered (used ∷ []) v ≡ verdict_answered (length (sheet_bytes n readings) ∷ []) v
-      go Passed h = ap (λ k. accepted (k ∷ [])) (h refl)
-      go (Refused refusal) h = refl
+      go (Ok _) h = ap (λ k. accepted (k ∷ [])) (h refl)
+      go (Err refusal) h = refl
 
-  pub write_refused : (refusal : Refusal) → write_verdict n readings buffer ≡ Refused refusal →
-      WritePromise n readings buffer (Refused refusal) 0 buffer
+  pub write_refused : (refusal : Refusal) → write_verdict n readings buffer ≡ Err refusal →
+      WritePromise n readings buffer (Err refusal) 0 buffer
   unfolding used_bytes written_buffer
   write_refused refusal h =
       record {
         judged = record {
           answered = sym h;
-          numbered = told 0 (Refused refusal) (sym h)
+          numbered = told 0 (Err refusal) (sym h)
               (λ e. absurd (let z : ◌≡◌ {A = ℕ} 0 1 = cc in omega arith));
         };
         sized = rw h;
         listed = rw h;
       }
 
-  pub write_accepted : (used : ℕ) (left : List ℕ) → write_verdict n readings buffer ≡ Passed →
-      FirstWritten (sheet_bytes n readings) buffer used left → WritePromise n readings buffer Passed used left
+  pub write_accepted : (used : ℕ) (left : List ℕ) → write_verdict n readings buffer ≡ Ok tt →
+      FirstWritten (sheet_bytes n readings) buffer used left → WritePromise n readings buffer (Ok tt) used left
   unfolding used_bytes written_buffer
   write_accepted used left h w =
       record {
-        judged = record { answered = sym h; numbered = told used Passed (sym h) (λ e. w.sized) };
+        judged = record { answered = sym h; numbered = told used (Ok tt) (sym h) (λ e. w.sized) };
         sized = rw h w.sized;
         listed = rw h w.listed;
       }

@@ -10,7 +10,7 @@ use Rattle.numbers.specs.Bounded.{list_below, join_below}
 use Rattle.numbers.specs.Checks.{verdict_of}
 use Rattle.numbers.specs.Required.{ValuesWithin}
 use Rattle.numbers.specs.Sizes.{distributor_readings, most_reading}
-use Rattle.numbers.specs.declared.refusal.Verdict.TheVariants.{Passed}
+use Rattle.std.specs.Prelude.{Ok, Err}
 use Rattle.numbers.proofs.JoinLaws.{join_same, all_join}
 use Rattle.numbers.proofs.ListLaws.{list_length, list_at}
 use Rattle.sheet.specs.Number.{number_size, number_bytes}
@@ -43,7 +43,7 @@ reading_back sheet place (suc reading) p s =
 
 reading_passes : (sheet : List ℕ) (place reading : ℕ) → reading < 2 ^ 32 →
     Stands sheet place (reading_bytes reading) →
-    verdict_of (reading_checks (presence_bit reading) sheet place) ≡ Passed
+    verdict_of (reading_checks (presence_bit reading) sheet place) ≡ Ok tt
 unfolding presence_bit
 reading_passes sheet place zero p s = absent_passes sheet place
 reading_passes sheet place (suc reading) p s =
@@ -89,7 +89,7 @@ module _ (sheet : List ℕ) (place : ℕ) (readings : List ℕ) (s : Stands shee
         (λ b p. let q : b < distributor_readings = omega (arith, long) in
         list_at (reading_at sheet place) distributor_readings 0 b q ∙ reading_read b q)
 
-    distributor_passes : verdict_of (distributor_checks sheet place) ≡ Passed
+    distributor_passes : verdict_of (distributor_checks sheet place) ≡ Ok tt
     distributor_passes =
         map_passes sheet place (number_within sheet place (bit_map readings) map_stands)
         ∙ all_join (own_checks sheet place) distributor_readings
@@ -127,7 +127,7 @@ module _ (n : ℕ) (readings : List ℕ) where
         ∙ get_or-drop (i * distributor_readings) readings b 0 in
         omega (arith, at, within.most (i * distributor_readings + b))
 
-    pub written_passes : verdict_of (sheet_checks n sheet) ≡ Passed
+    pub written_passes : verdict_of (sheet_checks n sheet) ≡ Ok tt
     unfolding sheet_bytes
     written_passes =
         sheet_passes n sheet

@@ -6,7 +6,7 @@ use Rattle.numbers.specs.Checks.{Check, check, verdict_of, Judged}
 use Rattle.numbers.specs.Sizes.{most_distributors, distributor_readings}
 use Rattle.numbers.specs.Units.{between}
 use Rattle.numbers.specs.declared.refusal.Refusal.TheVariants.{WrongCount, WrongLength}
-use Rattle.numbers.specs.declared.refusal.Verdict.{Verdict}
+use Rattle.numbers.specs.Refusal.{Verdict}
 use Rattle.sheet.specs.Sheet.{sheet_readings, sheet_checks}
 
 -- "1 covers an n outside 1 to 40"; "a lent list of 32n words"; 17 and 18 "both after 3". No reading is put to its

@@ -1,17 +1,8 @@
 -- What the functions of this crate require, and what those that are not open promise. Assumes nothing.
 use Rattle.std.specs.Prelude.{◌≡◌, List, ℕ, ◌*◌, ◌≤◌, length}
 use Rattle.numbers.specs.Sizes.{most_distributors, distributor_readings}
-use Rattle.numbers.specs.declared.refusal.Verdict.{Verdict}
-use Rattle.numbers.specs.declared.refusal.Verdict.TheVariants.{Passed, Refused}
 use Rattle.sheet.specs.Sheet.{map_place}
 use Rattle.sheet.specs.Write.{most_distributor_bytes, written_first}
-use Rattle.sheet.specs.declared.read.Place.{Place}
-use Rattle.sheet.specs.declared.read.Place.TheVariants.{At, Wrong}
-
--- the place where a sheet is read on, or what is wrong with it
-abbrev pub place_by : Verdict → ℕ → Place
-place_by Passed place = At place
-place_by (Refused refusal) place = Wrong refusal
 
 -- a sheet of n distributors that ends where the last of them does, and a list for its readings
 pub record WholeSheet (n : ℕ) (sheet lent : List ℕ) : Type 0 where

@@ -1,12 +1,12 @@
 -- The open call that writes a month sheet (W-209 of document 02): its checks in their order, how many bytes it uses,
 -- and the lent buffer after it. Assumes nothing.
-use Rattle.std.specs.Prelude.{◌≡◌, Bool, cond, ◌&&◌, List, [], ◌∷◌, ◌++◌, ℕ, ◌*◌, eqb, leb, length, drop}
-use Rattle.numbers.specs.Refusal.{is_passed, verdict_answered}
-use Rattle.numbers.specs.Checks.{Check, check, verdict_of, answered_by, Promised}
+use Rattle.std.specs.Prelude.{◌≡◌, Bool, cond, ◌&&◌, List, [], ◌∷◌, ◌++◌, ℕ, ◌*◌, eqb, leb, length, drop, Result}
+use Rattle.numbers.specs.Refusal.{Verdict, is_passed}
+use Rattle.numbers.specs.Checks.{Check, check, verdict_of, AnswersBy}
 use Rattle.numbers.specs.Sizes.{most_distributors, distributor_readings, most_reading}
 use Rattle.numbers.specs.Units.{between, all_between}
 use Rattle.numbers.specs.declared.refusal.Refusal.TheVariants.{WrongCount, WrongLength, WrongReading}
-use Rattle.numbers.specs.declared.refusal.Verdict.{Verdict}
+use Rattle.numbers.specs.declared.refusal.Refusal.{Refusal}
 use Rattle.sheet.specs.Sheet.{sheet_bytes}
 
 -- "a lent buffer of at least 132n bytes": a map and 32 readings
@@ -29,10 +29,6 @@ write_checks n readings buffer =
 unfoldable pub write_verdict : ℕ → List ℕ → List ℕ → Verdict
 write_verdict n readings buffer = verdict_of (write_checks n readings buffer)
 
--- "saying how much it used": 0 where it is refused
-unfoldable pub used_bytes : ℕ → List ℕ → List ℕ → ℕ
-used_bytes n readings buffer = cond (is_passed (write_verdict n readings buffer)) (length (sheet_bytes n readings)) 0
-
 -- bytes first in a buffer "leaving the rest", which is as it was
 unfoldable pub written_first : List ℕ → List ℕ → List ℕ
 written_first bytes buffer = bytes ++ drop (length bytes) buffer
@@ -42,11 +38,8 @@ unfoldable pub written_buffer : ℕ → List ℕ → List ℕ → List ℕ
 written_buffer n readings buffer =
     cond (is_passed (write_verdict n readings buffer)) (written_first (sheet_bytes n readings) buffer) buffer
 
--- what the open call promises, for every n, readings and lent buffer: verdict, with its number and with the bytes used
--- as the value of what is accepted, how many it says it used, and the buffer
-pub record WritePromise (n : ℕ) (readings buffer : List ℕ) (verdict : Verdict) (used : ℕ) (left : List ℕ) : Type 0
-  where
-    pub judged : Promised (verdict_answered (used ∷ [])) verdict (write_verdict n readings buffer)
-        (answered_by (write_checks n readings buffer) (length (sheet_bytes n readings) ∷ []))
-    pub sized : used ≡ used_bytes n readings buffer
-    pub listed : left ≡ written_buffer n readings buffer
+-- what the open call promises, for every n, readings and lent buffer: its answer, "saying how much it used" where it is
+-- accepted, with its number and values, and the buffer
+pub record WritePromise (n : ℕ) (readings buffer : List ℕ) (answer : Result ℕ Refusal) (left : List ℕ) : Type 0 where
+  pub judged : AnswersBy (λ used. used ∷ []) answer (write_checks n readings buffer) (length (sheet_bytes n readings))
+  pub listed : left ≡ written_buffer n readings buffer

@@ -3,85 +3,67 @@
 ghost use Rattle.std.specs.Prelude.{◌≡◌, ◌+◌, ◌*◌, ◌≤◌, length};
 ghost use Rattle.numbers.specs.Bounded.{list_below};
 ghost use Rattle.numbers.specs.Checks.{verdict_of};
+ghost use Rattle.numbers.specs.Refusal.{answer_by};
 ghost use Rattle.numbers.specs.Sizes.{distributor_readings};
 ghost use Rattle.sheet.specs.Number.{number_size};
 ghost use Rattle.sheet.specs.Sheet.{reading_place, reading_by, reading_at, sheet_readings};
 ghost use Rattle.sheet.specs.Sheet.{reading_checks, distributor_checks, sheet_checks};
 ghost use Rattle.sheet.specs.Read.{ReadPromise};
-ghost use Rattle.sheet.specs.Required.{place_by, WholeSheet};
+ghost use Rattle.sheet.specs.Required.{WholeSheet};
 
 use crate::number::{NUMBER_SIZE, number_at};
-use numbers::refusal::{Refusal, Verdict};
+use numbers::refusal::Refusal;
 use numbers::sizes::{DISTRIBUTOR_READINGS, MOST_DISTRIBUTORS};
 use numbers::units::is_between;
 
-// Where a sheet is read on, or what is wrong with it.
-#[derive(Clone, Copy)]
-enum Place {
-    At(usize),
-    Wrong(Refusal),
-}
-
 // The place after a reading, by its bit and its place.
-fn place_after(bit: u64, sheet: &[u8], place: usize) -> Place
+fn place_after(bit: u64, sheet: &[u8], place: usize) -> Result<usize, Refusal>
     requires fact_1 { bit ≤ 1 }
     requires fact_2 { place ≤ length sheet.now }
-    ensures { result ≡ place_by (verdict_of (reading_checks bit sheet.now place)) (place + bit * number_size) }
+    ensures { result ≡ answer_by (verdict_of (reading_checks bit sheet.now place)) (place + bit * number_size) }
 {
     if bit == 0 {
-        return Place::At(place);
+        return Ok(place);
     }
     if sheet.len() - place < NUMBER_SIZE {
-        return Place::Wrong(Refusal::WrongSheetLength);
+        return Err(Refusal::WrongSheetLength);
     }
     if number_at(sheet, place) == 0 {
-        return Place::Wrong(Refusal::ZeroReading);
+        return Err(Refusal::ZeroReading);
     }
-    Place::At(place + NUMBER_SIZE)
+    Ok(place + NUMBER_SIZE)
 }
 
 // The place after the readings of the distributor whose map stands at the start.
-fn distributor_end(sheet: &[u8], start: usize) -> Place
+fn distributor_end(sheet: &[u8], start: usize) -> Result<usize, Refusal>
     requires { start ≤ length sheet.now }
-    ensures { result ≡ place_by (verdict_of (distributor_checks sheet.now start))
+    ensures { result ≡ answer_by (verdict_of (distributor_checks sheet.now start))
         (reading_place sheet.now start distributor_readings) }
 {
     if sheet.len() - start < NUMBER_SIZE {
-        return Place::Wrong(Refusal::WrongSheetLength);
+        return Err(Refusal::WrongSheetLength);
     }
     let mut bits = number_at(sheet, start);
     let mut at = start + NUMBER_SIZE;
-    let mut b: usize = 0;
-    while b < DISTRIBUTOR_READINGS {
-        let after = place_after(bits % 2, sheet, at);
-        match after {
-            Place::At(next) => at = next,
-            Place::Wrong(refusal) => return Place::Wrong(refusal),
-        }
+    for _ in 0..DISTRIBUTOR_READINGS {
+        at = place_after(bits % 2, sheet, at)?;
         bits /= 2;
-        b += 1;
     }
-    Place::At(at)
+    Ok(at)
 }
 
 // Causes 17 and 18, the earlier place first.
-fn sheet_verdict(n: usize, sheet: &[u8]) -> Verdict
+fn sheet_verdict(n: usize, sheet: &[u8]) -> Result<(), Refusal>
     ensures { result ≡ verdict_of (sheet_checks n sheet.now) }
 {
     let mut at: usize = 0;
-    let mut i: usize = 0;
-    while i < n {
-        let after = distributor_end(sheet, at);
-        match after {
-            Place::At(next) => at = next,
-            Place::Wrong(refusal) => return Verdict::Refused(refusal),
-        }
-        i += 1;
+    for _ in 0..n {
+        at = distributor_end(sheet, at)?;
     }
     if at < sheet.len() {
-        return Verdict::Refused(Refusal::WrongSheetLength);
+        return Err(Refusal::WrongSheetLength);
     }
-    Verdict::Passed
+    Ok(())
 }
 
 // A reading by its bit and its place.
@@ -131,21 +113,16 @@ fn write_all(n: usize, sheet: &[u8], readings: &mut [u64])
 }
 
 // The readings of n distributors from a sheet, 32 words each. Where it is refused the lent list is as it was.
-pub fn read_sheet(n: usize, sheet: &[u8], readings: &mut [u64]) -> Verdict
+pub fn read_sheet(n: usize, sheet: &[u8], readings: &mut [u64]) -> Result<(), Refusal>
     ensures { ReadPromise n sheet.now readings.old result readings.new }
 {
     if !is_between(1, MOST_DISTRIBUTORS as u64, n as u64) {
-        return Verdict::Refused(Refusal::WrongCount);
+        return Err(Refusal::WrongCount);
     }
     if readings.len() != n * DISTRIBUTOR_READINGS {
-        return Verdict::Refused(Refusal::WrongLength);
+        return Err(Refusal::WrongLength);
     }
-    let verdict = sheet_verdict(n, sheet);
-    match verdict {
-        Verdict::Passed => {
-            write_all(n, sheet, readings);
-            Verdict::Passed
-        }
-        Verdict::Refused(refusal) => Verdict::Refused(refusal),
-    }
+    sheet_verdict(n, sheet)?;
+    write_all(n, sheet, readings);
+    Ok(())
 }

@@ -1,7 +1,6 @@
 // Writing a month sheet: no requires. Causes 1, 3 and 12; the sheet is written only when all of them are passed.
 ghost use Rattle.std.specs.Prelude.{◌≡◌, ◌*◌, ◌≤◌, length};
 ghost use Rattle.numbers.specs.Sizes.{most_distributors, distributor_readings};
-ghost use Rattle.numbers.specs.declared.refusal.Verdict.TheVariants.{Refused};
 ghost use Rattle.sheet.specs.Number.{number_size};
 ghost use Rattle.sheet.specs.Sheet.{presence_bit, bit_map, reading_bytes, present_bytes, distributor_bytes};
 ghost use Rattle.sheet.specs.Sheet.{sheet_bytes};
@@ -9,19 +8,12 @@ ghost use Rattle.sheet.specs.Write.{most_distributor_bytes, write_lengths, Write
 ghost use Rattle.sheet.specs.Required.{Writable, FirstWritten};
 
 use crate::number::{NUMBER_SIZE, write_number};
-use numbers::refusal::{Refusal, Verdict};
+use numbers::refusal::Refusal;
 use numbers::sizes::{DISTRIBUTOR_READINGS, MOST_DISTRIBUTORS, MOST_READING};
 use numbers::units::{all_between, is_between};
 
 // The most bytes of a distributor: a map and its readings.
 const DISTRIBUTOR_BYTES: usize = 132;
-
-// What writing a sheet answers, and how many bytes of the buffer it used: none where it is refused.
-#[derive(Clone, Copy)]
-pub struct Written {
-    pub verdict: Verdict,
-    pub used: usize,
-}
 
 // The bit of a reading.
 fn presence_bit(reading: u64) -> u64
@@ -109,34 +101,19 @@ fn lengths_right(n: usize, readings: &[u64], buffer: &[u8]) -> bool
     (readings.len() == n * DISTRIBUTOR_READINGS) & (n * DISTRIBUTOR_BYTES <= buffer.len())
 }
 
-// No bytes were used.
-fn refused(refusal: Refusal) -> Written
-    ensures { result ≡ record { verdict = Refused refusal; used = 0 } }
-{
-    Written {
-        verdict: Verdict::Refused(refusal),
-        used: 0,
-    }
-}
-
-// The sheet of the readings of n distributors, 32 words each, first in a buffer of at least 132 bytes for each. Where
-// it is refused the buffer is as it was.
-pub fn write_sheet(n: usize, readings: &[u64], buffer: &mut [u8]) -> Written
-    ensures { WritePromise n readings.now buffer.old result.verdict result.used
-        buffer.new }
+// The sheet of the readings of n distributors, 32 words each, first in a buffer of at least 132 bytes for each: how many
+// bytes it has. Where it is refused the buffer is as it was.
+pub fn write_sheet(n: usize, readings: &[u64], buffer: &mut [u8]) -> Result<usize, Refusal>
+    ensures { WritePromise n readings.now buffer.old result buffer.new }
 {
     if !is_between(1, MOST_DISTRIBUTORS as u64, n as u64) {
-        return refused(Refusal::WrongCount);
+        return Err(Refusal::WrongCount);
     }
     if !lengths_right(n, readings, buffer) {
-        return refused(Refusal::WrongLength);
+        return Err(Refusal::WrongLength);
     }
     if !all_between(0, MOST_READING, readings) {
-        return refused(Refusal::WrongReading);
+        return Err(Refusal::WrongReading);
     }
-    let used = write_distributors(n, readings, buffer);
-    Written {
-        verdict: Verdict::Passed,
-        used,
-    }
+    Ok(write_distributors(n, readings, buffer))
 }

@@ -2,12 +2,11 @@
 -- checks. Assumes nothing.
 use mathlib.Core.Path.{◌≡◌, refl, sym, ◌∙◌, ap}
 use mathlib.Core.List.{List, [], ◌∷◌}
-use mathlib.Core.Option.{none}
+use Rattle.std.specs.Prelude.{None, Ok, Err}
 use Prim.Native.Nat.{ℕ}
 use Rattle.numbers.specs.Checks.{verdict_of}
 use Rattle.numbers.specs.declared.refusal.Refusal.{Refusal}
-use Rattle.numbers.specs.declared.refusal.Verdict.{Verdict}
-use Rattle.numbers.specs.declared.refusal.Verdict.TheVariants.{Passed, Refused}
+use Rattle.numbers.specs.Refusal.{Verdict}
 use Rattle.numbers.specs.declared.units.PesoPrice.{PesoPrice}
 use Rattle.numbers.specs.declared.units.PowerPrice.{PowerPrice}
 use Rattle.numbers.proofs.CheckLaws.{FirstPass, AllTold, refused_first, passed_alone, all_passed, verdict_from, judged}
@@ -23,8 +22,8 @@ use Rattle.supply.proofs.PriceLaws.{prices_told, bounds_passed}
 by_verdict : (verdict : Verdict) (references : List PesoPrice) (power : List PowerPrice) →
     (prices_by verdict references power).verdict ≡ verdict
 unfolding refused_prices
-by_verdict Passed references power = refl
-by_verdict (Refused refusal) references power = refl
+by_verdict (Ok _) references power = refl
+by_verdict (Err refusal) references power = refl
 
 module _ (table : List (List ℕ)) (numbers : FixingNumbers) (lines in_force : List ℕ) where
   -- the lines' prices by a verdict on them
@@ -35,15 +34,15 @@ module _ (table : List (List ℕ)) (numbers : FixingNumbers) (lines in_force : L
 
   -- a month is missing
   pub months_refused : (refusal : Refusal) →
-      verdict_of (month_check (lacks_month table numbers) lines ∷ []) ≡ Refused refusal →
+      verdict_of (month_check (lacks_month table numbers) lines ∷ []) ≡ Err refusal →
       line_prices table numbers lines in_force ≡ refused_prices refusal
   unfolding line_prices table_checks
   months_refused refusal h =
       ap by (refused_first (month_check (lacks_month table numbers) lines) _ refusal h)
 
   -- none is
-  module _ (h : verdict_of (month_check (lacks_month table numbers) lines ∷ []) ≡ Passed) where
-    pub months_present : first_missing (lacks_month table numbers) lines ≡ none
+  module _ (h : verdict_of (month_check (lacks_month table numbers) lines ∷ []) ≡ Ok tt) where
+    pub months_present : first_missing (lacks_month table numbers) lines ≡ None
     months_present =
         months_passed (lacks_month table numbers) lines (passed_alone (month_check (lacks_month table numbers) lines) h)
 
@@ -72,14 +71,14 @@ module _ (table : List (List ℕ)) (numbers : FixingNumbers) (lines in_force : L
       }
 
   -- where every check is passed: no line is out of bounds, and the lists have every line's prices
-  pub passed_bounds : verdict_of (table_checks table numbers lines in_force) ≡ Passed →
-      first_beyond (term_mean table numbers) numbers lines in_force ≡ none
+  pub passed_bounds : verdict_of (table_checks table numbers lines in_force) ≡ Ok tt →
+      first_beyond (term_mean table numbers) numbers lines in_force ≡ None
   unfolding table_checks price_checks FirstPass
   passed_bounds h =
       bounds_passed (term_mean table numbers) numbers lines in_force
       (all_passed (table_checks table numbers lines in_force) h).1.0
 
   pub passed_prices : (given : LinePrices) → LinePricesPromise table numbers lines in_force given →
-      given.verdict ≡ Passed → given ≡ by Passed
+      given.verdict ≡ Ok tt → given ≡ by (Ok tt)
   unfolding line_prices
   passed_prices given promise v = promise.worked ∙ ap by (sym promise.judged.answered ∙ v)

@@ -3,7 +3,7 @@
 use mathlib.Core.Path.{◌≡◌, ◌∙◌, ap, ap₂}
 use mathlib.Core.Bool.{false}
 use mathlib.Core.List.{List, []}
-use mathlib.Core.Option.{none}
+use Rattle.std.specs.Prelude.{None}
 use Prim.Native.Nat.{ℕ, ◌≤◌, ◌<◌}
 use lib.Dec.{eqb}
 use lib.ListN.{get_or}
@@ -39,7 +39,7 @@ listed_most means ok term = ok.most (mean_place term.series term.lag term.window
 -- where no mean of the list is 0, no term lacks a month
 pub none_listed : (means lines : List ℕ) → CheckedLines lines →
     any_below mean_count (λ k. eqb (get_or means k 0) 0) ≡ false →
-    first_missing (listed_lacks means) lines ≡ none
+    first_missing (listed_lacks means) lines ≡ None
 unfolding listed_lacks listed_mean mean_at
 none_listed means lines checked h =
     never_missing (listed_lacks means) lines
@@ -82,7 +82,7 @@ module _ (table : List (List ℕ)) (numbers : FixingNumbers) where
     check_listed = ap (λ o. record { number = 10; met = missing_at o }) months_listed
 
     -- where no month is missing
-    module _ (present : first_missing (lacks_month table numbers) lines ≡ none) where
+    module _ (present : first_missing (lacks_month table numbers) lines ≡ None) where
       term_same : EveryTerm lines (λ term. listed_mean means term ≡ term_mean table numbers term)
       term_same j p k q used =
           listed_mean_lem (term_of (line_of lines j) k) ((checked.facts j p).term k used)

@@ -3,7 +3,7 @@
 use mathlib.Core.Path.{◌≡◌, refl, ap}
 use mathlib.Core.Bool.{Bool, true, false, cond, ◌&&◌}
 use mathlib.Core.List.{List}
-use mathlib.Core.Option.{Option, none, some}
+use Rattle.std.specs.Prelude.{Option, Some, None}
 use Prim.Native.Nat.{ℕ, ◌<◌}
 use native.Mathlib.Omega.{arith}
 use Rattle.numbers.proofs.BoolLaws.{and_where, and_none}
@@ -16,11 +16,11 @@ use Rattle.supply.specs.declared.line.Line.{Line}
 
 module _ (lacks : Term → Bool) (line : Line) (j k : ℕ) where
   pub term_missing : (term_used line k && lacks (term_of line k)) ≡ true →
-      missing_term lacks line j k ≡ some (record { line = j; term = k })
+      missing_term lacks line j k ≡ Some (record { line = j; term = k })
   unfolding missing_term
   term_missing h = rw h
 
-  pub term_published : (term_used line k && lacks (term_of line k)) ≡ false → missing_term lacks line j k ≡ none
+  pub term_published : (term_used line k && lacks (term_of line k)) ≡ false → missing_term lacks line j k ≡ None
   unfolding missing_term
   term_published h = rw h
 
@@ -32,7 +32,7 @@ EveryTerm lines P =
 
 module _ (lacks : Term → Bool) (lines : List ℕ) where
   -- a walk that no term stops
-  pub never_missing : EveryTerm lines (λ term. lacks term ≡ false) → first_missing lacks lines ≡ none
+  pub never_missing : EveryTerm lines (λ term. lacks term ≡ false) → first_missing lacks lines ≡ None
   unfolding first_missing missing_in_line
   never_missing h =
       first_never (λ j. missing_in_line lacks (line_of lines j) j) (line_count lines)
@@ -41,7 +41,7 @@ module _ (lacks : Term → Bool) (lines : List ℕ) where
       (and_none (term_used (line_of lines j) k) (lacks (term_of (line_of lines j) k)) (h j p k q))))
 
   -- and what a walk that none stopped says of every term
-  pub none_missing : first_missing lacks lines ≡ none → EveryTerm lines (λ term. lacks term ≡ false)
+  pub none_missing : first_missing lacks lines ≡ None → EveryTerm lines (λ term. lacks term ≡ false)
   unfolding first_missing missing_in_line
   none_missing h j p k q used = go (lacks (term_of (line_of lines j) k)) refl
     where
@@ -63,7 +63,7 @@ missing_same one other lines h =
     (line_count lines)
     (λ j p. first_same (missing_term one (line_of lines j) j) (missing_term other (line_of lines j) j)
     term_places
-    (λ k q. ap {A = Bool} {B = Option Place} (λ b. cond b (some (record { line = j; term = k })) none)
+    (λ k q. ap {A = Bool} {B = Option Place} (λ b. cond b (Some (record { line = j; term = k })) None)
     (and_where (term_used (line_of lines j) k) _ _ (h j p k q))))
 
 module _ (lacks : Term → Bool) (lines : List ℕ) where
@@ -73,14 +73,14 @@ module _ (lacks : Term → Bool) (lines : List ℕ) where
   month_told = go (first_missing lacks lines)
     where
       go : (o : Option Place) → Told (record { number = 10; met = missing_at o })
-      go none = none_told 10
-      go (some place) = met_told 10 _ refl
+      go None = none_told 10
+      go (Some place) = met_told 10 _ refl
 
   -- where cause 10 is not met, the search finds nothing
-  pub months_passed : (month_check lacks lines).met ≡ none → first_missing lacks lines ≡ none
+  pub months_passed : (month_check lacks lines).met ≡ None → first_missing lacks lines ≡ None
   unfolding month_check
   months_passed = go (first_missing lacks lines)
     where
-      go : (o : Option Place) → missing_at o ≡ none → o ≡ none
-      go none h = refl
-      go (some place) h = absurd (let z : ◌≡◌ {A = ℕ} 0 1 = cc in omega arith)
+      go : (o : Option Place) → missing_at o ≡ None → o ≡ None
+      go None h = refl
+      go (Some place) h = absurd (let z : ◌≡◌ {A = ℕ} 0 1 = cc in omega arith)

@@ -4,7 +4,7 @@
 use mathlib.Core.Path.{◌≡◌, refl, sym, ◌∙◌, ap, ap₂}
 use mathlib.Core.Bool.{Bool, true, false, cond, not, ◌&&◌, true≢false}
 use mathlib.Core.List.{List}
-use mathlib.Core.Option.{Option, none, some}
+use Rattle.std.specs.Prelude.{Option, Some, None, Ok, Err}
 use Prim.Native.Nat.{ℕ, ◌*◌, ◌≤◌, ◌<◌}
 use native.Mathlib.Omega.{arith}
 use native.Mathlib.Nat.{mul-le-mul}
@@ -18,15 +18,12 @@ use Rattle.numbers.specs.Bounded.{filled_below}
 use Rattle.numbers.specs.Units.{between, least_price, most_price, checked_price, no_power}
 use Rattle.numbers.specs.declared.units.PesoPrice.{PesoPrice}
 use Rattle.numbers.specs.declared.units.PowerPrice.{PowerPrice}
-use Rattle.numbers.specs.declared.units.CheckedPrice.{CheckedPrice}
-use Rattle.numbers.specs.declared.units.CheckedPrice.TheVariants.{Within, OutsideBounds}
 use Rattle.numbers.proofs.BoolLaws.{and_right, or_of}
 use Rattle.numbers.proofs.FirstLaws.{first_none}
 use Rattle.numbers.proofs.ListLaws.{filled_at, filled_same}
 use Rattle.numbers.proofs.CheckLaws.{Told, AllTold, none_told, met_told, check_told}
 use Rattle.numbers.proofs.TestLaws.{any_same}
 use Rattle.numbers.specs.declared.refusal.Refusal.TheVariants.{OutOfBounds, NoLineMoved}
-use Rattle.numbers.specs.declared.refusal.Verdict.TheVariants.{Passed, Refused}
 use Rattle.numbers.specs.Checks.{verdict_of}
 use Rattle.numbers.proofs.UnitLaws.{between_low, between_high}
 use Rattle.numbers.proofs.SumLaws.{sum_same}
@@ -111,7 +108,7 @@ module _ (most base factor : ℕ) where
 module _ (mean : Term → ℕ) (line : Line) where
   module _ (numbers : FixingNumbers) (old : Option ℕ) where
     -- a new indexed price is tested, taken or not
-    answer_beyond : indexed_allowed mean line ≡ false → price_answer mean numbers line old ≡ OutsideBounds
+    answer_beyond : indexed_allowed mean line ≡ false → price_answer mean numbers line old ≡ None
     unfolding price_answer
     answer_beyond h = rw h
 
@@ -128,7 +125,7 @@ module _ (mean : Term → ℕ) (line : Line) where
     indexed_reference_lem = go (indexed_allowed mean line) refl
       where
         go : (b : Bool) → indexed_allowed mean line ≡ b →
-            cond (eqb (cond b (line_indexed mean line) 0) 0) OutsideBounds
+            cond (eqb (cond b (line_indexed mean line) 0) 0) None
             (reference_answer numbers line (price_taken old (cond b (line_indexed mean line) 0)))
             ≡ price_answer mean numbers line old
         go true e =
@@ -212,19 +209,19 @@ power_at mean lines j p few =
 
 -- a line's price in force: none past the list's end, else the word at its place
 module _ (in_force : List ℕ) (j : ℕ) where
-  pub none_in_force : length in_force ≤ j → price_in_force in_force j ≡ none
+  pub none_in_force : length in_force ≤ j → price_in_force in_force j ≡ None
   unfolding price_in_force
   none_in_force p = rw (le-ltb j (length in_force) p)
 
-  pub some_in_force : j < length in_force → price_in_force in_force j ≡ some (get_or in_force j 0)
+  pub some_in_force : j < length in_force → price_in_force in_force j ≡ Some (get_or in_force j 0)
   unfolding price_in_force
   some_in_force p = rw (lt-ltb j (length in_force) p)
 
 -- by whether it moved: the new price, else the one in force
 pub taken_new : (old : Option ℕ) (indexed : ℕ) → moved old indexed ≡ true → price_taken old indexed ≡ indexed
 unfolding price_taken
-taken_new none indexed h = refl
-taken_new (some old) indexed h = rw h
+taken_new None indexed h = refl
+taken_new (Some old) indexed h = rw h
 
 pub taken_old : (in_force : List ℕ) (j indexed : ℕ) → moved (price_in_force in_force j) indexed ≡ false →
     (j < length in_force) × (price_taken (price_in_force in_force j) indexed ≡ get_or in_force j 0)
@@ -246,7 +243,7 @@ taken_most in_force facts j indexed h = go (moved (price_in_force in_force j) in
     go false e = rw (taken_old in_force j indexed e).1 (facts.most j)
 
 -- a checked price that is given lies in its bounds
-checked_bounds : (x : ℕ) (p : PesoPrice) → checked_price x ≡ Within p → (least_price ≤ p.0) × (p.0 ≤ most_price)
+checked_bounds : (x : ℕ) (p : PesoPrice) → checked_price x ≡ Some p → (least_price ≤ p.0) × (p.0 ≤ most_price)
 unfolding checked_price
 checked_bounds x p h = go (between least_price most_price x) refl h
   where
@@ -254,29 +251,29 @@ checked_bounds x p h = go (between least_price most_price x) refl h
     bounds e b =
         (omega (arith, between_low least_price most_price x b), omega (arith, between_high least_price most_price x b))
 
-    word : Within (record { 0 = x }) ≡ Within p → x ≡ p.0
+    word : Some (record { 0 = x }) ≡ Some p → x ≡ p.0
     word q = let r : ◌≡◌ {A = PesoPrice} (record { 0 = x }) p = cc in ap (λ y. y.0) r
 
-    go : (b : Bool) → between least_price most_price x ≡ b → cond b (Within (record { 0 = x })) OutsideBounds ≡ Within p →
+    go : (b : Bool) → between least_price most_price x ≡ b → cond b (Some (record { 0 = x })) None ≡ Some p →
         (least_price ≤ p.0) × (p.0 ≤ most_price)
     go true e q = bounds (word q) e
     go false e q = absurd (let z : ◌≡◌ {A = ℕ} 0 1 = cc in omega arith)
 
 -- a reference that is given lies in the bounds of a peso price
 reference_bounds : (numbers : FixingNumbers) (line : Line) (taken : ℕ) (p : PesoPrice) →
-    reference_answer numbers line taken ≡ Within p →
+    reference_answer numbers line taken ≡ Some p →
     (least_price ≤ p.0) × (p.0 ≤ most_price)
 unfolding reference_answer
 reference_bounds numbers line taken p h = go (between 1 1000000 (line_purchase line taken)) h
   where
-    go : (b : Bool) → cond b (checked_price (line_reference numbers line taken)) OutsideBounds ≡ Within p →
+    go : (b : Bool) → cond b (checked_price (line_reference numbers line taken)) None ≡ Some p →
         (least_price ≤ p.0) × (p.0 ≤ most_price)
     go true q = checked_bounds (line_reference numbers line taken) p q
     go false q = absurd (let z : ◌≡◌ {A = ℕ} 0 1 = cc in omega arith)
 
 -- so does that of a line, whose indexed price is allowed
 answered_price : (mean : Term → ℕ) (numbers : FixingNumbers) (line : Line) (old : Option ℕ) (p : PesoPrice) →
-    price_answer mean numbers line old ≡ Within p →
+    price_answer mean numbers line old ≡ Some p →
     (indexed_allowed mean line ≡ true) × ((least_price ≤ p.0) × (p.0 ≤ most_price))
 answered_price mean numbers line old p h = go (indexed_allowed mean line) refl
   where
@@ -288,13 +285,13 @@ answered_price mean numbers line old p h = go (indexed_allowed mean line) refl
           (sym (answer_allowed mean line numbers old e) ∙ h),
     )
     go false e =
-        let q : OutsideBounds ≡ Within p = sym (answer_beyond mean line numbers old e) ∙ h in
+        let q : None ≡ Some p = sym (answer_beyond mean line numbers old e) ∙ h in
         absurd (let z : ◌≡◌ {A = ℕ} 0 1 = cc in omega arith)
 
 module _ (mean : Term → ℕ) (numbers : FixingNumbers) (lines in_force : List ℕ) where
   -- where the search for a line out of bounds finds none, every line's indexed price and power price are allowed, and
   -- it has a reference within the bounds
-  module _ (h : first_beyond mean numbers lines in_force ≡ none) (j : ℕ) (q : j < line_count lines) where
+  module _ (h : first_beyond mean numbers lines in_force ≡ None) (j : ℕ) (q : j < line_count lines) where
     searched : (indexed_allowed mean (line_of lines j) ≡ true)
         × ((least_price ≤ (reference_price mean numbers lines in_force j).0)
         × ((reference_price mean numbers lines in_force j).0 ≤ most_price))
@@ -304,16 +301,16 @@ module _ (mean : Term → ℕ) (numbers : FixingNumbers) (lines in_force : List 
         go (answer_at mean numbers lines in_force j) (power_allowed mean (line_of lines j)) refl refl
         (first_none (beyond_in mean numbers lines in_force) (line_count lines) h j q)
       where
-        go : (a : CheckedPrice) (b : Bool) → answer_at mean numbers lines in_force j ≡ a →
-            power_allowed mean (line_of lines j) ≡ b → beyond_at j a b ≡ none →
+        go : (a : Option PesoPrice) (b : Bool) → answer_at mean numbers lines in_force j ≡ a →
+            power_allowed mean (line_of lines j) ≡ b → beyond_at j a b ≡ None →
             (indexed_allowed mean (line_of lines j) ≡ true)
             × ((least_price ≤ (price_or a).0) × ((price_or a).0 ≤ most_price))
             × (power_allowed mean (line_of lines j) ≡ true)
-        go (Within p) true e f n =
+        go (Some p) true e f n =
             let energy = answered_price mean numbers (line_of lines j) (price_in_force in_force j) p e in
             (energy.0, energy.1, f)
-        go (Within p) false e f n = absurd (let z : ◌≡◌ {A = ℕ} 0 1 = cc in omega arith)
-        go OutsideBounds b e f n = absurd (let z : ◌≡◌ {A = ℕ} 0 1 = cc in omega arith)
+        go (Some p) false e f n = absurd (let z : ◌≡◌ {A = ℕ} 0 1 = cc in omega arith)
+        go None b e f n = absurd (let z : ◌≡◌ {A = ℕ} 0 1 = cc in omega arith)
 
     pub search_within : (least_price ≤ (reference_price mean numbers lines in_force j).0)
         × ((reference_price mean numbers lines in_force j).0 ≤ most_price)
@@ -335,7 +332,7 @@ module _ (mean : Term → ℕ) (numbers : FixingNumbers) (lines in_force : List 
         (mul-le-mul {n₂ = most_power_price} (power_bounds mean (line_of lines j) searched.2).1 most)
 
   -- and the words tell whether any line moved
-  pub words_moved : first_beyond mean numbers lines in_force ≡ none → line_count lines ≤ most_lines →
+  pub words_moved : first_beyond mean numbers lines in_force ≡ None → line_count lines ≤ most_lines →
       any_moved in_force (line_count lines) (λ j. get_or (indexed_list mean lines) j 0) ≡ any_line_moved mean lines in_force
   unfolding any_moved any_line_moved
   words_moved h few =
@@ -343,7 +340,7 @@ module _ (mean : Term → ℕ) (numbers : FixingNumbers) (lines in_force : List 
       (λ j p. ap (moved (price_in_force in_force j)) (indexed_at mean lines j p few ∙ word_indexed h j p))
 
   -- and are turned into the power prices
-  pub words_power : first_beyond mean numbers lines in_force ≡ none → line_count lines ≤ most_lines →
+  pub words_power : first_beyond mean numbers lines in_force ≡ None → line_count lines ≤ most_lines →
       filled_below most_lines no_power (line_count lines)
       (λ j. record { 0 = power_peso_of (get_or (power_words mean lines) j 0) numbers.dollar })
       ≡ power_list mean numbers lines
@@ -354,19 +351,19 @@ module _ (mean : Term → ℕ) (numbers : FixingNumbers) (lines in_force : List 
       (power_at mean lines j p few ∙ word_power h j p))
 
   -- the verdict: a line out of bounds is 11, whether any moved or not; then 14 where none did
-  pub prices_beyond : (j : ℕ) → first_beyond mean numbers lines in_force ≡ some j →
-      verdict_of (price_checks mean numbers lines in_force) ≡ Refused (OutOfBounds j)
+  pub prices_beyond : (j : ℕ) → first_beyond mean numbers lines in_force ≡ Some j →
+      verdict_of (price_checks mean numbers lines in_force) ≡ Err (OutOfBounds j)
   unfolding price_checks bounds_check verdict_of
   prices_beyond j h = rw h
 
-  module _ (h : first_beyond mean numbers lines in_force ≡ none) where
+  module _ (h : first_beyond mean numbers lines in_force ≡ None) where
     pub prices_unmoved : any_line_moved mean lines in_force ≡ false →
-        verdict_of (price_checks mean numbers lines in_force) ≡ Refused NoLineMoved
+        verdict_of (price_checks mean numbers lines in_force) ≡ Err NoLineMoved
     unfolding price_checks bounds_check verdict_of
     prices_unmoved e = rw (h, e)
 
     pub prices_passed : any_line_moved mean lines in_force ≡ true →
-        verdict_of (price_checks mean numbers lines in_force) ≡ Passed
+        verdict_of (price_checks mean numbers lines in_force) ≡ Ok tt
     unfolding price_checks bounds_check verdict_of
     prices_passed e = rw (h, e)
 
@@ -379,40 +376,40 @@ module _ (mean : Term → ℕ) (numbers : FixingNumbers) (lines in_force : List 
   )
     where
       go : (o : Option ℕ) → Told (record { number = 11; met = out_of_bounds_at o })
-      go none = none_told 11
-      go (some line) = met_told 11 _ refl
+      go None = none_told 11
+      go (Some line) = met_told 11 _ refl
 
   -- where cause 11 is not met, the search finds nothing
-  pub bounds_passed : (bounds_check mean numbers lines in_force).met ≡ none → first_beyond mean numbers lines in_force ≡ none
+  pub bounds_passed : (bounds_check mean numbers lines in_force).met ≡ None → first_beyond mean numbers lines in_force ≡ None
   unfolding bounds_check
   bounds_passed = go (first_beyond mean numbers lines in_force)
     where
-      go : (o : Option ℕ) → out_of_bounds_at o ≡ none → o ≡ none
-      go none h = refl
-      go (some line) h = absurd (let z : ◌≡◌ {A = ℕ} 0 1 = cc in omega arith)
+      go : (o : Option ℕ) → out_of_bounds_at o ≡ None → o ≡ None
+      go None h = refl
+      go (Some line) h = absurd (let z : ◌≡◌ {A = ℕ} 0 1 = cc in omega arith)
 
   -- what a line's answer says to the search, and as a reference
   module _ (j : ℕ) where
-    pub line_within : (p : PesoPrice) → answer_at mean numbers lines in_force j ≡ Within p →
+    pub line_within : (p : PesoPrice) → answer_at mean numbers lines in_force j ≡ Some p →
         power_allowed mean (line_of lines j) ≡ true →
-        beyond_in mean numbers lines in_force j ≡ none
+        beyond_in mean numbers lines in_force j ≡ None
     unfolding beyond_in
     line_within p h g = rw (h, g)
 
-    pub line_beyond : answer_at mean numbers lines in_force j ≡ OutsideBounds →
-        beyond_in mean numbers lines in_force j ≡ some j
+    pub line_beyond : answer_at mean numbers lines in_force j ≡ None →
+        beyond_in mean numbers lines in_force j ≡ Some j
     unfolding beyond_in
     line_beyond h = rw h
 
-    pub power_beyond : power_allowed mean (line_of lines j) ≡ false → beyond_in mean numbers lines in_force j ≡ some j
+    pub power_beyond : power_allowed mean (line_of lines j) ≡ false → beyond_in mean numbers lines in_force j ≡ Some j
     unfolding beyond_in
     power_beyond h = rw h (go (answer_at mean numbers lines in_force j))
       where
-        go : (a : CheckedPrice) → beyond_at j a false ≡ some j
-        go (Within p) = refl
-        go OutsideBounds = refl
+        go : (a : Option PesoPrice) → beyond_at j a false ≡ Some j
+        go (Some p) = refl
+        go None = refl
 
-    pub line_price : (p : PesoPrice) → answer_at mean numbers lines in_force j ≡ Within p →
+    pub line_price : (p : PesoPrice) → answer_at mean numbers lines in_force j ≡ Some p →
         p ≡ reference_price mean numbers lines in_force j
     unfolding reference_price
     line_price p h = rw h
@@ -444,7 +441,7 @@ module _ (one other : Term → ℕ) (line : Line)
   unfolding price_answer indexed_allowed line_indexed
   price_same numbers old =
       ap (λ f. cond (indexed_within 1000000 line.base_price f)
-      (reference_answer numbers line (price_taken old (indexed_of line.base_price f))) OutsideBounds)
+      (reference_answer numbers line (price_taken old (indexed_of line.base_price f))) None)
       factor_same
 
   ratio_same : term_ratio one (term_of line power_term) ≡ term_ratio other (term_of line power_term)

@@ -2,15 +2,14 @@
 -- proofs/ListedLaws and proofs/PriceLaws show that they are the terms' means and the lines' prices, and 0 where a month
 -- is missing, a factor, ratio or price out of bounds, and nowhere else. Assumes nothing.
 use Rattle.std.specs.Prelude.{Bool, cond, List, ℕ, eqb}
-use Rattle.std.proofs.Math.Option.{Option}
+use Rattle.std.specs.Prelude.{Option, Some, None}
 use Rattle.numbers.specs.Bounded.{filled_below}
 use Rattle.numbers.specs.Units.{between}
-use Rattle.numbers.specs.declared.units.CheckedPrice.{CheckedPrice}
-use Rattle.numbers.specs.declared.units.CheckedPrice.TheVariants.{OutsideBounds}
 use Rattle.series.specs.Means.{mean_at}
 use Rattle.supply.specs.Line.{most_lines, line_count, line_of}
 use Rattle.supply.specs.Price.{indexed_of, index_factor, indexed_within, price_taken, reference_answer}
 use Rattle.supply.specs.Price.{power_purchase, power_allowed}
+use Rattle.numbers.specs.declared.units.PesoPrice.{PesoPrice}
 use Rattle.supply.specs.declared.line.Term.{Term}
 use Rattle.supply.specs.declared.line.Line.{Line}
 use Rattle.supply.specs.declared.market.FixingNumbers.{FixingNumbers}
@@ -38,9 +37,9 @@ unfoldable pub indexed_list : (Term → ℕ) → List ℕ → List ℕ
 indexed_list mean lines = filled_below most_lines 0 (line_count lines) (λ j. indexed_or_zero mean (line_of lines j))
 
 -- the reference from such a word
-unfoldable pub indexed_reference : FixingNumbers → Line → Option ℕ → ℕ → CheckedPrice
+unfoldable pub indexed_reference : FixingNumbers → Line → Option ℕ → ℕ → Option PesoPrice
 indexed_reference numbers line old indexed =
-    cond (eqb indexed 0) OutsideBounds (reference_answer numbers line (price_taken old indexed))
+    cond (eqb indexed 0) None (reference_answer numbers line (price_taken old indexed))
 
 -- the power purchase price of a line as a word, and those of all lines
 unfoldable pub power_or_zero : (Term → ℕ) → Line → ℕ

@@ -1,7 +1,7 @@
 -- "The search stops at the first line, and in it the first term, with a missing month" of document 01 (cause 10); the
 -- power term of a line (W-204 of document 02) comes after its own. Assumes nothing.
 use Rattle.std.specs.Prelude.{Bool, cond, ◌&&◌, List, [], ◌∷◌, ℕ, get_or}
-use Rattle.std.proofs.Math.Option.{Option, none, some}
+use Rattle.std.specs.Prelude.{Option, Some, None}
 use Rattle.numbers.specs.Bounded.{first_below}
 use Rattle.numbers.specs.Checks.{Met, Check}
 use Rattle.numbers.specs.declared.refusal.Refusal.TheVariants.{MonthMissing}
@@ -25,7 +25,7 @@ pub record Place : Type 0 where
 -- term whether a month is missing
 unfoldable pub missing_term : (Term → Bool) → Line → ℕ → ℕ → Option Place
 missing_term lacks line j k =
-    cond (term_used line k && lacks (term_of line k)) (some (record { line = j; term = k })) none
+    cond (term_used line k && lacks (term_of line k)) (Some (record { line = j; term = k })) None
 
 unfoldable pub missing_in_line : (Term → Bool) → Line → ℕ → Option Place
 missing_in_line lacks line j = first_below term_places (missing_term lacks line j)
@@ -35,9 +35,9 @@ first_missing lacks lines = first_below (line_count lines) (λ j. missing_in_lin
 
 -- 10: "month missing", with "line, term"
 abbrev pub missing_at : Option Place → Option Met
-missing_at none = none
-missing_at (some place) =
-    some (record { refusal = MonthMissing place.line place.term; values = place.line ∷ place.term ∷ [] })
+missing_at None = None
+missing_at (Some place) =
+    Some (record { refusal = MonthMissing place.line place.term; values = place.line ∷ place.term ∷ [] })
 
 unfoldable pub month_check : (Term → Bool) → List ℕ → Check
 month_check lacks lines = record { number = 10; met = missing_at (first_missing lacks lines) }

@@ -2,17 +2,14 @@
 -- which price a line takes in an interim fixing (W-201), and its power price (W-204). The steps up to the indexed price
 -- take the mean of each term as given; all later ones of energy take the price that the line takes. Assumes nothing.
 use Rattle.std.specs.Prelude.{◌≡◌, Bool, true, cond, ◌&&◌, List, [], ◌∷◌, ℕ, ◌+◌, ◌-◌, ◌*◌, leb, ltb, eqb, length, get_or}
-use Rattle.std.proofs.Math.Option.{Option, none, some}
+use Rattle.std.specs.Prelude.{Option, Some, None, Result}
 use Rattle.numbers.specs.Bounded.{sum_below, any_below, first_below, filled_below}
 use Rattle.numbers.specs.Rounding.{half_up}
-use Rattle.numbers.specs.Checks.{Met, Check, check, verdict_of, Judged}
+use Rattle.numbers.specs.Checks.{Met, Check, check, verdict_of, AnswersBy}
 use Rattle.numbers.specs.declared.refusal.Refusal.{Refusal}
 use Rattle.numbers.specs.declared.refusal.Refusal.TheVariants.{OutOfBounds, NoLineMoved}
-use Rattle.numbers.specs.declared.refusal.Verdict.{Verdict}
-use Rattle.numbers.specs.declared.refusal.Verdict.TheVariants.{Passed, Refused}
+use Rattle.numbers.specs.Refusal.{answer_by}
 use Rattle.numbers.specs.Units.{between, checked_price, no_price, no_power}
-use Rattle.numbers.specs.declared.units.CheckedPrice.{CheckedPrice}
-use Rattle.numbers.specs.declared.units.CheckedPrice.TheVariants.{Within, OutsideBounds}
 use Rattle.numbers.specs.declared.units.PesoPrice.{PesoPrice}
 use Rattle.numbers.specs.declared.units.PowerPrice.{PowerPrice}
 use Rattle.series.specs.Series.{window_mean}
@@ -86,7 +83,7 @@ indexed_allowed mean line = indexed_within 1000000 line.base_price (index_factor
 
 -- "The caller lends, line by line, the indexed price in force": that of line j. A regular fixing is lent none
 unfoldable pub price_in_force : List ℕ → ℕ → Option ℕ
-price_in_force in_force j = cond (ltb j (length in_force)) (some (get_or in_force j 0)) none
+price_in_force in_force j = cond (ltb j (length in_force)) (Some (get_or in_force j 0)) None
 
 abbrev pub absolute_difference : ℕ → ℕ → ℕ
 absolute_difference one other = (one - other) + (other - one)
@@ -94,14 +91,14 @@ absolute_difference one other = (one - other) + (other - one)
 -- whether a price moved by more than 10%: "if ten times the difference is more than the price in force; exactly 10%
 -- keeps the old one". With none in force, it did
 unfoldable pub moved : Option ℕ → ℕ → Bool
-moved none indexed = true
-moved (some old) indexed = ltb old (10 * absolute_difference old indexed)
+moved None indexed = true
+moved (Some old) indexed = ltb old (10 * absolute_difference old indexed)
 
 -- the price that a line takes: the new indexed price where it moved, else the one in force; with none in force, so in a
 -- regular fixing, every new one
 unfoldable pub price_taken : Option ℕ → ℕ → ℕ
-price_taken none indexed = indexed
-price_taken (some old) indexed = cond (moved (some old) indexed) indexed old
+price_taken None indexed = indexed
+price_taken (Some old) indexed = cond (moved (Some old) indexed) indexed old
 
 -- the later steps, from the price taken
 unfoldable pub line_purchase : Line → ℕ → ℕ
@@ -113,20 +110,20 @@ line_reference numbers line taken =
     line.purchase_factor
 
 -- "purchase must lie in 1 to 1,000,000, reference in 1,000 to 2,000,000"
-unfoldable pub reference_answer : FixingNumbers → Line → ℕ → CheckedPrice
+unfoldable pub reference_answer : FixingNumbers → Line → ℕ → Option PesoPrice
 reference_answer numbers line taken =
-    cond (between 1 1000000 (line_purchase line taken)) (checked_price (line_reference numbers line taken)) OutsideBounds
+    cond (between 1 1000000 (line_purchase line taken)) (checked_price (line_reference numbers line taken)) None
 
 -- the line's reference, or that its index factor or a price of it is out of bounds: "11 also tests every new indexed
 -- price", taken or not
-unfoldable pub price_answer : (Term → ℕ) → FixingNumbers → Line → Option ℕ → CheckedPrice
+unfoldable pub price_answer : (Term → ℕ) → FixingNumbers → Line → Option ℕ → Option PesoPrice
 price_answer mean numbers line old =
     cond (indexed_allowed mean line)
     (reference_answer numbers line (price_taken old (line_indexed mean line)))
-    OutsideBounds
+    None
 
 -- that of line j, with its price in force
-unfoldable pub answer_at : (Term → ℕ) → FixingNumbers → List ℕ → List ℕ → ℕ → CheckedPrice
+unfoldable pub answer_at : (Term → ℕ) → FixingNumbers → List ℕ → List ℕ → ℕ → Option PesoPrice
 answer_at mean numbers lines in_force j = price_answer mean numbers (line_of lines j) (price_in_force in_force j)
 
 -- "Its power price is indexed by that ratio alone": the CPI term's
@@ -149,9 +146,9 @@ unfoldable pub line_power : (Term → ℕ) → FixingNumbers → Line → ℕ
 line_power mean numbers line = power_peso_of (power_purchase mean line) numbers.dollar
 
 -- the "first such line" of cause 11, in energy or in power
-abbrev pub beyond_at : ℕ → CheckedPrice → Bool → Option ℕ
-beyond_at j (Within p) power = cond power none (some j)
-beyond_at j OutsideBounds power = some j
+abbrev pub beyond_at : ℕ → Option PesoPrice → Bool → Option ℕ
+beyond_at j (Some p) power = cond power None (Some j)
+beyond_at j None power = Some j
 
 unfoldable pub beyond_in : (Term → ℕ) → FixingNumbers → List ℕ → List ℕ → ℕ → Option ℕ
 beyond_in mean numbers lines in_force j =
@@ -162,8 +159,8 @@ first_beyond mean numbers lines in_force = first_below (line_count lines) (beyon
 
 -- 11: "factor or price out of bounds", with the "first such line"
 abbrev pub out_of_bounds_at : Option ℕ → Option Met
-out_of_bounds_at none = none
-out_of_bounds_at (some line) = some (record { refusal = OutOfBounds line; values = line ∷ [] })
+out_of_bounds_at None = None
+out_of_bounds_at (Some line) = Some (record { refusal = OutOfBounds line; values = line ∷ [] })
 
 unfoldable pub bounds_check : (Term → ℕ) → FixingNumbers → List ℕ → List ℕ → Check
 bounds_check mean numbers lines in_force =
@@ -182,9 +179,9 @@ price_checks mean numbers lines in_force =
     bounds_check mean numbers lines in_force ∷ check 14 (any_line_moved mean lines in_force) NoLineMoved ∷ []
 
 -- the reference of a line that has one
-abbrev pub price_or : CheckedPrice → PesoPrice
-price_or (Within p) = p
-price_or OutsideBounds = no_price
+abbrev pub price_or : Option PesoPrice → PesoPrice
+price_or (Some p) = p
+price_or None = no_price
 
 unfoldable pub reference_price : (Term → ℕ) → FixingNumbers → List ℕ → List ℕ → ℕ → PesoPrice
 reference_price mean numbers lines in_force j = price_or (answer_at mean numbers lines in_force j)
@@ -201,37 +198,25 @@ power_price mean numbers lines j = record { 0 = line_power mean numbers (line_of
 unfoldable pub power_list : (Term → ℕ) → FixingNumbers → List ℕ → List PowerPrice
 power_list mean numbers lines = filled_below most_lines no_power (line_count lines) (power_price mean numbers lines)
 
--- what the lines' prices come to by a verdict: the lists where it is passed, none where it is refused
-unfoldable pub refused_prices : Refusal → LinePrices
-refused_prices refusal =
+-- what the lines' prices come to
+unfoldable pub worked_prices : (Term → ℕ) → FixingNumbers → List ℕ → List ℕ → LinePrices
+worked_prices mean numbers lines in_force =
     record {
-      references = filled_below most_lines no_price 0 (λ j. no_price);
-      power = filled_below most_lines no_power 0 (λ j. no_power);
-      verdict = Refused refusal;
+      references = reference_list mean numbers lines in_force;
+      power = power_list mean numbers lines;
     }
 
-abbrev pub prices_by : Verdict → List PesoPrice → List PowerPrice → LinePrices
-prices_by Passed references power = record { references = references; power = power; verdict = Passed }
-prices_by (Refused refusal) references power = refused_prices refusal
-
-unfoldable pub bounded_prices : (Term → ℕ) → FixingNumbers → List ℕ → List ℕ → LinePrices
+unfoldable pub bounded_prices : (Term → ℕ) → FixingNumbers → List ℕ → List ℕ → Result LinePrices Refusal
 bounded_prices mean numbers lines in_force =
-    prices_by (verdict_of (price_checks mean numbers lines in_force)) (reference_list mean numbers lines in_force)
-    (power_list mean numbers lines)
+    answer_by (verdict_of (price_checks mean numbers lines in_force)) (worked_prices mean numbers lines in_force)
 
 -- the checks that need the index table: month missing; then those of the prices
 unfoldable pub table_checks : List (List ℕ) → FixingNumbers → List ℕ → List ℕ → List Check
 table_checks table numbers lines in_force =
     month_check (lacks_month table numbers) lines ∷ price_checks (term_mean table numbers) numbers lines in_force
 
-unfoldable pub line_prices : List (List ℕ) → FixingNumbers → List ℕ → List ℕ → LinePrices
-line_prices table numbers lines in_force =
-    prices_by (verdict_of (table_checks table numbers lines in_force))
-    (reference_list (term_mean table numbers) numbers lines in_force)
-    (power_list (term_mean table numbers) numbers lines)
-
--- what pricing promises: it is the definition's, and its verdict has the number and values of the checks
-pub record LinePricesPromise (table : List (List ℕ)) (numbers : FixingNumbers) (lines in_force : List ℕ)
-    (given : LinePrices) : Type 0 where
-  pub worked : given ≡ line_prices table numbers lines in_force
-  pub judged : Judged given.verdict (table_checks table numbers lines in_force)
+-- what pricing promises: the prices where the checks pass, else the refusal, with the number and values of the checks
+abbrev pub LinePricesPromise : List (List ℕ) → FixingNumbers → List ℕ → List ℕ → Result LinePrices Refusal → Type 0
+LinePricesPromise table numbers lines in_force given =
+    AnswersBy (λ _. []) given (table_checks table numbers lines in_force)
+    (worked_prices (term_mean table numbers) numbers lines in_force)

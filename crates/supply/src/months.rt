@@ -10,7 +10,7 @@ ghost use Rattle.supply.specs.Listed.{listed_mean, listed_lacks};
 ghost use Rattle.supply.specs.Required.{TermFacts, LineFacts, CheckedLines};
 
 use crate::line::{Line, POWER_TERM, TERM_PLACES, Term, line_at, line_count};
-use numbers::refusal::{Refusal, Verdict};
+use numbers::refusal::Refusal;
 use series::mean::{MEANS, mean_place};
 
 // The mean of a term, 0 where a month of it is missing.
@@ -52,27 +52,21 @@ fn any_missing(means: &[u64; MEANS]) -> bool
 
 // The walk over lines and terms, left at the first missing month with its place. Where no mean at all is missing it
 // need not be made.
-pub(crate) fn search_months(means: &[u64; MEANS], lines: &[u64]) -> Verdict
+pub(crate) fn search_months(means: &[u64; MEANS], lines: &[u64]) -> Result<(), Refusal>
     requires { CheckedLines lines.now }
     ensures { result ≡ verdict_of (month_check (listed_lacks means.now) lines.now ∷ []) }
 {
-    let mut found = Verdict::Passed;
     if !any_missing(means) {
-        return found;
+        return Ok(());
     }
     let count = line_count(lines);
-    let mut j: usize = 0;
-    'lines: while j < count {
+    for j in 0..count {
         let line = line_at(lines, j);
-        let mut k: usize = 0;
-        while k < TERM_PLACES {
+        for k in 0..TERM_PLACES {
             if lacks_month(means, line, k) {
-                found = Verdict::Refused(Refusal::MonthMissing { line: j, term: k });
-                break 'lines;
+                return Err(Refusal::MonthMissing { line: j, term: k });
             }
-            k += 1;
         }
-        j += 1;
     }
-    found
+    Ok(())
 }

@@ -8,7 +8,7 @@ ghost use Rattle.series.specs.Required.{most_mean, TableInRange};
 ghost use Rattle.supply.specs.Line.{most_lines, most_power_price};
 ghost use Rattle.supply.specs.Price.{peso_of, power_peso_of, term_ratio, weighted_ratio, index_factor, line_purchase};
 ghost use Rattle.supply.specs.Price.{price_in_force, absolute_difference, moved, price_taken, reference_answer};
-ghost use Rattle.supply.specs.Price.{any_moved, refused_prices, bounded_prices, LinePricesPromise};
+ghost use Rattle.supply.specs.Price.{any_moved, bounded_prices, LinePricesPromise};
 ghost use Rattle.supply.specs.Listed.{listed_mean, within_or_zero, indexed_word, indexed_or_zero, indexed_reference};
 ghost use Rattle.supply.specs.Listed.{power_or_zero, price_words};
 ghost use Rattle.supply.specs.Required.{TermFacts, LineFacts, CheckedLines, NumbersFacts};
@@ -19,9 +19,9 @@ use crate::line::{
 };
 use crate::market::FixingNumbers;
 use crate::months::{search_months, term_mean};
-use numbers::refusal::{Refusal, Verdict};
+use numbers::refusal::Refusal;
 use numbers::rounding::half_up;
-use numbers::units::{CheckedPrice, PesoPrice, PowerPrice, is_between};
+use numbers::units::{PesoPrice, PowerPrice, is_between};
 use series::mean::{MEANS, means};
 use series::table::{MONTHS, SERIES};
 
@@ -158,7 +158,7 @@ fn purchase_price(most: u64, line: Line, taken: u64) -> u64
 
 // The reference of a line from the price taken: purchase, peso, reference. The bounds of a peso price are put to the
 // reference, not to the peso step.
-fn reference_price(numbers: FixingNumbers, line: Line, taken: u64) -> CheckedPrice
+fn reference_price(numbers: FixingNumbers, line: Line, taken: u64) -> Option<PesoPrice>
     requires fact_1 { NumbersFacts numbers }
     requires fact_2 { LineFacts line }
     requires fact_3 { taken ≤ 1000000 }
@@ -166,7 +166,7 @@ fn reference_price(numbers: FixingNumbers, line: Line, taken: u64) -> CheckedPri
 {
     let purchase = purchase_price(1000000, line, taken);
     if purchase == 0 {
-        return CheckedPrice::OutsideBounds;
+        return None;
     }
     let peso = peso_price(purchase, numbers.dollar);
     let reference = half_up(peso.0 * numbers.reference_factor, line.purchase_factor);
@@ -180,7 +180,7 @@ fn price_line(
     in_force: &[u64],
     j: usize,
     indexed: u64,
-) -> CheckedPrice
+) -> Option<PesoPrice>
     requires fact_1 { NumbersFacts numbers }
     requires fact_2 { LineFacts line }
     requires fact_3 { ValuesWithin 1000000 in_force.now }
@@ -188,7 +188,7 @@ fn price_line(
     ensures { result ≡ indexed_reference numbers line (price_in_force in_force.now j) indexed }
 {
     if indexed == 0 {
-        return CheckedPrice::OutsideBounds;
+        return None;
     }
     let taken = price_taken(in_force, j, indexed);
     reference_price(numbers, line, taken)
@@ -273,12 +273,11 @@ fn power_prices(purchases: [u64; MOST_LINES], count: usize, dollar: u64) -> [Pow
     power
 }
 
-// The references and the power prices of all lines, or why there are none.
+// The references and the power prices of all lines.
 #[derive(Clone, Copy)]
 pub struct LinePrices {
     pub references: [PesoPrice; MOST_LINES],
     pub power: [PowerPrice; MOST_LINES],
-    pub verdict: Verdict,
 }
 
 // No reference yet.
@@ -289,24 +288,13 @@ fn no_references() -> [PesoPrice; MOST_LINES]
     [none; MOST_LINES]
 }
 
-// A refusal, with no price.
-fn refused(refusal: Refusal) -> LinePrices
-    ensures { result ≡ refused_prices refusal }
-{
-    LinePrices {
-        references: no_references(),
-        power: no_power_prices(),
-        verdict: Verdict::Refused(refusal),
-    }
-}
-
 // The prices of all lines, or the first line that is out of bounds, in energy or in power, or that no line moved.
 fn bounded_prices(
     means: &[u64; MEANS],
     numbers: FixingNumbers,
     lines: &[u64],
     in_force: &[u64],
-) -> LinePrices
+) -> Result<LinePrices, Refusal>
     requires fact_1 { ValuesWithin most_mean means.now }
     requires fact_2 { NumbersFacts numbers }
     requires fact_3 { CheckedLines lines.now }
@@ -322,26 +310,25 @@ fn bounded_prices(
     let mut j: usize = 0;
     while j < count {
         if purchases[j] == 0 {
-            return refused(Refusal::OutOfBounds { line: j });
+            return Err(Refusal::OutOfBounds { line: j });
         }
         match price_line(numbers, line_at(lines, j), in_force, j, indexed[j]) {
-            CheckedPrice::Within(price) => {
+            Some(price) => {
                 references[j] = price;
             }
-            CheckedPrice::OutsideBounds => {
-                return refused(Refusal::OutOfBounds { line: j });
+            None => {
+                return Err(Refusal::OutOfBounds { line: j });
             }
         }
         j += 1;
     }
     if !any_moved(in_force, &indexed, count) {
-        return refused(Refusal::NoLineMoved);
+        return Err(Refusal::NoLineMoved);
     }
-    LinePrices {
+    Ok(LinePrices {
         references,
         power: power_prices(purchases, count, numbers.dollar),
-        verdict: Verdict::Passed,
-    }
+    })
 }
 
 // The prices of all lines from the index table: the first missing month (cause 10), then the first line out of bounds
@@ -351,7 +338,7 @@ pub fn price_lines(
     numbers: FixingNumbers,
     lines: &[u64],
     in_force: &[u64],
-) -> LinePrices
+) -> Result<LinePrices, Refusal>
     requires fact_1 { TableInRange table }
     requires fact_2 { NumbersFacts numbers }
     requires fact_3 { CheckedLines lines.now }
@@ -359,8 +346,6 @@ pub fn price_lines(
     ensures { LinePricesPromise table numbers lines.now in_force.now result }
 {
     let means = means(table, numbers.first_month, numbers.month);
-    match search_months(&means, lines) {
-        Verdict::Refused(refusal) => refused(refusal),
-        Verdict::Passed => bounded_prices(&means, numbers, lines, in_force),
-    }
+    search_months(&means, lines)?;
+    bounded_prices(&means, numbers, lines, in_force)
 }

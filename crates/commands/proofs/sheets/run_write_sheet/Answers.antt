@@ -8,7 +8,7 @@ use lib.ListN.{length}
 use lib.Seq.{length-take-le}
 use Rattle.numbers.specs.Bounded.{list_below}
 use Rattle.numbers.specs.Refusal.{verdict_answered}
-use Rattle.numbers.specs.declared.refusal.Verdict.{Verdict}
+use Rattle.numbers.specs.Refusal.{Verdict}
 use Rattle.numbers.proofs.ListLaws.{list_length}
 use Rattle.sheet.specs.Write.{write_verdict, used_bytes, written_buffer, WritePromise}
 use Rattle.sheet.proofs.WriteLaws.{used_within, buffer_length}

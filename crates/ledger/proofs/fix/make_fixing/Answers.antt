@@ -3,7 +3,7 @@ use mathlib.Core.Path.{◌≡◌, refl, ◌∙◌, ap₂}
 use mathlib.Core.Bool.{true, ◌&&◌}
 use borrow.Author.Rules.{rules}
 use Rattle.numbers.specs.declared.refusal.Refusal.TheVariants.{Unsound, WrongLength, OutOfTurn, WrongDay}
-use Rattle.numbers.specs.declared.refusal.Verdict.TheVariants.{Passed}
+use Rattle.std.specs.Prelude.{Ok, Err}
 use Rattle.numbers.proofs.BoolLaws.{told_true, told_false}
 use Rattle.numbers.proofs.CheckLaws.{FirstPass, passes, refused_unless}
 use Rattle.fixing.specs.Required.{RightLengths}
@@ -116,7 +116,7 @@ returns-in-Refused c =
 
 -- an input that passed
 module _ (c : In_default) where
-  passed : c.fix_input-fixing.result.verdict ≡ Passed
+  passed : c.fix_input-fixing.result.verdict ≡ Ok tt
   passed = c.in_default.is
 
 pub accept-requires : goal.accept-requires

@@ -1,7 +1,7 @@
 -- What each call hands back is worked from the parts of its fixing that are worked from energy.
 use mathlib.Core.Path.{◌≡◌, sym, ◌∙◌, ap, ap₂}
 use Rattle.numbers.specs.Refusal.{is_passed}
-use Rattle.numbers.specs.declared.refusal.Verdict.TheVariants.{Passed}
+use Rattle.std.specs.Prelude.{Ok, Err}
 use Rattle.fixing.specs.Fixing.{fixing_of}
 use Rattle.fixing.proofs.IndependenceLaws.{fixing_same}
 use Rattle.ledger.specs.Ledger.{fixed_ledger}
@@ -14,7 +14,7 @@ use Rattle.ledger.proofs.fix.prices_independent_of_power.Goals as goal
 
 -- an accepted call
 module _ (ledger : Ledger) (call : FixingCall) (given : HandedBack) (h : FixingAccepted ledger call given) where
-  verdict : fixing_verdict ledger call ≡ Passed
+  verdict : fixing_verdict ledger call ≡ Ok tt
   verdict = accepted_passed ledger call given h.promise h.number
 
   answered : given.answer ≡ accepted_answer (fixing_of ledger.n call.input).prices

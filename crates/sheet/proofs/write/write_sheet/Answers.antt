@@ -3,7 +3,7 @@ use mathlib.Core.Path.{◌≡◌}
 use mathlib.Core.Bool.{true}
 use Rattle.numbers.specs.Sizes.{most_distributors}
 use Rattle.numbers.specs.Units.{between}
-use Rattle.numbers.specs.declared.refusal.Verdict.TheVariants.{Passed}
+use Rattle.std.specs.Prelude.{Ok, Err}
 use Rattle.numbers.proofs.BoolLaws.{told_true, told_false}
 use Rattle.numbers.proofs.UnitLaws.{between_high}
 use Rattle.sheet.specs.Write.{write_lengths, write_verdict}
@@ -23,7 +23,7 @@ measured e = told_true e.lengths_right.ensures e.if-not-lengths_right.false-raw
 
 -- and all checks pass
 passed : (e : Else-not-all_between) →
-    write_verdict e.args.n e.args.readings.now e.args.buffer.now ≡ Passed
+    write_verdict e.args.n e.args.readings.now e.args.buffer.now ≡ Ok tt
 passed e =
     write_passes _ _ _ (told_true e.is_between.ensures e.if-not-is_between.false-raw)
     (told_true e.lengths_right.ensures e.if-not-lengths_right.false-raw)

@@ -2,7 +2,7 @@
 -- line, the words tell whether any moved, and are turned into the power prices.
 use mathlib.Core.Path.{◌≡◌, refl, sym, ◌∙◌, ap, ap₂}
 use mathlib.Core.Bool.{not}
-use mathlib.Core.Option.{none, some}
+use Rattle.std.specs.Prelude.{Some, None}
 use Prim.Native.Nat.{ℕ, ◌<◌}
 use native.Mathlib.Omega.{arith}
 use lib.Dec.{eqb}
@@ -52,7 +52,7 @@ module _ (c : In-loop-j) where
       ∙ power_tells mean (line_of c.args.lines.now c.loop-j.j)
 
   -- where it is out of bounds, it is the first that is
-  refused_here : beyond_in mean c.args.numbers c.args.lines.now c.args.in_force.now c.loop-j.j ≡ some
+  refused_here : beyond_in mean c.args.numbers c.args.lines.now c.args.in_force.now c.loop-j.j ≡ Some
       c.loop-j.j →
       bounded_prices mean c.args.numbers c.args.lines.now c.args.in_force.now ≡ refused_prices
       (OutOfBounds c.loop-j.j)
@@ -128,7 +128,7 @@ module _ (c : After-loop-j) where
   last = omega (arith, c.line_count-count.ensures)
 
   none_beyond : first_beyond (listed_mean c.args.means.now) c.args.numbers c.args.lines.now c.args.in_force.now
-      ≡ none
+      ≡ None
   unfolding first_beyond
   none_beyond =
       ap (λ k. first_below k (beyond_in (listed_mean c.args.means.now) c.args.numbers c.args.lines.now
@@ -160,7 +160,7 @@ any_moved-requires c =
 
 -- what the words tell
 told : (c : After-any_moved) →
-    first_beyond (listed_mean c.args.means.now) c.args.numbers c.args.lines.now c.args.in_force.now ≡ none →
+    first_beyond (listed_mean c.args.means.now) c.args.numbers c.args.lines.now c.args.in_force.now ≡ None →
     c.any_moved.result ≡ any_line_moved (listed_mean c.args.means.now) c.args.lines.now c.args.in_force.now
 told c none_beyond =
     let a = c.args in

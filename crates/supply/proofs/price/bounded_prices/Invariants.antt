@@ -1,7 +1,7 @@
 -- The invariant: no line passed is out of bounds, and the references of the lines passed are filled in. Past the last
 -- line, the words tell whether any moved, and are turned into the power prices.
 use mathlib.Core.Path.{◌≡◌}
-use mathlib.Core.Option.{none}
+use Rattle.std.specs.Prelude.{None}
 use Prim.Native.Nat.{◌-◌, ◌≤◌}
 use Rattle.numbers.specs.Bounded.{first_below, filled_below}
 use Rattle.numbers.specs.Units.{no_price}
@@ -14,7 +14,7 @@ use Rattle.supply.proofs.price.bounded_prices.Given as goal
 abbrev pub invariant-loop-j : goal.invariant-loop-j
 invariant-loop-j l =
     (l.j ≤ line_count l.lines)
-    × (first_below l.j (beyond_in (listed_mean l.means) l.numbers l.lines l.in_force) ≡ none)
+    × (first_below l.j (beyond_in (listed_mean l.means) l.numbers l.lines l.in_force) ≡ None)
     × (l.references ≡ filled_below most_lines no_price l.j (reference_price (listed_mean l.means) l.numbers l.lines l.in_force))
 
 abbrev pub decreases-loop-j : goal.decreases-loop-j
