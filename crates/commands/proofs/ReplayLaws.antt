@@ -1,49 +1,54 @@
--- Laws of the commands of a journal: a command's step, that each command reads on, and that command after command the
--- journal's ledger is reached. Assumes nothing.
+-- Laws of the commands of a journal: that each command reads on, and that command after command the journal's ledger is
+-- reached. Assumes nothing.
 use mathlib.Core.Path.{◌≡◌, refl, sym, ◌∙◌, ap}
 use mathlib.Core.Bool.{Bool, true, false, cond}
 use mathlib.Core.List.{List}
 use Prim.Native.Nat.{ℕ, zero, suc, ◌-◌, ◌+◌, ◌<◌, ◌≤◌}
 use native.Mathlib.Omega.{arith}
 use native.Mathlib.Decide.{dec_lt}
+use native.Mathlib.Nat.{lt_trans}
 use lib.ListN.{length}
 use borrow.Author.Tests.{lt-ltb, le-ltb}
+use Rattle.std.specs.Prelude.{Option, Some, None, Result, Ok, Err}
 use Rattle.numbers.specs.Checks.{verdict_of}
 use Rattle.numbers.specs.Units.{between}
-use Rattle.journal.specs.Cursor.{broken_at}
-use Rattle.journal.specs.Form.{part_count, form_after, form_parts}
+use Rattle.journal.specs.Cursor.{read_of, Reading, and_then, unreadable}
+use Rattle.journal.specs.Form.{Held, form_after}
 use Rattle.journal.specs.Command.{command_form, command_after}
-use Rattle.journal.specs.declared.cursor.Cursor.{Cursor}
-use Rattle.journal.specs.declared.command.CommandRead.{CommandRead}
-use Rattle.journal.proofs.FormLaws.{then_form}
-use Rattle.journal.proofs.CommandLaws.{command_past}
+use Rattle.journal.specs.declared.command.Command.{Command}
+use Rattle.journal.specs.declared.cursor.Unreadable.{Unreadable}
+use Rattle.journal.specs.declared.cursor.Read.{Read}
+use Rattle.journal.proofs.FormLaws.{form_later}
+use Rattle.journal.proofs.CommandLaws.{command_later}
 use Rattle.ledger.specs.Ledger.{empty_ledger, opening_checks, opening_verdict, opening_ledger}
 use Rattle.ledger.specs.declared.ledger.Ledger.{Ledger}
-use Rattle.commands.specs.Replay.{command_ledger, step_of, step_after, read_with, replay_from, longest_text, replayed}
+use Rattle.commands.specs.Replay.{command_ledger, ledger_by, ledger_of, ledger_after, read_with, broken_with, go_on}
+use Rattle.commands.specs.Replay.{replay_from, longest_text, replayed}
 use Rattle.commands.specs.declared.run.Step.{Step}
 
-abbrev pub step_by : Ledger → Cursor → Step
-step_by ledger next = record { ledger = ledger; next = next }
-
--- the step of the command that was read: one that is broken is not made, another is
-module _ (text : List ℕ) (at : ℕ) (ledger : Ledger) (read : CommandRead) (e : read ≡ command_after text at)
-    (next : Cursor) (n : next ≡ form_after part_count (command_form read.command) text read.next) where
-  pub step_broken : next.broken ≡ true → step_by ledger next ≡ step_after text at ledger
-  unfolding step_after step_of
-  step_broken b = rw (← e, ← n, b)
-
-  pub step_made : next.broken ≡ false → (after : Ledger) →
-      after ≡ command_ledger read.command (form_parts (command_form read.command) text read.next) ledger →
-      step_by after next ≡ step_after text at ledger
-  unfolding step_after step_of
-  step_made b after h = rw (← e, ← n, b, h)
-
 -- a command reads on
-step_later : (text : List ℕ) (at : ℕ) → at < length text → (ledger : Ledger) →
-    (step_after text at ledger).next.broken ≡ false → at < (step_after text at ledger).next.at
-unfolding step_after step_of
-step_later text at p ledger h =
-    omega (arith, (then_form (command_past text at p) (command_form (command_after text at).command) part_count).later h)
+module _ (text : List ℕ) (at : ℕ) (p : at < length text) (ledger : Ledger) where
+  made_later : (command : Read Command) → at < command.next → (form : Reading (List Held)) →
+      form ≡ form_after (command_form command.value) text command.next → (read : Read Ledger) →
+      ledger_by command.value ledger form ≡ Ok read → at < read.next
+  made_later command h (Ok parts) e read r =
+      let later : command.next ≤ parts.next = form_later (command_form command.value) text command.next parts (sym e) in
+      let same : read_of (command_ledger command.value parts.value ledger) parts.next ≡ read = cc in
+      omega (arith, h, later, ap (λ (q : Read Ledger). q.next) same)
+  made_later command h (Err broken) e read r = absurd (let z : ◌≡◌ {A = ℕ} 0 1 = cc in omega arith)
+
+  after_later : (found : Result (Option (Read Command)) Unreadable) → found ≡ command_after text at →
+      (read : Read Ledger) → and_then found (ledger_of text ledger) ≡ Ok read → at < read.next
+  after_later (Ok None) e read r =
+      let same : read_of ledger (length text) ≡ read = cc in
+      omega (arith, p, ap (λ (q : Read Ledger). q.next) same)
+  after_later (Ok (Some command)) e read r =
+      made_later command (command_later text at p command (sym e)) _ refl read r
+  after_later (Err broken) e read r = absurd (let z : ◌≡◌ {A = ℕ} 0 1 = cc in omega arith)
+
+  pub ledger_later : (read : Read Ledger) → ledger_after text at ledger ≡ Ok read → at < read.next
+  unfolding ledger_after
+  ledger_later read r = after_later _ refl read r
 
 -- past the text no command is made
 pub replay_none : (left : ℕ) (text : List ℕ) (at : ℕ) (ledger : Ledger) → length text ≤ at →
@@ -57,20 +62,16 @@ module _ (k m : ℕ) (text : List ℕ)
     (same : (at : ℕ) (ledger : Ledger) → length text - at ≤ k → length text - at ≤ m → replay_from k text at
     ledger ≡ replay_from m text at ledger) (at : ℕ) (ledger : Ledger) (p : length text - at ≤ suc k)
     (q : length text - at ≤ suc m) where
-  abbrev step : Step
-  step = step_after text at ledger
-
-  by : (b : Bool) → at < length text → step.next.broken ≡ b →
-      cond b step (replay_from k text step.next.at step.ledger) ≡ cond b step
-      (replay_from m text step.next.at step.ledger)
-  by true h e = refl
-  by false h e =
-      same step.next.at step.ledger (omega (arith, step_later text at h ledger e))
-      (omega (arith, step_later text at h ledger e))
+  by : at < length text → (found : Reading Ledger) → found ≡ ledger_after text at ledger →
+      go_on ledger found (replay_from k text) ≡ go_on ledger found (replay_from m text)
+  by h (Ok read) e =
+      let later : at < read.next = ledger_later text at h ledger read (sym e) in
+      same read.next read.value (omega arith) (omega arith)
+  by h (Err broken) e = refl
 
   one_more : Dec (at < length text) → replay_from (suc k) text at ledger ≡ replay_from (suc m) text at ledger
   unfolding replay_from
-  one_more (yes h) = rw (lt-ltb at (length text) h) (by step.next.broken h refl)
+  one_more (yes h) = rw (lt-ltb at (length text) h) (by h _ refl)
   one_more (no h) = rw (le-ltb at (length text) (omega arith))
 
 enough : (k m : ℕ) (text : List ℕ) (at : ℕ) (ledger : Ledger) → length text - at ≤ k → length text - at ≤ m →
@@ -83,27 +84,23 @@ enough (suc k) (suc m) text at ledger p q =
     one_more k m text (λ a b r s. enough k m text a b r s) at ledger p q (dec_lt at (length text))
 
 -- one command on: the journal's ledger is that of the rest, or, where the command is broken, the ledger at hand
-module _ (text : List ℕ) (at : ℕ) (p : at < length text) (ledger : Ledger) (step : Step)
-    (e : step ≡ step_after text at ledger) where
+module _ (text : List ℕ) (at : ℕ) (p : at < length text) (ledger : Ledger) where
   unrolled : replay_from (length text - at) text at ledger ≡ replay_from (suc (length text - (at + 1))) text at ledger
   unrolled = ap (λ k. replay_from k text at ledger) (omega arith)
 
-  pub next_later : step.next.broken ≡ false → at < step.next.at
-  next_later = rw e (step_later text at p ledger)
-
-  pub replay_broken : step.next.broken ≡ true → replay_from (length text - at) text at ledger ≡ step
+  pub replay_broken : (broken : Unreadable) → Err broken ≡ ledger_after text at ledger →
+      replay_from (length text - at) text at ledger ≡ record { ledger = ledger; next = Err broken }
   unfolding replay_from
-  replay_broken b = unrolled ∙ rw (lt-ltb at (length text) p, ← e, b)
+  replay_broken broken e = unrolled ∙ rw (lt-ltb at (length text) p, ← e)
 
-  pub replay_on : step.next.broken ≡ false →
-      replay_from (length text - at) text at ledger ≡ replay_from (length text - step.next.at) text step.next.at
-      step.ledger
+  pub replay_on : (read : Read Ledger) → Ok read ≡ ledger_after text at ledger →
+      replay_from (length text - at) text at ledger ≡ replay_from (length text - read.next) text read.next read.value
   unfolding replay_from
-  replay_on b =
-      let later : at < step.next.at = next_later b in
+  replay_on read e =
+      let later : at < read.next = ledger_later text at p ledger read (sym e) in
       unrolled
-      ∙ rw (lt-ltb at (length text) p, ← e, b)
-      (enough (length text - (at + 1)) (length text - step.next.at) text step.next.at step.ledger (omega arith)
+      ∙ rw (lt-ltb at (length text) p, ← e)
+      (enough (length text - (at + 1)) (length text - read.next) text read.next read.value (omega arith)
       (omega arith))
 
 -- before any command the ledger is the all-zero one
@@ -117,7 +114,7 @@ pub short : (text : List ℕ) → length text ≤ longest_text → {step : Step}
 unfolding replayed
 short text p e = rw (le-ltb longest_text (length text) p) e
 
-pub long : (text : List ℕ) → longest_text < length text → (ledger : Ledger) (next : Cursor) → ledger ≡ empty_ledger 0 →
-    next ≡ broken_at longest_text → step_by ledger next ≡ replayed text
+pub long : (text : List ℕ) → longest_text < length text → (ledger : Ledger) → ledger ≡ empty_ledger 0 →
+    broken_with ledger longest_text ≡ replayed text
 unfolding replayed
-long text p ledger next h k = rw (lt-ltb longest_text (length text) p, h, k)
+long text p ledger h = rw (lt-ltb longest_text (length text) p, h)

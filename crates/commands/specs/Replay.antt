@@ -12,13 +12,14 @@ use Rattle.sheet.specs.Write.{write_verdict, used_bytes, written_buffer}
 use Rattle.text.specs.Text.{bytes}
 use Rattle.text.specs.Buffer.{buffer_of, written}
 use Rattle.text.specs.Line.{line_text}
-use Rattle.journal.specs.Cursor.{read_to, broken_at}
-use Rattle.journal.specs.Form.{Held, held_in, part_count, form_after, form_parts, form_text}
+use Rattle.journal.specs.Cursor.{unreadable, read_of, Reading, and_then}
+use Rattle.journal.specs.Form.{Held, held_in, form_after, form_text}
 use Rattle.journal.specs.Command.{load_form, command_form, command_after}
-use Rattle.journal.specs.declared.cursor.Cursor.{Cursor}
+use Rattle.journal.specs.declared.cursor.Unreadable.{Unreadable}
+use Rattle.journal.specs.declared.cursor.Read.{Read}
 use Rattle.journal.specs.declared.command.Command.{Command}
 use Rattle.journal.specs.declared.command.Command.TheVariants.{Open, Fix, Settle, Save, Load, Interim, Join}
-use Rattle.journal.specs.declared.command.Command.TheVariants.{ReadSheet, WriteSheet, Unknown, End}
+use Rattle.journal.specs.declared.command.Command.TheVariants.{ReadSheet, WriteSheet}
 use Rattle.ledger.specs.Ledger.{empty_ledger, opening_verdict, opening_ledger}
 use Rattle.ledger.specs.Fix.{FixingCall, fixing_call_of, fixing_answer, fixing_answered}
 use Rattle.ledger.specs.Fix.{fixing_ledger, fixing_list, fixing_power_list}
@@ -28,8 +29,6 @@ use Rattle.ledger.specs.declared.ledger.Ledger.{Ledger}
 use Rattle.store.specs.Store.{ledger_parts, loaded_ledger}
 use Rattle.answers.specs.Answer.{outcome_line, used_line, fixing_line, unwritten_word, unwritten_byte}
 use Rattle.answers.specs.Answer.{settled_text, fixed_text, sheet_read_text, sheet_written_text}
-use Rattle.commands.specs.declared.answer.Made.{Made}
-use Rattle.commands.specs.declared.run.CommandOutcome.{CommandOutcome}
 use Rattle.commands.specs.declared.run.Step.{Step}
 
 -- a lent list: "it is lent with every word -1"
@@ -135,8 +134,6 @@ command_ledger Interim parts ledger = fixing_ledger ledger (fixing_call true par
 command_ledger Join parts ledger = join_ledger ledger
 command_ledger ReadSheet parts ledger = ledger
 command_ledger WriteSheet parts ledger = ledger
-command_ledger Unknown parts ledger = ledger
-command_ledger End parts ledger = ledger
 
 -- what it answers
 abbrev pub command_answer : Command → List Held → Ledger → List ℕ
@@ -149,47 +146,58 @@ command_answer Interim parts ledger = fixing_text ledger (fixing_call true parts
 command_answer Join parts ledger = joining_text ledger
 command_answer ReadSheet parts ledger = sheet_reading_text parts
 command_answer WriteSheet parts ledger = sheet_writing_text parts
-command_answer Unknown parts ledger = []
-command_answer End parts ledger = []
 
 -- the words of the longest lists that a command has
 abbrev pub word_room : ℕ
 word_room = 32768
 
--- a command from after its word: "the broken command is not made"
-unfoldable pub step_of : Command → List ℕ → Cursor → Ledger → Step
-step_of command text cursor ledger =
-    let form = command_form command in
-    let next = form_after part_count form text cursor in
-    record {
-      ledger = cond next.broken ledger (command_ledger command (form_parts form text cursor) ledger);
-      next = next;
-    }
+-- the ledger after a command whose parts were read: "the broken command is not made"
+abbrev pub ledger_by : Command → Ledger → Reading (List Held) → Reading Ledger
+ledger_by command ledger (Ok form) = Ok (read_of (command_ledger command form.value ledger) form.next)
+ledger_by command ledger (Err broken) = Err broken
 
-unfoldable pub answer_of : Command → List ℕ → Cursor → Ledger → List ℕ
-answer_of command text cursor ledger =
-    let form = command_form command in
-    cond (form_after part_count form text cursor).broken []
-    (command_answer command (form_parts form text cursor) ledger)
+-- a command from its word on, or none where no token is left
+abbrev pub ledger_of : List ℕ → Ledger → Option (Read Command) → Reading Ledger
+ledger_of text ledger None = Ok (read_of ledger (length text))
+ledger_of text ledger (Some read) =
+    ledger_by read.value ledger (form_after (command_form read.value) text read.next)
 
--- the command that stands next
-unfoldable pub step_after : List ℕ → ℕ → Ledger → Step
-step_after text at ledger = let read = command_after text at in step_of read.command text read.next ledger
+-- the command that stands next: the ledger after it
+unfoldable pub ledger_after : List ℕ → ℕ → Ledger → Reading Ledger
+ledger_after text at ledger = and_then (command_after text at) (ledger_of text ledger)
+
+-- and its answer: none where it is broken
+abbrev pub answer_by : Command → Ledger → Reading (List Held) → List ℕ
+answer_by command ledger (Ok form) = command_answer command form.value ledger
+answer_by command ledger (Err broken) = []
+
+abbrev pub answer_of : List ℕ → Ledger → Result (Option (Read Command)) Unreadable → List ℕ
+answer_of text ledger (Ok None) = []
+answer_of text ledger (Ok (Some read)) =
+    answer_by read.value ledger (form_after (command_form read.value) text read.next)
+answer_of text ledger (Err broken) = []
 
 unfoldable pub answer_after : List ℕ → ℕ → Ledger → List ℕ
-answer_after text at ledger = let read = command_after text at in answer_of read.command text read.next ledger
+answer_after text at ledger = answer_of text ledger (command_after text at)
 
 -- the text is read up to a place, with a ledger
 abbrev pub read_with : Ledger → ℕ → Step
-read_with ledger at = record { ledger = ledger; next = read_to at }
+read_with ledger at = record { ledger = ledger; next = Ok at }
+
+-- the text cannot be read at a byte
+abbrev pub broken_with : Ledger → ℕ → Step
+broken_with ledger at = record { ledger = ledger; next = Err (unreadable at) }
+
+-- on with the rest after a command; where that is broken, the ledger stays as it was
+abbrev pub go_on : Ledger → Reading Ledger → (ℕ → Ledger → Step) → Step
+go_on ledger (Ok read) rest = rest read.next read.value
+go_on ledger (Err broken) rest = record { ledger = ledger; next = Err broken }
 
 -- command after command from a place on, among so many at most, until one is broken or the text ends
 unfoldable pub replay_from : ℕ → List ℕ → ℕ → Ledger → Step
 replay_from zero text at ledger = read_with ledger at
 replay_from (suc left) text at ledger =
-    let step = step_after text at ledger in
-    cond (ltb at (length text))
-    (cond step.next.broken step (replay_from left text step.next.at step.ledger))
+    cond (ltb at (length text)) (go_on ledger (ledger_after text at ledger) (replay_from left text))
     (read_with ledger at)
 
 -- "more than 524,288 bytes" cannot be read
@@ -200,21 +208,9 @@ longest_text = 524288
 -- all-zero one"; "a text too long prints that line alone, with B 524288"
 unfoldable pub replayed : List ℕ → Step
 replayed text =
-    cond (ltb longest_text (length text))
-    (record { ledger = empty_ledger 0; next = broken_at longest_text })
+    cond (ltb longest_text (length text)) (broken_with (empty_ledger 0) longest_text)
     (replay_from (length text) text 0 (empty_ledger 0))
 
--- the size of the buffer for an answer: none is longer
+-- the most bytes of an answer: none is longer
 abbrev pub longest_answer : ℕ
 longest_answer = 262144
-
--- a command that was made: the ledger after it, and its answer in the buffer
-pub record CommandMade (made : Made) (ledger : Ledger) (answer found left : List ℕ) : Type 0 where
-  pub booked : made.ledger ≡ ledger
-  pub answered : buffer_of left made.count ≡ written answer (buffer_of found 0)
-
--- a command's answer as it is printed: the first bytes of the buffer
-pub record CommandAnswered (made : CommandOutcome) (step : Step) (answer left : List ℕ) : Type 0 where
-  pub stepped : made.step ≡ step
-  pub within : made.count ≤ length left
-  pub printed : take made.count left ≡ answer

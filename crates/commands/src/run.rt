@@ -1,19 +1,20 @@
 // Command after command of a journal. What cannot be read is told by its byte, and the broken command is not made.
-ghost use Rattle.std.specs.Prelude.{◌≡◌, ◌≤◌, length};
+ghost use Rattle.std.specs.Prelude.{◌≡◌, ◌≤◌, length, [], replicate};
+ghost use Rattle.text.specs.Buffer.{written};
 ghost use Rattle.journal.specs.Form.{FormHeld, parts_in};
 ghost use Rattle.journal.specs.Command.{command_form};
-ghost use Rattle.commands.specs.Replay.{word_room, command_ledger, command_answer, step_after, answer_after, replayed};
-ghost use Rattle.commands.specs.Replay.{longest_answer, longest_text, CommandMade, CommandAnswered};
+ghost use Rattle.commands.specs.Replay.{word_room, command_ledger, command_answer, ledger_after, answer_after};
+ghost use Rattle.commands.specs.Replay.{longest_answer, longest_text, replayed};
 
-use crate::answer::{Made, run_fixing, run_join, run_load, run_open, run_save, run_settle};
+use crate::answer::{run_fixing, run_join, run_load, run_open, run_save, run_settle};
 use crate::sheets::{run_read_sheet, run_write_sheet};
-use answers::line::error_line;
+use answers::line::write_error;
 use journal::command::{Command, form_of, next_command};
-use journal::cursor::{Cursor, broken_at, read_to};
+use journal::cursor::{Read, Unreadable};
 use journal::form::{Parts, read_form};
 use ledger::ledger::Ledger;
 use ledger::open::open;
-use text::line::write_line;
+use text::buffer::Text;
 
 // The file descriptor of standard output.
 const STDOUT_FILENO: i32 = 1;
@@ -21,99 +22,86 @@ const STDOUT_FILENO: i32 = 1;
 // The longest journal, in bytes.
 const LONGEST_TEXT: usize = 524288;
 
-// The ledger after a command, and how far the text is read.
+// The most bytes of an answer.
+pub(crate) const LONGEST_ANSWER: usize = 262144;
+
+// The ledger after a journal, and how far its text was read.
 #[derive(Clone, Copy)]
 pub struct Step {
     pub ledger: Ledger,
-    pub next: Cursor,
+    pub next: Result<usize, Unreadable>,
 }
 
-// A command's step, and how many bytes its answer has.
-#[derive(Clone, Copy)]
-struct CommandOutcome {
-    pub step: Step,
-    pub count: usize,
-}
-
-// Lists of the longest lengths, from functions so that no goal writes their words out.
+// Room for the words of a command, from a function so that no goal writes them out.
 fn word_buffer() -> [u64; 32768]
     ensures { length result ≡ word_room }
 {
     [0; 32768]
 }
 
-fn answer_buffer() -> [u8; 262144]
-    ensures { length result ≡ longest_answer }
-{
-    [0; 262144]
-}
-
-// Makes a command of its parts.
+// Makes a command of its parts and answers it: the ledger after it.
 fn make_command(
     command: Command,
-    parts: Parts,
+    parts: &Parts,
     ledger: Ledger,
     words: &[u64],
-    buffer: &mut [u8],
-) -> Made
-    requires { FormHeld (command_form command) parts (length words.now) }
-    ensures { CommandMade result (command_ledger command (parts_in parts words.now) ledger)
-        (command_answer command (parts_in parts words.now) ledger) buffer.old
-        buffer.new }
+    answer: &mut Text<LONGEST_ANSWER>,
+) -> Ledger
+    requires { FormHeld (command_form command) parts.now (length words.now) }
+    ensures booked { result ≡ command_ledger command (parts_in parts.now words.now) ledger }
+    ensures answered { answer.new ≡ written longest_answer
+        (command_answer command (parts_in parts.now words.now) ledger) answer.old }
 {
-    let numbers = parts.numbers;
     match command {
-        Command::End => Made { ledger, count: 0 },
-        Command::Unknown => Made { ledger, count: 0 },
-        Command::Open => run_open(numbers[0] as usize, buffer),
-        Command::Save => run_save(ledger, buffer),
-        Command::Load => run_load(parts, words, buffer),
-        Command::Fix => run_fixing(false, parts, ledger, words, buffer),
-        Command::Settle => run_settle(parts, ledger, words, buffer),
-        Command::Interim => run_fixing(true, parts, ledger, words, buffer),
-        Command::Join => run_join(ledger, buffer),
+        Command::Open => run_open(parts, answer),
+        Command::Save => run_save(ledger, answer),
+        Command::Load => run_load(parts, words, answer),
+        Command::Fix => run_fixing(false, parts, ledger, words, answer),
+        Command::Settle => run_settle(parts, ledger, words, answer),
+        Command::Interim => run_fixing(true, parts, ledger, words, answer),
+        Command::Join => run_join(ledger, answer),
         Command::ReadSheet => {
-            let count = run_read_sheet(parts, words, buffer);
-            Made { ledger, count }
+            run_read_sheet(parts, words, answer);
+            ledger
         }
         Command::WriteSheet => {
-            let count = run_write_sheet(parts, words, buffer);
-            Made { ledger, count }
+            run_write_sheet(parts, words, answer);
+            ledger
         }
     }
 }
 
-// One command, from its word on, and its answer as the first bytes of the buffer.
-fn run_command(text: &[u8], at: usize, ledger: Ledger, buffer: &mut [u8]) -> CommandOutcome
-    requires { length buffer.old ≡ longest_answer }
-    ensures { CommandAnswered result (step_after text.now at ledger)
-        (answer_after text.now at ledger) buffer.new }
+// The command that stands next: the ledger after it, and its answer. Where no token is left the ledger stays as it was.
+fn run_command(
+    text: &[u8],
+    at: usize,
+    ledger: Ledger,
+    answer: &mut Text<LONGEST_ANSWER>,
+) -> Result<Read<Ledger>, Unreadable>
+    requires { answer.old ≡ [] }
+    ensures booked { result ≡ ledger_after text.now at ledger }
+    ensures answered { answer.new ≡ answer_after text.now at ledger }
 {
+    let Some(command) = next_command(text, at)? else {
+        return Ok(Read {
+            value: ledger,
+            next: text.len(),
+        });
+    };
     let mut words = word_buffer();
-    let read = next_command(text, at);
-    let command = read.command;
-    let form = form_of(command);
-    let held = read_form(text, read.next, form, &mut words);
-    let next = held.next;
-    if next.broken {
-        let step = Step { ledger, next };
-        return CommandOutcome { step, count: 0 };
-    }
-    let parts = held.parts;
-    let made = make_command(command, parts, ledger, &words, buffer);
-    let ledger = made.ledger;
-    let step = Step { ledger, next };
-    CommandOutcome {
-        step,
-        count: made.count,
-    }
+    let form = read_form(text, command.next, form_of(command.value), &mut words)?;
+    let after = make_command(command.value, &form.value, ledger, &words, answer);
+    Ok(Read {
+        value: after,
+        next: form.next,
+    })
 }
 
 // Writes where the text cannot be read.
-fn print_error(next: Cursor) {
-    let mut buffer = io::buffer();
-    let count = write_line(&mut buffer, 0, error_line(next.at));
-    io::write_all(STDOUT_FILENO, &buffer[..count]);
+fn print_error(broken: Unreadable) {
+    let mut line = Text::<64>::new();
+    write_error(&mut line, broken.0);
+    io::write_all(STDOUT_FILENO, line.as_bytes());
 }
 
 // Makes the commands of a text that is not too long, in their order, and prints their answers.
@@ -121,23 +109,29 @@ fn run_commands(text: &[u8]) -> Step
     requires { length text.now ≤ longest_text }
     ensures { result ≡ replayed text.now }
 {
-    let mut buffer = answer_buffer();
+    let mut answer = Text::new();
     let mut ledger = open(0).ledger;
     let mut at: usize = 0;
     while at < text.len() {
-        let answered = run_command(text, at, ledger, &mut buffer);
-        let count = answered.count;
-        io::write_all(STDOUT_FILENO, &buffer[..count]);
-        let step = answered.step;
-        let next = step.next;
-        if next.broken {
-            return step;
+        answer.clear();
+        match run_command(text, at, ledger, &mut answer) {
+            Ok(after) => {
+                io::write_all(STDOUT_FILENO, answer.as_bytes());
+                ledger = after.value;
+                at = after.next;
+            }
+            Err(broken) => {
+                return Step {
+                    ledger,
+                    next: Err(broken),
+                };
+            }
         }
-        ledger = step.ledger;
-        at = next.at;
     }
-    let next = read_to(at);
-    Step { ledger, next }
+    Step {
+        ledger,
+        next: Ok(at),
+    }
 }
 
 // Makes the commands of a journal, in their order, and prints their answers, and a line where it cannot be read: the
@@ -146,15 +140,15 @@ pub fn replay(text: &[u8]) -> Step
     ensures { result ≡ replayed text.now }
 {
     let step = if text.len() > LONGEST_TEXT {
-        let ledger = open(0).ledger;
-        let next = broken_at(LONGEST_TEXT);
-        Step { ledger, next }
+        Step {
+            ledger: open(0).ledger,
+            next: Err(Unreadable(LONGEST_TEXT)),
+        }
     } else {
         run_commands(text)
     };
-    let next = step.next;
-    if next.broken {
-        print_error(next);
+    if let Err(broken) = step.next {
+        print_error(broken);
     }
     step
 }
