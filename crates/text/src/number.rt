@@ -41,10 +41,11 @@ impl Decimal for i64 {
     ghost shown = { integer };
 
     fn decimal(self) -> Text<DIGITS> {
-        let mut text = Text::new();
-        if self < 0 {
-            text.push(b'-');
+        if self >= 0 {
+            return self.unsigned_abs().decimal();
         }
+        let mut text = Text::new();
+        text.push(b'-');
         write_decimal(&mut text, self.unsigned_abs());
         text
     }
