@@ -1,5 +1,5 @@
 // Numbers as text.
-ghost use Rattle.std.specs.Prelude.{◌≡◌, ℕ, List, ◌∷◌};
+ghost use Rattle.std.specs.Prelude.{◌≡◌, ℕ, List, ◌∷◌, ◌++◌};
 ghost use Rattle.text.specs.Text.{blank, decimal, integer, words_text};
 ghost use Rattle.text.specs.Buffer.{written};
 
@@ -72,6 +72,14 @@ pub fn write_word<const SIZE: usize, N: Decimal>(text: &mut Text<SIZE>, x: N)
 {
     text.push(b' ');
     write_decimal(text, x);
+}
+
+// Writes a name, and a number after a blank.
+pub fn write_item<const SIZE: usize, N: Decimal>(text: &mut Text<SIZE>, name: &[u8], x: N)
+    ensures { text.new ≡ written SIZE (name.now ++ blank ∷ N.shown x) text.old }
+{
+    text.push_all(name);
+    write_word(text, x);
 }
 
 // Writes numbers, each after a blank.
