@@ -1,5 +1,6 @@
 -- Names and numbers as text, byte by byte. Assumes nothing.
 use Rattle.std.specs.Prelude.{Bool, cond, List, [], ◌∷◌, ◌++◌, ℕ, zero, suc, ◌+◌, ◌-◌, ◌/◌, ◌%◌, ◌^◌, ltb, eqb, length, get_or, take, ℤ, pos, negsuc}
+use Rattle.std.specs.List.{flat_map}
 use Prim.Native.Char.{code}
 use Prim.Native.String.{String}
 use Prim.Native.String.{[] as String·[], ◌∷◌ as ◌String·∷◌}
@@ -42,8 +43,7 @@ integer (negsuc n) = minus ∷ decimal (suc n)
 
 -- numbers, each after a blank, by how one is shown
 unfoldable pub words_text : {A : Type 0} → (A → List ℕ) → List A → List ℕ
-words_text shown [] = []
-words_text shown (x ∷ rest) = blank ∷ shown x ++ words_text shown rest
+words_text shown numbers = flat_map (λ x. blank ∷ shown x) numbers
 
 -- a number after a blank
 unfoldable pub word : ℕ → List ℕ

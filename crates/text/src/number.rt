@@ -1,5 +1,5 @@
 // Numbers as text.
-ghost use Rattle.std.specs.Prelude.{◌≡◌, ℕ, List, ◌∷◌};
+ghost use Rattle.std.specs.Prelude.{◌≡◌, ℕ, List, ◌∷◌, ◌++◌};
 ghost use Rattle.text.specs.Text.{blank, decimal, integer, words_text};
 ghost use Rattle.text.specs.Buffer.{written};
 
@@ -41,10 +41,11 @@ impl Decimal for i64 {
     ghost shown = { integer };
 
     fn decimal(self) -> Text<DIGITS> {
-        let mut text = Text::new();
-        if self < 0 {
-            text.push(b'-');
+        if self >= 0 {
+            return self.unsigned_abs().decimal();
         }
+        let mut text = Text::new();
+        text.push(b'-');
         write_decimal(&mut text, self.unsigned_abs());
         text
     }
@@ -71,6 +72,14 @@ pub fn write_word<const SIZE: usize, N: Decimal>(text: &mut Text<SIZE>, x: N)
 {
     text.push(b' ');
     write_decimal(text, x);
+}
+
+// Writes a name, and a number after a blank.
+pub fn write_item<const SIZE: usize, N: Decimal>(text: &mut Text<SIZE>, name: &[u8], x: N)
+    ensures { text.new ≡ written SIZE (name.now ++ blank ∷ N.shown x) text.old }
+{
+    text.push_all(name);
+    write_word(text, x);
 }
 
 // Writes numbers, each after a blank.

@@ -1,12 +1,20 @@
 // Rows: a row has its number, then its numbers of a list, and its number of a column where the column has one.
 ghost use Rattle.std.specs.Prelude.{◌≡◌, ◌<◌};
 ghost use Rattle.text.specs.Buffer.{written};
-ghost use Rattle.text.specs.Row.{row_text, rows_text, numbers_line};
+ghost use Rattle.text.specs.Row.{column_text, row_text, rows_text, numbers_line};
 
 use crate::buffer::Text;
 use crate::number::{Decimal, write_decimal, write_word, write_words};
 use numbers::sizes::MOST_DISTRIBUTORS;
-use std::cmp::min;
+
+// Writes a column's number in a row, where it has one.
+fn write_column<const SIZE: usize, C: Decimal>(text: &mut Text<SIZE>, i: usize, column: &[C])
+    ensures { text.new ≡ written SIZE (column_text C.shown column.now i) text.old }
+{
+    if let Some(number) = column.get(i) {
+        write_word(text, *number);
+    }
+}
 
 // Writes a row.
 fn write_row<const SIZE: usize, N: Decimal, C: Decimal>(
@@ -19,9 +27,7 @@ fn write_row<const SIZE: usize, N: Decimal, C: Decimal>(
 {
     write_decimal(text, i as u64);
     write_words(text, numbers);
-    if let Some(number) = column.get(i) {
-        write_word(text, *number);
-    }
+    write_column(text, i, column);
     text.push(b'\n');
 }
 
@@ -36,7 +42,7 @@ pub fn write_rows<const SIZE: usize, N: Decimal, C: Decimal>(
     ensures { text.new ≡ written SIZE
         (rows_text N.shown C.shown list.now width column.now) text.old }
 {
-    for i in 0..min(list.len() / width, MOST_DISTRIBUTORS) {
+    for i in 0..(list.len() / width).min(MOST_DISTRIBUTORS) {
         let from = i * width;
         write_row(text, i, &list[from..from + width], column);
     }
