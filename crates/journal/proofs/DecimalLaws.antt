@@ -7,14 +7,14 @@ use native.Mathlib.Nat.{zero-add, add-zero, pow-suc}
 use native.Mathlib.Omega.{arith}
 use native.Mathlib.Decide.{dec_lt}
 use lib.Dec.{ltb}
-use lib.ListN.{length, drop, length-append, get_or-append}
+use lib.ListN.{length, take, length-append, get_or-append}
 use lib.Seq.{get_or-append_seam}
 use borrow.Author.Tests.{le-leb, lt-ltb, le-ltb, eq-eqb, ne_eqb}
 use Rattle.numbers.proofs.BoolLaws.{by_last}
 use Rattle.text.specs.Text.{digit, minus, decimal_within, decimal, signed_decimal}
 use Rattle.journal.specs.Token.{byte_at, ends_token}
 use Rattle.journal.specs.Number.{is_digit, digit_taken, digits_read, number_in, is_minus, signed_in, reading_in}
-use Rattle.std.specs.Prelude.{Some, option_and_then}
+use Rattle.std.specs.Prelude.{Some, option_and_then, bytes_eq}
 use Rattle.journal.proofs.NumberLaws.{digit_least}
 use Rattle.journal.proofs.SignedLaws.{word_below}
 use Rattle.journal.proofs.TextLaws.{byte_first, byte_of, one_after, Plain}
@@ -109,13 +109,15 @@ digits_plain token x t = record { some = t.some; plain = λ i p. digit_plain (by
 module _ (token : List ℕ) (x : ℕ) (t : Digits token x) where
   pub number_in_lem : number_in token ≡ Some x
   unfolding number_in
-  number_in_lem = rw (lt-ltb 0 (length token) t.some) t.read
+  number_in_lem = rw (ne_eqb (length token) 0 (λ q. omega (arith, t.some))) t.read
 
   not_minus : is_minus token ≡ false
   unfolding is_minus
-  not_minus =
-      let least : 48 ≤ byte_at token 0 = digit_least (byte_at token 0) (t.each 0 t.some) in
-      rw (ne_eqb (byte_at token 0) 45 (λ q. omega arith), and-false (ltb 0 (length token)))
+  not_minus = go token (digit_least (byte_at token 0) (t.each 0 t.some))
+    where
+      go : (bytes : List ℕ) → 48 ≤ byte_at bytes 0 → bytes_eq (take 1 bytes) (minus ∷ []) ≡ false
+      go [] least = refl
+      go (byte ∷ bytes) least = rw (ne_eqb byte minus (λ q. omega arith)) refl
 
   above_in : x < 2 ^ 63 → signed_in token ≡ Some x
   unfolding signed_in
@@ -124,7 +126,7 @@ module _ (token : List ℕ) (x : ℕ) (t : Digits token x) where
   -- and with a minus in front as the word of the number below zero
   is_minus_lem : is_minus (minus ∷ token) ≡ true
   unfolding is_minus
-  is_minus_lem = rw (lt-ltb 0 (suc (length token)) (omega arith)) refl
+  is_minus_lem = refl
 
   below_in : 0 < x → x ≤ 2 ^ 63 → signed_in (minus ∷ token) ≡ Some (2 ^ 64 - 1 - (x - 1))
   unfolding signed_in

@@ -1,8 +1,9 @@
 -- The number that a token's digits write. Assumes nothing.
-use Rattle.std.specs.Prelude.{Bool, cond, ◌&&◌, List, ℕ, zero, suc, ◌+◌, ◌*◌, ◌-◌, ◌^◌, leb, ltb, eqb, length, drop}
-use Rattle.std.specs.Prelude.{Option, Some, None, option_and_then}
+use Rattle.std.specs.Prelude.{Bool, cond, ◌&&◌, List, [], ◌∷◌, ℕ, zero, suc, ◌+◌, ◌*◌, ◌-◌, ◌^◌, leb, ltb, eqb, length, take, drop}
+use Rattle.std.specs.Prelude.{Option, Some, None, option_and_then, bytes_eq}
 use Rattle.std.proofs.Math.IntN.{sub_ℕ}
 use Rattle.numbers.specs.Signed.{word_of}
+use Rattle.text.specs.Text.{minus}
 use Rattle.journal.specs.Token.{byte_at}
 
 abbrev pub is_digit : ℕ → Bool
@@ -20,11 +21,11 @@ digits_read (suc k) bytes = option_and_then (digit_taken (byte_at bytes k)) (dig
 
 -- the number of the bytes, which are some
 unfoldable pub number_in : List ℕ → Option ℕ
-number_in bytes = cond (ltb 0 (length bytes)) (digits_read (length bytes) bytes) None
+number_in bytes = cond (eqb (length bytes) 0) None (digits_read (length bytes) bytes)
 
 -- "with `-` in front where it is signed"
 unfoldable pub is_minus : List ℕ → Bool
-is_minus bytes = ltb 0 (length bytes) && eqb (byte_at bytes 0) 45
+is_minus bytes = bytes_eq (take 1 bytes) (minus ∷ [])
 
 -- a signed number fits 64 bits with its sign, and is read as the word that holds it
 abbrev pub above_zero : ℕ → Option ℕ

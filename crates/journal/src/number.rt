@@ -48,10 +48,10 @@ fn below_zero(size: u64) -> Option<u64>
 fn read_signed(bytes: &[u8]) -> Option<u64>
     ensures { result ≡ signed_in bytes.now }
 {
-    match bytes {
-        [b'-', digits @ ..] => below_zero(read_number(digits)?),
-        _ => above_zero(read_number(bytes)?),
+    if let Some(digits) = bytes.strip_prefix(b"-") {
+        return below_zero(read_number(digits)?);
     }
+    above_zero(read_number(bytes)?)
 }
 
 // The number of the bytes, of either sign as the word of 64 bits that holds it, or without a sign.
