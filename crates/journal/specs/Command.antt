@@ -1,14 +1,13 @@
 -- The commands of a journal (docs/JOURNAL.md, "Input"): which one stands next, and the form of what follows its word.
 -- Assumes nothing.
-use Rattle.std.specs.Prelude.{Bool, true, false, cond, List, [], ◌∷◌, ℕ, eqb, length, Result, Ok, Err, Option, Some, None}
+use Rattle.std.specs.Prelude.{Bool, true, false, cond, List, [], ◌∷◌, ℕ, eqb, length, Result, Ok, Option, Some, None, option_map, bytes_eq}
+use Rattle.std.specs.List.{find}
 use Prim.Native.String.{String}
 use Rattle.numbers.specs.Sizes.{most_distributors, sector_places}
 use Rattle.text.specs.Text.{bytes, name_text}
-use Rattle.journal.specs.Token.{token_after}
-use Rattle.journal.specs.Word.{is_word}
-use Rattle.journal.specs.Cursor.{unreadable, read_of, Reading, and_then, most_word}
+use Rattle.journal.specs.Token.{token_after, bytes_of}
+use Rattle.journal.specs.Cursor.{and_then, token_read, most_word}
 use Rattle.journal.specs.Form.{part, nothing}
-use Rattle.journal.specs.declared.token.Token.{Token}
 use Rattle.journal.specs.declared.cursor.Unreadable.{Unreadable}
 use Rattle.journal.specs.declared.cursor.Read.{Read}
 use Rattle.journal.specs.declared.command.Command.{Command}
@@ -95,16 +94,13 @@ command_rows =
     ∷ row "load        " Load ∷ row "interim     " Interim ∷ row "join        " Join
     ∷ row "readsheet   " ReadSheet ∷ row "writesheet  " WriteSheet ∷ []
 
--- the first command whose name is the token; "an unknown word"
-unfoldable pub command_among : List ℕ → Token → List CommandRow → Reading Command
-command_among text token [] = Err (unreadable token.start)
-command_among text token (row ∷ rows) =
-    cond (is_word text token.start token.end (name_text row.0)) (Ok (read_of row.1 token.end))
-    (command_among text token rows)
+-- the command of a word
+unfoldable pub command_named : List ℕ → Option Command
+command_named word = option_map (λ row. row.1) (find (λ row. bytes_eq word (name_text row.0)) command_rows)
 
--- the next token's command, or none where no token is left
+-- the next token's command, or none where no token is left; "an unknown word"
 unfoldable pub command_after : List ℕ → ℕ → Result (Option (Read Command)) Unreadable
 command_after text at =
     let token = token_after text at in
     cond (eqb token.start (length text)) (Ok None)
-    (and_then (command_among text token command_rows) (λ read. Ok (Some read)))
+    (and_then (token_read token (command_named (bytes_of text token))) (λ read. Ok (Some read)))

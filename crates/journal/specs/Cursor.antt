@@ -1,8 +1,7 @@
 -- Reading on from a place in a journal: the next word or number. Assumes nothing.
 use Rattle.std.specs.Prelude.{Bool, cond, List, [], ◌∷◌, ◌++◌, ℕ, zero, suc, ◌^◌, ◌-◌, leb, Result, Ok, Err}
-use Rattle.std.specs.Prelude.{Option, Some, None}
-use Rattle.journal.specs.Token.{token_after}
-use Rattle.journal.specs.Word.{is_word}
+use Rattle.std.specs.Prelude.{Option, Some, None, bytes_eq}
+use Rattle.journal.specs.Token.{token_after, bytes_of}
 use Rattle.journal.specs.Number.{reading_in}
 use Rattle.journal.specs.declared.token.Token.{Token}
 use Rattle.journal.specs.declared.cursor.Unreadable.{Unreadable}
@@ -36,23 +35,27 @@ reads_below (suc k) readings at =
     and_then (reads_below k readings at)
     (λ before. map_read (λ last. before.value ++ (last ∷ [])) (readings k before.next))
 
+-- what a token is read as
+abbrev pub token_read : {A : Type 0} → Token → Option A → Reading A
+token_read token (Some value) = Ok (read_of value token.end)
+token_read token None = Err (unreadable token.start)
+
 -- how far the text is read with the next token, which is the given word; "where the text ends too early B is its length"
 unfoldable pub word_after : List ℕ → ℕ → List ℕ → Result ℕ Unreadable
 word_after text at word =
     let token = token_after text at in
-    cond (is_word text token.start token.end word) (Ok token.end) (Err (unreadable token.start))
+    cond (bytes_eq (bytes_of text token) word) (Ok token.end) (Err (unreadable token.start))
 
--- a token's reading as a number that is not above the most
-abbrev pub number_from : Option ℕ → ℕ → Token → Reading ℕ
-number_from (Some value) most token =
-    cond (leb value most) (Ok (read_of value token.end)) (Err (unreadable token.start))
-number_from None most token = Err (unreadable token.start)
+-- a number that is not above the most
+abbrev pub at_most : Option ℕ → ℕ → Option ℕ
+at_most (Some value) most = cond (leb value most) (Some value) None
+at_most None most = None
 
 -- the next token is a number, signed or not, that is not above the most
 unfoldable pub number_after : List ℕ → ℕ → Bool → ℕ → Reading ℕ
 number_after text at signed most =
     let token = token_after text at in
-    number_from (reading_in signed text token.start token.end) most token
+    token_read token (at_most (reading_in signed (bytes_of text token)) most)
 
 -- any number that fits 64 bits
 abbrev pub most_word : ℕ

@@ -1,13 +1,12 @@
 // The commands of a journal: which one stands next, and the form of what follows its word.
-ghost use Rattle.std.specs.Prelude.{◌≡◌, ◌≤◌, length};
-ghost use Rattle.journal.specs.Command.{load_form, command_form, command_rows, command_among, command_after};
+ghost use Rattle.std.specs.Prelude.{◌≡◌};
+ghost use Rattle.journal.specs.Command.{load_form, command_form, command_named, command_after};
 
 use crate::cursor::{Read, Unreadable};
 use crate::form::{Kind, MOST_WORD, PARTS, Part};
-use crate::token::{Token, next_token};
-use crate::word::is_name;
+use crate::token::next_token;
 use numbers::sizes::{MOST_DISTRIBUTORS, PLACES};
-use text::name::NAME;
+use text::name::{NAME, name_size};
 
 // The longest list that a call is ever lent.
 const LONGEST_LIST: u64 = 8192;
@@ -146,21 +145,18 @@ pub fn form_of(command: Command) -> &'static [Part]
     }
 }
 
-// The command of the token, or the byte of an unknown word.
-fn command_in(text: &[u8], token: Token) -> Result<Read<Command>, Unreadable>
-    requires ordered { token.start ≤ token.end }
-    requires within { token.end ≤ length text.now }
-    ensures { result ≡ command_among text.now token command_rows }
+// The command of a word.
+fn command_named(word: &[u8]) -> Option<Command>
+    ensures { result ≡ command_named word.now }
 {
     for row in &COMMANDS {
-        if is_name(text, token, row.0) {
-            return Ok(Read {
-                value: row.1,
-                next: token.end,
-            });
+        let name = row.0;
+        let size = name_size(name);
+        if word == &name[..size] {
+            return Some(row.1);
         }
     }
-    Err(Unreadable(token.start))
+    None
 }
 
 // Reads the next command's word; none where no token is left.
@@ -171,5 +167,6 @@ pub fn next_command(text: &[u8], at: usize) -> Result<Option<Read<Command>>, Unr
     if token.start == text.len() {
         return Ok(None);
     }
-    Ok(Some(command_in(text, token)?))
+    let read = token.read(command_named(token.bytes(text)))?;
+    Ok(Some(read))
 }

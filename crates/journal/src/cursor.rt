@@ -2,12 +2,11 @@
 // token starts.
 ghost use Rattle.std.specs.Prelude.{◌≡◌};
 ghost use Rattle.text.specs.Text.{name_text};
-ghost use Rattle.journal.specs.Cursor.{word_after, number_from, number_after};
+ghost use Rattle.journal.specs.Cursor.{token_read, at_most, word_after, number_after};
 
-use crate::number::read_token;
+use crate::number::read_digits;
 use crate::token::{Token, next_token};
-use crate::word::is_name;
-use text::name::NAME;
+use text::name::{NAME, name_size};
 
 // The byte where the token starts that cannot be read.
 #[derive(Clone, Copy, PartialEq, Eq)]
@@ -20,27 +19,40 @@ pub struct Read<T> {
     pub next: usize,
 }
 
+impl Token {
+    // What the token is read as.
+    pub(crate) fn read<T>(self, value: Option<T>) -> Result<Read<T>, Unreadable>
+        ensures { result ≡ token_read self value }
+    {
+        match value {
+            Some(value) => Ok(Read {
+                value,
+                next: self.end,
+            }),
+            None => Err(Unreadable(self.start)),
+        }
+    }
+}
+
 // Reads the given name: how far the text is read with it.
 pub(crate) fn next_name(text: &[u8], at: usize, name: [u8; NAME]) -> Result<usize, Unreadable>
     ensures { result ≡ word_after text.now at (name_text name) }
 {
     let token = next_token(text, at);
-    if is_name(text, token, name) {
+    let size = name_size(name);
+    if token.bytes(text) == &name[..size] {
         return Ok(token.end);
     }
     Err(Unreadable(token.start))
 }
 
-// A token's reading as a number of at most `most`.
-fn number_from(reading: Option<u64>, most: u64, token: Token) -> Result<Read<u64>, Unreadable>
-    ensures { result ≡ number_from reading most token }
+// A number that is not above the most.
+fn at_most(number: Option<u64>, most: u64) -> Option<u64>
+    ensures { result ≡ at_most number most }
 {
-    match reading {
-        Some(value) if value <= most => Ok(Read {
-            value,
-            next: token.end,
-        }),
-        _ => Err(Unreadable(token.start)),
+    match number {
+        Some(value) if value <= most => Some(value),
+        _ => None,
     }
 }
 
@@ -49,5 +61,6 @@ pub fn next_number(text: &[u8], at: usize, signed: bool, most: u64) -> Result<Re
     ensures { result ≡ number_after text.now at signed most }
 {
     let token = next_token(text, at);
-    number_from(read_token(text, token, signed), most, token)
+    let number = read_digits(token.bytes(text), signed);
+    token.read(at_most(number, most))
 }

@@ -1,12 +1,23 @@
 // Where a journal's tokens start and end.
 ghost use Rattle.std.specs.Prelude.{◌≡◌, ◌≤◌, length};
-ghost use Rattle.journal.specs.Token.{ends_token, comment_after, token_start, token_end, token_after};
+ghost use Rattle.journal.specs.Token.{bytes_of, ends_token, comment_after, token_start, token_end, token_after};
 
 // A token's place: its first byte, and the byte after its last.
 #[derive(Clone, Copy)]
 pub(crate) struct Token {
     pub start: usize,
     pub end: usize,
+}
+
+impl Token {
+    // The bytes of the token.
+    pub(crate) fn bytes<'a>(self, text: &'a [u8]) -> &'a [u8]
+        requires ordered { self.start ≤ self.end }
+        requires within { self.end ≤ length text.now }
+        ensures { result.now ≡ bytes_of text.now self }
+    {
+        &text[self.start..self.end]
+    }
 }
 
 // Whether a byte ends a token: a blank, or a comment's first.
@@ -54,7 +65,9 @@ fn token_end(text: &[u8], start: usize) -> usize
 
 // The next token from a place on; at the text's end where there is none.
 pub(crate) fn next_token(text: &[u8], from: usize) -> Token
-    ensures { result ≡ token_after text.now from }
+    ensures value { result ≡ token_after text.now from }
+    ensures ordered { result.start ≤ result.end }
+    ensures within { result.end ≤ length text.now }
 {
     let start = token_start(text, from.min(text.len()));
     let end = token_end(text, start);

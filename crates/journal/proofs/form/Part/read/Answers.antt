@@ -1,0 +1,25 @@
+-- By the kind of the part.
+use mathlib.Core.Path.{refl}
+use mathlib.Core.List.{[]}
+use Rattle.journal.specs.Form.{part_after}
+use Rattle.journal.specs.declared.form.Kind.TheVariants.{Nothing, Number, List as Words, Signed, Length}
+use Rattle.journal.proofs.FormLaws.{follows, follows_list}
+use Rattle.journal.proofs.form.Part.read.Goals as goal
+
+pub returns-in-Nothing : goal.returns-in-Nothing
+unfolding part_after
+returns-in-Nothing c = record { words = []; after = rw c.in-Nothing.is refl; lent = rw c.in-Nothing.is refl }
+
+pub returns-in-Number : goal.returns-in-Number
+returns-in-Number c =
+    rw c.next_number.ensures (follows _ _ _ (Number c.in-Number.most) c.in-Number.is _ _ refl (λ number. refl))
+
+pub returns-in-List : goal.returns-in-List
+returns-in-List c = ?
+
+pub returns-in-Signed : goal.returns-in-Signed
+returns-in-Signed c = ?
+
+pub returns-in-Length : goal.returns-in-Length
+returns-in-Length c =
+    rw c.read_count.ensures (follows _ _ _ (Length c.in-Length.longest) c.in-Length.is _ _ refl (λ number. refl))

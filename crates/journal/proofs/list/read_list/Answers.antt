@@ -1,0 +1,39 @@
+-- The name and the count, and as many numbers into the first places.
+use mathlib.Core.Path.{◌≡◌, refl, sym, ◌∙◌}
+use Prim.Native.Nat.{◌≤◌}
+use lib.ListN.{length}
+use lib.Seq.{length-take-le}
+use Rattle.std.proofs.lemmas.Result.{err_from_is_err_and, IfOk-at_ok}
+use Rattle.journal.specs.List.{list_after}
+use Rattle.journal.proofs.ListLaws.{count_most, numbers_length}
+use Rattle.journal.proofs.list.read_list.Goals as goal
+use Rattle.journal.proofs.list.read_list.Goals.{In_ok-counted}
+
+-- the count lies within the lent list
+counted : (c : In_ok-counted) → c.in_ok-counted.counted.value ≤ length c.args.into.now
+counted c =
+    IfOk-at_ok (λ read. read.value ≤ length c.args.into.now) (sym c.read_count.ensures ∙ c.in_ok-counted.was)
+    (count_most _ _ _ _)
+
+pub slice_bounds-fill_numbers-end : goal.slice_bounds-fill_numbers-end
+slice_bounds-fill_numbers-end c = counted (goal.at.slice_bounds-fill_numbers-end c).In_ok-counted
+
+pub slice_bounds-fill_numbers-end-2 : goal.slice_bounds-fill_numbers-end-2
+slice_bounds-fill_numbers-end-2 c =
+    sym (length-take-le _ _ (counted (goal.at.slice_bounds-fill_numbers-end-2 c).In_ok-counted))
+
+pub returns-in_err-counted : goal.returns-in_err-counted
+unfolding list_after
+returns-in_err-counted c =
+    let p = err_from_is_err_and c.from_residual.result c.from_residual.ensures.1 in
+    rw (p.1, p.2, sym c.read_count.ensures ∙ c.in_err-counted.was) refl
+
+pub returns-in_err-next : goal.returns-in_err-next
+unfolding list_after
+returns-in_err-next c =
+    let p = err_from_is_err_and c.from_residual.result c.from_residual.ensures.1 in
+    rw (p.1, p.2) (let h = c.in_err-next.ensures in ?)
+
+pub returns : goal.returns
+unfolding list_after
+returns c = let h = c.in_ok-next.ensures in ?
