@@ -10,7 +10,7 @@ use Rattle.numbers.specs.Bounded.{list_below, join_below}
 use Rattle.numbers.specs.Checks.{verdict_of}
 use Rattle.numbers.specs.Required.{ValuesWithin}
 use Rattle.numbers.specs.Sizes.{distributor_readings, most_reading}
-use Rattle.std.specs.Prelude.{Ok, Err}
+use Rattle.std.specs.Prelude.{Ok}
 use Rattle.numbers.proofs.JoinLaws.{join_same, all_join}
 use Rattle.numbers.proofs.ListLaws.{list_length, list_at}
 use Rattle.sheet.specs.Number.{number_size, number_bytes}

@@ -7,14 +7,14 @@ use Rattle.sheet.proofs.read.reading_by.Goals.{Else-bit-eq0}
 
 -- the bit is set
 one : (e : Else-bit-eq0) → e.args.bit ≡ 1
-one e = omega (arith, e.requires.fact_1, e.if-bit-eq0.false)
+one e = omega (arith, e.requires.bit_below_two, e.if-bit-eq0.false)
 
 pub returns-then-bit-eq0 : goal.returns-then-bit-eq0
 unfolding reading_by
 returns-then-bit-eq0 c = rw c.if-bit-eq0.true
 
 pub number_at-requires : goal.number_at-requires
-number_at-requires c = omega (arith, one c, c.requires.fact_2)
+number_at-requires c = omega (arith, one c, c.requires.within)
 
 pub returns : goal.returns
 unfolding reading_by

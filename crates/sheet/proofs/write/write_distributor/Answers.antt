@@ -33,16 +33,16 @@ module _ (w : After-write_number) where
   long : length w.write_number.new.into ≡ length w.args.into.now
   long =
       front_long m w.args.into.now front
-      (omega (arith, number_size_lem (bit_map w.args.readings.now), w.requires.fact_2))
+      (omega (arith, number_size_lem (bit_map w.args.readings.now), w.requires.room))
 
   room : 132 ≤ length w.write_number.new.into
-  room = omega (arith, long, w.requires.fact_2)
+  room = omega (arith, long, w.requires.room)
 
 pub write_present-requires : goal.write_present-requires
 write_present-requires c =
     record {
-      fact_1 = c.requires.fact_1;
-      fact_2 = omega (
+      long = c.requires.long;
+      room = omega (
         arith,
         room (goal.at.write_present-requires c).After-write_number,
         mid_len number_size (length c.write_number.new.into) c.write_number.new.into (omega arith),
@@ -77,7 +77,7 @@ shape_of-into c =
     let readings = c.args.readings.now in
     ap length (whole (goal.at.shape_of-into c).After-write_present (front (goal.at.shape_of-into c).After-write_number))
     ∙ front_long (map readings ++ present_bytes readings) c.args.into.now refl
-    (omega (arith, distributor_most readings, c.requires.fact_2))
+    (omega (arith, distributor_most readings, c.requires.room))
 
 pub returns : goal.returns
 unfolding distributor_bytes written_first
