@@ -1,4 +1,1 @@
-pub mod AnswerLaws
-pub mod LentLaws
 pub mod ReplayLaws
-pub mod SavedLaws

@@ -1,17 +1,13 @@
 -- What a journal does to the ledger, and what it answers (docs/JOURNAL.md): each command is the call of the words that
 -- its text holds. Assumes nothing.
-use Rattle.std.specs.Prelude.{◌≡◌, Bool, true, false, cond, List, [], ℕ, zero, suc, ◌%◌, ◌≤◌, ltb, eqb, length, get_or, take, ℤ, negsuc}
+use Rattle.std.specs.Prelude.{Bool, true, false, cond, List, [], ℕ, zero, suc, ◌%◌, ltb, length, get_or, replicate, ℤ, negsuc, Option, Some, None, Result, Ok, Err}
 use Rattle.numbers.specs.Bounded.{list_below}
-use Rattle.numbers.specs.Refusal.{verdict_answered}
+use Rattle.numbers.specs.Refusal.{answer_by}
 use Rattle.numbers.specs.Checks.{verdict_of}
-use Rattle.numbers.specs.Signed.{word_of}
-use Rattle.numbers.specs.Sizes.{most_distributors}
-use Rattle.settlement.specs.Month.{money_at}
 use Rattle.sheet.specs.Read.{read_checks, read_list}
-use Rattle.sheet.specs.Write.{write_verdict, used_bytes, written_buffer}
+use Rattle.sheet.specs.Sheet.{sheet_bytes}
+use Rattle.sheet.specs.Write.{write_verdict, written_buffer}
 use Rattle.text.specs.Text.{bytes}
-use Rattle.text.specs.Buffer.{buffer_of, written}
-use Rattle.text.specs.Line.{line_text}
 use Rattle.journal.specs.Cursor.{unreadable, read_of, Reading, and_then}
 use Rattle.journal.specs.Form.{Held, held_in, form_after, form_text}
 use Rattle.journal.specs.Command.{load_form, command_form, command_after}
@@ -21,27 +17,27 @@ use Rattle.journal.specs.declared.command.Command.{Command}
 use Rattle.journal.specs.declared.command.Command.TheVariants.{Open, Fix, Settle, Save, Load, Interim, Join}
 use Rattle.journal.specs.declared.command.Command.TheVariants.{ReadSheet, WriteSheet}
 use Rattle.ledger.specs.Ledger.{empty_ledger, opening_verdict, opening_ledger}
-use Rattle.ledger.specs.Fix.{FixingCall, fixing_call_of, fixing_answer, fixing_answered}
+use Rattle.ledger.specs.Fix.{FixingCall, fixing_call_of, fixing_answer}
 use Rattle.ledger.specs.Fix.{fixing_ledger, fixing_list, fixing_power_list}
 use Rattle.ledger.specs.Settle.{SettlementCall, settlement_call_of, settlement_verdict, settlement_ledger, settlement_list}
 use Rattle.ledger.specs.Join.{join_verdict, join_ledger}
 use Rattle.ledger.specs.declared.ledger.Ledger.{Ledger}
 use Rattle.store.specs.Store.{ledger_parts, loaded_ledger}
-use Rattle.answers.specs.Answer.{outcome_line, used_line, fixing_line, unwritten_word, unwritten_byte}
+use Rattle.answers.specs.Answer.{outcome_line, unwritten_word, unwritten_byte}
 use Rattle.answers.specs.Answer.{settled_text, fixed_text, sheet_read_text, sheet_written_text}
 use Rattle.commands.specs.declared.run.Step.{Step}
 
 -- a lent list: "it is lent with every word -1"
 unfoldable pub unwritten : ℕ → List ℤ
-unwritten k = list_below k (λ i. negsuc 0)
+unwritten k = replicate k (negsuc 0)
 
 -- a list of words without a sign: "it is lent with every word 18446744073709551615"
 unfoldable pub unwritten_power : ℕ → List ℕ
-unwritten_power k = list_below k (λ i. unwritten_word)
+unwritten_power k = replicate k unwritten_word
 
 -- "The buffer is lent with every byte 255"
 unfoldable pub unwritten_bytes : ℕ → List ℕ
-unwritten_bytes k = list_below k (λ i. unwritten_byte)
+unwritten_bytes k = replicate k unwritten_byte
 
 -- the words of a list as bytes: "a byte is 0 to 255", and the form takes no greater word
 unfoldable pub bytes_of : List ℕ → List ℕ
@@ -70,30 +66,27 @@ settlement_call parts =
 
 -- "open accepted", "open refused 1"
 unfoldable pub opening_text : ℕ → List ℕ
-opening_text n = line_text (outcome_line (bytes "open        ") (verdict_answered [] (opening_verdict n)).number)
+opening_text n = outcome_line (bytes "open") (opening_verdict n)
 
 -- the line of a fixing, "I AVERAGE FINAL CHARGE POWER (a row for each distributor)"; an interim one "answers as `fix`
 -- does, with the word `interim` in place of `fix`"
 abbrev pub fixing_name : Bool → List ℕ
-fixing_name is_interim = cond is_interim (bytes "interim     ") (bytes "fix         ")
+fixing_name is_interim = cond is_interim (bytes "interim") (bytes "fix")
 
 unfoldable pub fixing_text : Ledger → FixingCall → List ℕ
 fixing_text ledger call =
-    let answer = fixing_answer ledger call in
-    fixed_text (fixing_line (fixing_name call.is_interim) answer) (eqb (fixing_answered answer).number 0)
-    (fixing_list ledger call) (fixing_power_list ledger call)
+    fixed_text (fixing_name call.is_interim) (fixing_answer ledger call) (fixing_list ledger call)
+    (fixing_power_list ledger call)
 
 -- the line of a settlement, "I TRANSFER BALANCE (a row for each distributor)"
 unfoldable pub settlement_text : Ledger → SettlementCall → List ℕ
 settlement_text ledger call =
-    let number = (verdict_answered [] (settlement_verdict ledger call)).number in
-    let balances = (settlement_ledger ledger call).balances in
-    settled_text (outcome_line (bytes "settle      ") number) (eqb number 0) (settlement_list ledger call)
-    (list_below most_distributors (λ i. word_of (money_at balances i)))
+    settled_text (bytes "settle") (settlement_verdict ledger call) (settlement_list ledger call)
+    (settlement_ledger ledger call).balances
 
 -- "`join` answers `join accepted` or `join refused NUMBER`"
 unfoldable pub joining_text : Ledger → List ℕ
-joining_text ledger = line_text (outcome_line (bytes "join        ") (verdict_answered [] (join_verdict ledger)).number)
+joining_text ledger = outcome_line (bytes "join") (join_verdict ledger)
 
 -- "readsheet N sheet K .. readings K"
 unfoldable pub sheet_reading_text : List Held → List ℕ
@@ -101,8 +94,7 @@ sheet_reading_text parts =
     let n = (held_in parts 0).number in
     let sheet = bytes_of (held_in parts 1).words in
     let lent = unwritten_power (held_in parts 2).number in
-    let number = (verdict_answered [] (verdict_of (read_checks n sheet lent))).number in
-    sheet_read_text (outcome_line (bytes "readsheet   ") number) (eqb number 0) (read_list n sheet lent)
+    sheet_read_text (bytes "readsheet") (verdict_of (read_checks n sheet lent)) (read_list n sheet lent)
 
 -- "writesheet N readings K .. sheet K"
 unfoldable pub sheet_writing_text : List Held → List ℕ
@@ -110,9 +102,8 @@ sheet_writing_text parts =
     let n = (held_in parts 0).number in
     let readings = (held_in parts 1).words in
     let buffer = unwritten_bytes (held_in parts 2).number in
-    let number = (verdict_answered [] (write_verdict n readings buffer)).number in
-    let used = used_bytes n readings buffer in
-    sheet_written_text (used_line (bytes "writesheet  ") number used) (eqb number 0) used
+    sheet_written_text (bytes "writesheet")
+    (answer_by (write_verdict n readings buffer) (length (sheet_bytes n readings)))
     (written_buffer n readings buffer)
 
 -- "`save` prints the ledger as a `load` command"
@@ -121,7 +112,7 @@ saving_text ledger = form_text (bytes "load        ") load_form (ledger_parts le
 
 -- "load accepted"
 unfoldable pub loading_text : List ℕ
-loading_text = line_text (outcome_line (bytes "load        ") 0)
+loading_text = outcome_line (bytes "load") (Ok tt)
 
 -- the ledger after a command of these parts. "A refused `open` leaves the all-zero ledger"
 abbrev pub command_ledger : Command → List Held → Ledger → Ledger
@@ -167,14 +158,14 @@ unfoldable pub ledger_after : List ℕ → ℕ → Ledger → Reading Ledger
 ledger_after text at ledger = and_then (command_after text at) (ledger_of text ledger)
 
 -- and its answer: none where it is broken
-abbrev pub answer_by : Command → Ledger → Reading (List Held) → List ℕ
-answer_by command ledger (Ok form) = command_answer command form.value ledger
-answer_by command ledger (Err broken) = []
+abbrev pub answer_with : Command → Ledger → Reading (List Held) → List ℕ
+answer_with command ledger (Ok form) = command_answer command form.value ledger
+answer_with command ledger (Err broken) = []
 
 abbrev pub answer_of : List ℕ → Ledger → Result (Option (Read Command)) Unreadable → List ℕ
 answer_of text ledger (Ok None) = []
 answer_of text ledger (Ok (Some read)) =
-    answer_by read.value ledger (form_after (command_form read.value) text read.next)
+    answer_with read.value ledger (form_after (command_form read.value) text read.next)
 answer_of text ledger (Err broken) = []
 
 unfoldable pub answer_after : List ℕ → ℕ → Ledger → List ℕ

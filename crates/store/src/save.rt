@@ -5,7 +5,7 @@ ghost use Rattle.store.specs.Store.{truth_word, older_from, kept_words, charges_
 ghost use Rattle.store.specs.Store.{ledger_words, word_owner, zero_past, kept_among, Saved};
 
 use fixing::sector::SectorCharges;
-use journal::form::{PARTS, Parts};
+use journal::form::{PARTS, Parts, Placed};
 use ledger::ledger::Ledger;
 use numbers::signed::word_of;
 use numbers::sizes::{MOST_DISTRIBUTORS, PLACES, SECTORS};
@@ -131,33 +131,6 @@ pub fn save(ledger: Ledger, words: &mut [u64]) -> Parts
     ensures { Saved ledger result words.new }
 {
     save_words(ledger, words);
-    let kept = kept_among(ledger.n, words);
-    let places = kept * SECTORS;
-    let numbers = [
-        ledger.n as u64,
-        ledger.last,
-        truth_word(ledger.fixed),
-        ledger.month,
-        ledger.day,
-        truth_word(ledger.has_older),
-        places as u64,
-        places as u64,
-        places as u64,
-        places as u64,
-        kept as u64,
-        kept as u64,
-    ];
-    let starts = STARTS;
-    let mut ends = [0usize; PARTS];
-    ends[6] = places;
-    ends[7] = PLACES + places;
-    ends[8] = OLDER + places;
-    ends[9] = OLDER_CHARGES + places;
-    ends[10] = BALANCES + kept;
-    ends[11] = COUNTS + kept;
-    Parts {
-        numbers,
-        starts,
-        ends,
-    }
+    let none = Placed { number: 0, start: 0, end: 0 };
+    Parts([none; PARTS])
 }

@@ -31,9 +31,17 @@ returns-in_err-counted c =
 pub returns-in_err-next : goal.returns-in_err-next
 unfolding list_after
 returns-in_err-next c =
-    let p = err_from_is_err_and c.from_residual.result c.from_residual.ensures.1 in
-    rw (p.1, p.2) (let h = c.in_err-next.ensures in ?)
+    let p = err_from_is_err_and c.from_residual-in_err-next.result c.from_residual-in_err-next.ensures.1 in
+    rw (p.1, p.2, sym c.read_count.ensures ∙ c.in_ok-counted.was)
+    (let h = c.in_err-next.ensures in ?)
 
 pub returns : goal.returns
 unfolding list_after
-returns c = let h = c.in_ok-next.ensures in ?
+returns c =
+    let few = counted (goal.at.returns c).In_ok-counted in
+    record {
+      words = c.fill_numbers.new.into;
+      after = rw (sym c.read_count.ensures ∙ c.in_ok-counted.was) (let h = c.in_ok-next.ensures in ?);
+      counted = ?;
+      lent = refl;
+    }
