@@ -24,8 +24,8 @@ pub(crate) fn term_mean(means: &[u64; MEANS], term: Term) -> u64
 
 // Whether a month of term k is missing, where the line uses that term.
 fn lacks_month(means: &[u64; MEANS], line: Line, k: usize) -> bool
-    requires fact_1 { LineFacts line }
-    requires fact_2 { k < term_places }
+    requires line_checked { LineFacts line }
+    requires one_of_line { k < term_places }
     ensures { result ≡ (term_used line k && listed_lacks means.now (term_of line k)) }
 {
     let used = ((k as u64) < line.term_count) | (k == POWER_TERM);
@@ -40,14 +40,7 @@ fn lacks_month(means: &[u64; MEANS], line: Line, k: usize) -> bool
 fn any_missing(means: &[u64; MEANS]) -> bool
     ensures { result ≡ any_below mean_count (λ k. eqb (get_or means.now k 0) 0) }
 {
-    let mut k: usize = 0;
-    while k < MEANS {
-        if means[k] == 0 {
-            return true;
-        }
-        k += 1;
-    }
-    false
+    means.contains(&0)
 }
 
 // The walk over lines and terms, left at the first missing month with its place. Where no mean at all is missing it

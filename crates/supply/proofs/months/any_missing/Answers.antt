@@ -1,17 +1,12 @@
--- The invariant: no mean passed is 0.
-use native.Mathlib.Omega.{arith}
-use borrow.Author.Tests.{eq-eqb, ne_eqb}
-use Rattle.numbers.proofs.TestLaws.{searched_none, searched_more, searched_found, searched_all}
+-- Whether one of the means is 0.
+use mathlib.Core.Path.{◌∙◌, ap}
+use Rattle.numbers.specs.Bounded.{any_below}
+use lib.Dec.{eqb}
+use lib.ListN.{get_or}
+use Rattle.supply.proofs.ListedLaws.{any_listed}
 use Rattle.supply.proofs.months.any_missing.Goals as goal
 
-pub loop-k-init : goal.loop-k-init
-loop-k-init c = searched_none _ _
-
-pub returns-then-means-k-eq0 : goal.returns-then-means-k-eq0
-returns-then-means-k-eq0 c = searched_found c.loop-k.invariant (omega arith) (eq-eqb _ _ c.if-means-k-eq0.true)
-
-pub loop-k-preserved : goal.loop-k-preserved
-loop-k-preserved c = searched_more c.loop-k.invariant (omega arith) (ne_eqb _ _ c.if-means-k-eq0.false)
-
 pub returns : goal.returns
-returns c = searched_all c.loop-k.invariant (omega arith)
+returns c =
+    c.contains.ensures.value ∙ any_listed (λ mean. eqb mean 0) c.args.means.now 0
+    ∙ ap (λ n. any_below n (λ k. eqb (get_or c.args.means.now k 0) 0)) c.told-means

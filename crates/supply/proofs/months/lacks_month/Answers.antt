@@ -18,7 +18,7 @@ unfolding term_used
 returns-then-not-used c = rw (not-true (term_used c.args.line c.args.k) c.if-not-used.true-raw)
 
 pub term_mean-requires : goal.term_mean-requires
-term_mean-requires c = c.requires.fact_1.term c.args.k (used (goal.at.term_mean-requires c).Else-not-used)
+term_mean-requires c = c.requires.line_checked.term c.args.k (used (goal.at.term_mean-requires c).Else-not-used)
 
 pub returns : goal.returns
 unfolding listed_lacks

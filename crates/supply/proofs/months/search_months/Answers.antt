@@ -47,8 +47,8 @@ loop-k-init c = (omega arith, refl)
 pub lacks_month-requires : goal.lacks_month-requires
 lacks_month-requires c =
     record {
-      fact_1 = facts (goal.at.lacks_month-requires c).After-line_at-line;
-      fact_2 = omega arith;
+      line_checked = facts (goal.at.lacks_month-requires c).After-line_at-line;
+      one_of_line = omega arith;
     }
 
 pub loop-k-preserved : goal.loop-k-preserved

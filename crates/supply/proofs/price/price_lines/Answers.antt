@@ -21,22 +21,22 @@ module _ (m : After-search_months) where
       ∙ ap (λ means. verdict_of (month_check (listed_lacks means) m.args.lines.now ∷ []))
       m.means-means.ensures
       ∙ ap (λ check. verdict_of (check ∷ []))
-      (check_listed m.args.table m.args.numbers m.args.lines.now m.requires.fact_3)
+      (check_listed m.args.table m.args.numbers m.args.lines.now m.requires.lines_checked)
 
 pub means-means-requires : goal.means-means-requires
 means-means-requires c =
     record {
-      fact_1 = c.requires.fact_1;
-      fact_2 = c.requires.fact_2.start;
+      fact_1 = c.requires.table_in_range;
+      fact_2 = c.requires.numbers_checked.start;
     }
 
 pub bounded_prices-requires : goal.bounded_prices-requires
 bounded_prices-requires c =
     record {
-      fact_1 = rw c.means-means.ensures (means_within c.args.table c.requires.fact_1 _ _);
-      fact_2 = c.requires.fact_2;
-      fact_3 = c.requires.fact_3;
-      fact_4 = c.requires.fact_4;
+      means_within = rw c.means-means.ensures (means_within c.args.table c.requires.table_in_range _ _);
+      numbers_checked = c.requires.numbers_checked;
+      lines_checked = c.requires.lines_checked;
+      in_force_within = c.requires.in_force_within;
     }
 
 pub returns-in_err-search_months : goal.returns-in_err-search_months
@@ -56,6 +56,6 @@ returns c =
     (c.bounded_prices.ensures
     ∙ ap (λ means. bounded_prices (listed_mean means) a.numbers a.lines.now a.in_force.now)
     c.means-means.ensures
-    ∙ prices_listed a.table a.numbers a.lines.now c.requires.fact_3
+    ∙ prices_listed a.table a.numbers a.lines.now c.requires.lines_checked
     (months_present a.table a.numbers a.lines.now a.in_force.now present) a.in_force.now
     ∙ months_priced a.table a.numbers a.lines.now a.in_force.now present)

@@ -18,8 +18,8 @@ product c = rw c.if-used.true (ap (λ r. c.args.term.weight * r) c.term_ratio.en
 pub term_ratio-requires : goal.term_ratio-requires
 term_ratio-requires c =
     record {
-      fact_1 = c.requires.fact_1;
-      fact_2 = c.requires.fact_2 c.if-used.true;
+      means_within = c.requires.means_within;
+      term_checked = c.requires.term_checked c.if-used.true;
     }
 
 pub overflow_mul-result : goal.overflow_mul-result
@@ -28,7 +28,7 @@ overflow_mul-result c =
       arith,
       product (goal.at.overflow_mul-result c).After-term_ratio,
       weighted_most (listed_mean c.args.means.now) c.args.term
-          (listed_most c.args.means.now c.requires.fact_1 c.args.term) c.args.used c.requires.fact_2,
+          (listed_most c.args.means.now c.requires.means_within c.args.term) c.args.used c.requires.term_checked,
     )
 
 pub returns-then-used : goal.returns-then-used
