@@ -2,24 +2,24 @@
 // out of bounds (cause 11), and whether any line moved (cause 14).
 ghost use Rattle.std.specs.Prelude.{◌≡◌, true, ◌≤◌, IfSome};
 ghost use Rattle.numbers.specs.Required.{ValuesWithin};
-ghost use Rattle.series.specs.Required.{most_mean, TableInRange};
+ghost use Rattle.series.specs.Required.{TableInRange};
 ghost use Rattle.supply.specs.Line.{most_power_price};
 ghost use Rattle.supply.specs.Price.{peso_of, term_ratio, weighted_ratio, index_factor, line_purchase};
 ghost use Rattle.supply.specs.Price.{price_in_force, moved, price_taken, reference_answer};
 ghost use Rattle.supply.specs.Price.{bounded_prices, LinePricesPromise};
 ghost use Rattle.supply.specs.Listed.{listed_mean, price_within, indexed_by, indexed_answer, power_answer};
 ghost use Rattle.supply.specs.Listed.{line_words, price_words};
-ghost use Rattle.supply.specs.Required.{TermFacts, LineFacts, CheckedLines, NumbersFacts};
+ghost use Rattle.supply.specs.Required.{TermFacts, CheckedLines, NumbersFacts};
 
 use crate::line::{
-    Line, MOST_LINES, MOST_POWER_PRICE, MOST_TERMS, POWER_TERM, Term, line_at, line_count,
+    CheckedLine, MOST_LINES, MOST_POWER_PRICE, MOST_TERMS, POWER_TERM, Term, checked_line,
+    line_count,
 };
 use crate::market::FixingNumbers;
-use crate::months::{search_months, term_mean};
+use crate::months::Means;
 use numbers::refusal::Refusal;
 use numbers::rounding::half_up;
 use numbers::units::{PesoPrice, PowerPrice, is_between};
-use series::mean::{MEANS, means};
 use series::table::{MONTHS, SERIES};
 
 // The greatest index factor, and the greatest ratio of power.
@@ -35,19 +35,17 @@ pub fn peso_price(purchase: u64, dollar: u64) -> PesoPrice
 }
 
 // The ratio of a term.
-fn term_ratio(means: &[u64; MEANS], term: Term) -> u64
-    requires means_within { ValuesWithin most_mean means.now }
-    requires term_checked { TermFacts term }
-    ensures { result ≡ term_ratio (listed_mean means.now) term }
+fn term_ratio(means: &Means, term: Term) -> u64
+    requires { TermFacts term }
+    ensures { result ≡ term_ratio (listed_mean means.now.values) term }
 {
-    half_up(term_mean(means, term) * 1000000, term.base_value * 100)
+    half_up(means.term_mean(term) * 1000000, term.base_value * 100)
 }
 
 // What a term adds to the index factor: its weight times its ratio, nothing where it is not used.
-fn weighted_ratio(means: &[u64; MEANS], term: Term, used: bool) -> u64
-    requires means_within { ValuesWithin most_mean means.now }
-    requires term_checked { (used ≡ true → TermFacts term) }
-    ensures { result ≡ weighted_ratio (listed_mean means.now) term used }
+fn weighted_ratio(means: &Means, term: Term, used: bool) -> u64
+    requires { (used ≡ true → TermFacts term) }
+    ensures { result ≡ weighted_ratio (listed_mean means.now.values) term used }
 {
     if used {
         term.weight * term_ratio(means, term)
@@ -57,11 +55,10 @@ fn weighted_ratio(means: &[u64; MEANS], term: Term, used: bool) -> u64
 }
 
 // The index factor of a line.
-fn index_factor(means: &[u64; MEANS], line: Line) -> u64
-    requires means_within { ValuesWithin most_mean means.now }
-    requires line_checked { LineFacts line }
-    ensures { result ≡ index_factor (listed_mean means.now) line }
+fn index_factor(means: &Means, checked: CheckedLine) -> u64
+    ensures { result ≡ index_factor (listed_mean means.now.values) checked.line }
 {
+    let line = checked.line;
     let count = line.term_count;
     if count == 0 {
         return 1000000;
@@ -93,20 +90,22 @@ fn indexed_by(most: u64, base: u64, factor: u64) -> Option<u64>
 }
 
 // The new indexed price of a line, in 0.001 US$/MWh, unless the index factor or the price is out of bounds.
-fn indexed_price(means: &[u64; MEANS], line: Line) -> Option<u64>
-    requires means_within { ValuesWithin most_mean means.now }
-    requires line_checked { LineFacts line }
-    ensures { result ≡ indexed_answer (listed_mean means.now) line }
+fn indexed_price(means: &Means, checked: CheckedLine) -> Option<u64>
+    ensures { result ≡ indexed_answer (listed_mean means.now.values) checked.line }
 {
-    indexed_by(1000000, line.base_price, index_factor(means, line))
+    indexed_by(
+        1000000,
+        checked.line.base_price,
+        index_factor(means, checked),
+    )
 }
 
 // The purchase price of a line from the price taken, where it lies in 1 to `most`.
-fn purchase_price(most: u64, line: Line, taken: u64) -> Option<u64>
-    requires line_checked { LineFacts line }
-    requires taken_within { taken ≤ most_power_price }
-    ensures { result ≡ price_within most (line_purchase line taken) }
+fn purchase_price(most: u64, checked: CheckedLine, taken: u64) -> Option<u64>
+    requires { taken ≤ most_power_price }
+    ensures { result ≡ price_within most (line_purchase checked.line taken) }
 {
+    let line = checked.line;
     within(
         most,
         half_up(taken * line.purchase_factor, line.offer_factor),
@@ -114,14 +113,13 @@ fn purchase_price(most: u64, line: Line, taken: u64) -> Option<u64>
 }
 
 // The power purchase price of a line, in 0.001 US$/kW/month, unless the ratio or a price is out of bounds.
-fn power_purchase(means: &[u64; MEANS], line: Line) -> Option<u64>
-    requires means_within { ValuesWithin most_mean means.now }
-    requires line_checked { LineFacts line }
-    ensures { result ≡ power_answer (listed_mean means.now) line }
+fn power_purchase(means: &Means, checked: CheckedLine) -> Option<u64>
+    ensures { result ≡ power_answer (listed_mean means.now.values) checked.line }
 {
+    let line = checked.line;
     let ratio = term_ratio(means, line.terms[POWER_TERM]);
     let indexed = indexed_by(MOST_POWER_PRICE, line.power_base_price, ratio)?;
-    purchase_price(MOST_POWER_PRICE, line, indexed)
+    purchase_price(MOST_POWER_PRICE, checked, indexed)
 }
 
 // What a line has from the means: its indexed price and its power purchase price.
@@ -132,26 +130,23 @@ struct LineWords {
 }
 
 // Those of a line, unless a factor, ratio or price is out of bounds.
-fn line_words(means: &[u64; MEANS], line: Line) -> Option<LineWords>
-    requires means_within { ValuesWithin most_mean means.now }
-    requires line_checked { LineFacts line }
-    ensures { result ≡ line_words (listed_mean means.now) line }
+fn line_words(means: &Means, checked: CheckedLine) -> Option<LineWords>
+    ensures { result ≡ line_words (listed_mean means.now.values) checked.line }
 {
-    let indexed = indexed_price(means, line)?;
-    let purchase = power_purchase(means, line)?;
+    let indexed = indexed_price(means, checked)?;
+    let purchase = power_purchase(means, checked)?;
     Some(LineWords { indexed, purchase })
 }
 
 // Those of all lines. They have a pass of their own: the divisions of the later steps then need not wait for those of
 // the terms.
-fn price_words(means: &[u64; MEANS], lines: &[u64]) -> [Option<LineWords>; MOST_LINES]
-    requires means_within { ValuesWithin most_mean means.now }
-    requires lines_checked { CheckedLines lines.now }
-    ensures { result ≡ price_words (listed_mean means.now) lines.now }
+fn price_words(means: &Means, lines: &[u64]) -> [Option<LineWords>; MOST_LINES]
+    requires { CheckedLines lines.now }
+    ensures { result ≡ price_words (listed_mean means.now.values) lines.now }
 {
     let mut words = [None; MOST_LINES];
     for j in 0..line_count(lines) {
-        words[j] = line_words(means, line_at(lines, j));
+        words[j] = line_words(means, checked_line(lines, j));
     }
     words
 }
@@ -195,15 +190,17 @@ fn price_taken(old: Option<u64>, indexed: u64) -> u64
 
 // The reference of a line from the price taken: purchase, peso, reference. The bounds of a peso price are put to the
 // reference, not to the peso step.
-fn reference_price(numbers: FixingNumbers, line: Line, taken: u64) -> Option<PesoPrice>
+fn reference_price(numbers: FixingNumbers, checked: CheckedLine, taken: u64) -> Option<PesoPrice>
     requires numbers_checked { NumbersFacts numbers }
-    requires line_checked { LineFacts line }
     requires taken_within { taken ≤ 1000000 }
-    ensures { result ≡ reference_answer numbers line taken }
+    ensures { result ≡ reference_answer numbers checked.line taken }
 {
-    let purchase = purchase_price(1000000, line, taken)?;
+    let purchase = purchase_price(1000000, checked, taken)?;
     let peso = peso_price(purchase, numbers.dollar);
-    let reference = half_up(peso.0 * numbers.reference_factor, line.purchase_factor);
+    let reference = half_up(
+        peso.0 * numbers.reference_factor,
+        checked.line.purchase_factor,
+    );
     PesoPrice::checked(reference)
 }
 
@@ -217,16 +214,15 @@ pub struct LinePrices {
 // The prices of all lines, or the first line that is out of bounds, in energy or in power, or that no line moved. A
 // power price is its purchase price at the dollar, in hundredths of $.
 fn bounded_prices(
-    means: &[u64; MEANS],
+    means: &Means,
     numbers: FixingNumbers,
     lines: &[u64],
     in_force: &[u64],
 ) -> Result<LinePrices, Refusal>
-    requires means_within { ValuesWithin most_mean means.now }
     requires numbers_checked { NumbersFacts numbers }
     requires lines_checked { CheckedLines lines.now }
     requires in_force_within { ValuesWithin 1000000 in_force.now }
-    ensures { result ≡ bounded_prices (listed_mean means.now) numbers lines.now
+    ensures { result ≡ bounded_prices (listed_mean means.now.values) numbers lines.now
         in_force.now }
 {
     let words = price_words(means, lines);
@@ -238,7 +234,7 @@ fn bounded_prices(
         let line = words[j].ok_or(beyond)?;
         let old = price_in_force(in_force, j);
         let taken = price_taken(old, line.indexed);
-        let reference = reference_price(numbers, line_at(lines, j), taken).ok_or(beyond)?;
+        let reference = reference_price(numbers, checked_line(lines, j), taken).ok_or(beyond)?;
         references[j] = reference;
         power[j] = PowerPrice(half_up(line.purchase * numbers.dollar, 100));
         moved |= has_moved(old, line.indexed);
@@ -263,7 +259,7 @@ pub fn price_lines(
     requires in_force_within { ValuesWithin 1000000 in_force.now }
     ensures { LinePricesPromise table numbers lines.now in_force.now result }
 {
-    let means = means(table, numbers.first_month, numbers.month);
-    search_months(&means, lines)?;
+    let means = Means::of(table, numbers);
+    means.search_months(lines)?;
     bounded_prices(&means, numbers, lines, in_force)
 }

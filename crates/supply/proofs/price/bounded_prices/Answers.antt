@@ -41,7 +41,7 @@ module _ {A E : Type 0} where
 -- the line at hand, where it has words
 module _ (c : In_ok-line) where
   abbrev mean : Term → ℕ
-  mean = listed_mean c.args.means.now
+  mean = listed_mean c.args.means.now.values
 
   below : c.loop-j.j < line_count c.args.lines.now
   below = omega (arith, c.line_count-j-end.ensures)
@@ -59,14 +59,14 @@ module _ (c : In_ok-line) where
 
 -- its reference
 answered : (c : After-reference_price) →
-    line_words (listed_mean c.args.means.now) (line_of c.args.lines.now c.loop-j.j) ≡ Some c.in_ok-line.line →
-    c.reference_price.result ≡ answer_at (listed_mean c.args.means.now) c.args.numbers c.args.lines.now
+    line_words (listed_mean c.args.means.now.values) (line_of c.args.lines.now c.loop-j.j) ≡ Some c.in_ok-line.line →
+    c.reference_price.result ≡ answer_at (listed_mean c.args.means.now.values) c.args.numbers c.args.lines.now
     c.args.in_force.now c.loop-j.j
 answered c has =
     c.reference_price.ensures
-    ∙ ap₂ (reference_answer c.args.numbers) c.line_at.ensures
+    ∙ ap₂ (reference_answer c.args.numbers) c.checked_line.ensures
     (c.price_taken-taken.ensures ∙ ap (λ old. price_taken old c.in_ok-line.line.indexed) c.price_in_force-old.ensures)
-    ∙ line_answer (listed_mean c.args.means.now) c.args.numbers c.args.lines.now c.args.in_force.now c.loop-j.j
+    ∙ line_answer (listed_mean c.args.means.now.values) c.args.numbers c.args.lines.now c.args.in_force.now c.loop-j.j
     c.in_ok-line.line has
 
 pub loop-j-init : goal.loop-j-init
@@ -115,7 +115,7 @@ half_up-requires-clause-fact_2 c =
 pub returns-in_err-line : goal.returns-in_err-line
 returns-in_err-line c =
     let a = c.args in
-    let mean = listed_mean a.means.now in
+    let mean = listed_mean a.means.now.values in
     let j = c.loop-j.j in
     let below : j < line_count a.lines.now = omega (arith, c.line_count-j-end.ensures) in
     let p = err_from_is_err_and c.from_residual.result c.from_residual.ensures.1 in
@@ -128,7 +128,7 @@ returns-in_err-line c =
 pub returns-in_err-reference : goal.returns-in_err-reference
 returns-in_err-reference c =
     let a = c.args in
-    let mean = listed_mean a.means.now in
+    let mean = listed_mean a.means.now.values in
     let j = c.loop-j.j in
     let ok = (goal.at.returns-in_err-reference c).In_ok-line in
     let p = err_from_is_err_and c.from_residual-in_err-reference.result c.from_residual-in_err-reference.ensures.1 in
@@ -142,7 +142,7 @@ pub loop-j-preserved : goal.loop-j-preserved
 unfolding line_power power_price power_peso_of
 loop-j-preserved c =
     let a = c.args in
-    let mean = listed_mean a.means.now in
+    let mean = listed_mean a.means.now.values in
     let j = c.loop-j.j in
     let ok = (goal.at.loop-j-preserved c).In_ok-line in
     let told = given _ (OutOfBounds j) c.in_ok-reference.reference (sym c.ok_or-in-loop-j.ensures.value ∙ c.in_ok-reference.was) in
@@ -165,16 +165,16 @@ module _ (c : After-loop-j) where
   last : c.loop-j.j ≡ line_count c.args.lines.now
   last = omega (arith, c.line_count-j-end.ensures)
 
-  none_beyond : first_beyond (listed_mean c.args.means.now) c.args.numbers c.args.lines.now c.args.in_force.now ≡ None
+  none_beyond : first_beyond (listed_mean c.args.means.now.values) c.args.numbers c.args.lines.now c.args.in_force.now ≡ None
   unfolding first_beyond
   none_beyond = rw (← last) c.loop-j.invariant.passed
 
-  some_moved : c.loop-j.moved ≡ any_line_moved (listed_mean c.args.means.now) c.args.lines.now c.args.in_force.now
+  some_moved : c.loop-j.moved ≡ any_line_moved (listed_mean c.args.means.now.values) c.args.lines.now c.args.in_force.now
   unfolding any_line_moved any_moved
   some_moved = rw (← last) c.loop-j.invariant.moved
 
   worked : ◌≡◌ {A = Result LinePrices Refusal} (Ok (record { references = c.loop-j.references; power = c.loop-j.power }))
-      (Ok (worked_prices (listed_mean c.args.means.now) c.args.numbers c.args.lines.now c.args.in_force.now))
+      (Ok (worked_prices (listed_mean c.args.means.now.values) c.args.numbers c.args.lines.now c.args.in_force.now))
   unfolding worked_prices reference_list power_list
   worked = rw (← last, c.loop-j.invariant.references, c.loop-j.invariant.power) refl
 

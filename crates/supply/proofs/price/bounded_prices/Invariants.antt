@@ -10,7 +10,7 @@ use Rattle.supply.proofs.price.bounded_prices.Given as goal
 
 abbrev pub invariant-loop-j : goal.invariant-loop-j
 invariant-loop-j l =
-    let mean = listed_mean l.means in
+    let mean = listed_mean l.means.values in
     record {
       passed : first_below l.j (beyond_in mean l.numbers l.lines l.in_force) ≡ None;
       references : l.references ≡ filled_below most_lines no_price l.j (reference_price mean l.numbers l.lines l.in_force);

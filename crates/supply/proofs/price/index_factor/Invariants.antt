@@ -8,4 +8,4 @@ use Rattle.supply.proofs.price.index_factor.Given as goal
 
 abbrev pub invariant-loop-k : goal.invariant-loop-k
 invariant-loop-k l =
-    Summed 4 (λ i. weighted_ratio (listed_mean l.means) (term_of l.line i) (ltb i l.line.term_count)) l.sum l.k
+    Summed 4 (λ i. weighted_ratio (listed_mean l.means.values) (term_of l.line i) (ltb i l.line.term_count)) l.sum l.k

@@ -6,7 +6,7 @@ use Rattle.supply.proofs.price.indexed_price.Goals as goal
 
 pub returns : goal.returns
 unfolding indexed_answer
-returns c = c.indexed_by.ensures ∙ ap (indexed_by 1000000 c.args.line.base_price) c.index_factor.ensures
+returns c = c.indexed_by.ensures ∙ ap (indexed_by 1000000 c.args.checked.line.base_price) c.index_factor.ensures
 
 pub indexed_by-requires : goal.indexed_by-requires
-indexed_by-requires c = omega (arith, c.requires.line_checked.base_most)
+indexed_by-requires c = omega (arith, c.args.checked.facts.base_most)

@@ -9,16 +9,16 @@ use Rattle.supply.specs.Price.{purchase_of, line_purchase}
 use Rattle.supply.proofs.price.purchase_price.Goals as goal
 use Rattle.supply.proofs.price.purchase_price.Goals.{Start}
 
-product : (s : Start) → s.args.taken * s.args.line.purchase_factor ≤ 2000000000000
-product s = mul-le-mul {n₂ = most_power_price} s.requires.taken_within s.requires.line_checked.purchase_most
+product : (s : Start) → s.args.taken * s.args.checked.line.purchase_factor ≤ 2000000000000
+product s = mul-le-mul {n₂ = most_power_price} s.requires s.args.checked.facts.purchase_most
 
 pub half_up-requires : goal.half_up-requires
 half_up-requires c =
     omega (
       arith,
       product (goal.at.half_up-requires c).Start,
-      c.requires.line_checked.offer,
-      c.requires.line_checked.offer_most,
+      c.args.checked.facts.offer,
+      c.args.checked.facts.offer_most,
     )
 
 pub returns : goal.returns

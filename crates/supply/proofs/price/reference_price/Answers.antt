@@ -18,7 +18,7 @@ use Rattle.supply.proofs.price.reference_price.Goals.{After-peso_price-peso, In_
 -- the purchase price is in its bounds
 module _ (c : In_ok-purchase) where
   abbrev price : ℕ
-  price = line_purchase c.args.line c.args.taken
+  price = line_purchase c.args.checked.line c.args.taken
 
   given : price_within 1000000 price ≡ Some c.in_ok-purchase.purchase
   given = sym c.purchase_price.ensures ∙ c.in_ok-purchase.was
@@ -49,10 +49,10 @@ module _ (c : After-peso_price-peso) where
   turned_most = mul-le-mul {n₂ = 2000000} (omega (arith, peso, peso_most)) c.requires.numbers_checked.factor_most
 
   referred : half_up (c.peso_price-peso.result.0 * c.args.numbers.reference_factor)
-      c.args.line.purchase_factor ≡ line_reference c.args.numbers c.args.line c.args.taken
+      c.args.checked.line.purchase_factor ≡ line_reference c.args.numbers c.args.checked.line c.args.taken
   unfolding line_reference reference_of
   referred =
-      ap (λ p. half_up (p * c.args.numbers.reference_factor) c.args.line.purchase_factor)
+      ap (λ p. half_up (p * c.args.numbers.reference_factor) c.args.checked.line.purchase_factor)
       (peso ∙ ap (λ x. peso_of x c.args.numbers.dollar) (bought c.before))
 
 pub returns-in_err-purchase : goal.returns-in_err-purchase
@@ -65,7 +65,7 @@ peso_price-peso-requires-clause-purchase_within c = bought_most c
 
 pub half_up-reference-requires : goal.half_up-reference-requires
 half_up-reference-requires c =
-    omega (arith, turned_most (goal.at.half_up-reference-requires c).After-peso_price-peso, c.requires.line_checked.purchase, c.requires.line_checked.purchase_most)
+    omega (arith, turned_most (goal.at.half_up-reference-requires c).After-peso_price-peso, c.args.checked.facts.purchase, c.args.checked.facts.purchase_most)
 
 pub returns : goal.returns
 unfolding reference_answer
