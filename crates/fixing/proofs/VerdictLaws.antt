@@ -3,7 +3,7 @@
 use mathlib.Core.Path.{◌≡◌, refl, sym, ◌∙◌, ap}
 use mathlib.Core.Bool.{true, false}
 use mathlib.Core.List.{List, []}
-use Rattle.std.specs.Prelude.{None, Result, Ok, Err}
+use Rattle.std.specs.Prelude.{None, Ok, Err}
 use Prim.Native.Nat.{ℕ, ◌≤◌, ◌<◌}
 use native.Mathlib.Omega.{arith}
 use lib.ListN.{get_or}
@@ -11,7 +11,7 @@ use Rattle.numbers.specs.Checks.{verdict_of}
 use Rattle.numbers.specs.Units.{no_price, no_power, least_price, most_price}
 use Rattle.numbers.specs.declared.refusal.Refusal.{Refusal}
 use Rattle.numbers.specs.declared.refusal.Refusal.TheVariants.{OutOfRange, ValueTooLarge, WrongSector, NoLine}
-use Rattle.numbers.specs.Refusal.{Verdict, answer_by}
+use Rattle.numbers.specs.Refusal.{answer_by}
 use Rattle.numbers.specs.Required.{ValuesWithin}
 use Rattle.numbers.specs.declared.units.PesoPrice.{PesoPrice}
 use Rattle.numbers.specs.declared.units.PowerPrice.{PowerPrice}
@@ -28,7 +28,7 @@ use Rattle.supply.specs.Required.{NumbersFacts}
 use Rattle.supply.specs.declared.price.LinePrices.{LinePrices}
 use Rattle.supply.proofs.RangeLaws.{input_numbers, input_lines, input_in_force}
 use Rattle.supply.proofs.PriceLaws.{search_within, power_within, bounds_passed}
-use Rattle.supply.proofs.LinePriceLaws.{table_told, passed_bounds}
+use Rattle.supply.proofs.LinePriceLaws.{answer_passed, table_told, passed_bounds, passed_prices, passed_refused}
 use Rattle.fixing.specs.Average.{energy_list, average_list}
 use Rattle.fixing.specs.Limit.{InRange}
 use Rattle.fixing.specs.Prices.{distributors}
@@ -41,17 +41,6 @@ use Rattle.fixing.specs.Fixing.{accepted_fixing, fixing_of, InputPromise}
 use Rattle.fixing.specs.Required.{OwnLines, AcceptedLines, PowerPricedLines, RightLengths, CheckedInput}
 use Rattle.fixing.specs.declared.fix.Fixing.{Fixing}
 use Rattle.fixing.proofs.InputLaws.{own_lines, accepted_range}
-
--- what an answer says of the verdict that it is by
-answered_ok : {A : Type 0} (verdict : Verdict) (worked given : A) → Ok given ≡ answer_by verdict worked →
-    (verdict ≡ Ok tt) × (given ≡ worked)
-answered_ok (Ok _) worked given h = (refl, cc)
-answered_ok (Err refusal) worked given h = absurd (cc)
-
-answered_err : {A : Type 0} (verdict : Verdict) (worked : A) (refusal : Refusal) →
-    Err refusal ≡ answer_by verdict worked → verdict ≡ Err refusal
-answered_err (Ok _) worked refusal h = absurd (cc)
-answered_err (Err other) worked refusal h = cc
 
 -- lines are looked for before months: a distributor without line is 9, whatever months are missing
 pub no_line : (n : ℕ) (input : FixingInput) → ranged n input ≡ true → values_in_range input.series ≡ true →
@@ -152,10 +141,10 @@ module _ (n : ℕ) (input : FixingInput) where
   module _ (fixing : Fixing) (promise : InputPromise n input (Ok fixing)) where
     pub fixed_passed : input_verdict n input ≡ Ok tt
     unfolding input_verdict
-    fixed_passed = (answered_ok (verdict_of (input_checks n input)) (fixing_of n input) fixing promise.answered).0
+    fixed_passed = (answer_passed (fixing_of n input) fixing (verdict_of (input_checks n input)) (sym promise.answered)).0
 
     pub fixed_is : fixing ≡ fixing_of n input
-    fixed_is = (answered_ok (verdict_of (input_checks n input)) (fixing_of n input) fixing promise.answered).1
+    fixed_is = (answer_passed (fixing_of n input) fixing (verdict_of (input_checks n input)) (sym promise.answered)).1
 
   -- input that passed causes 6 to 9: the checks of the index table give the verdict
   module _ (ok : CheckedInput n input) where
@@ -169,33 +158,31 @@ module _ (n : ℕ) (input : FixingInput) where
         )
 
     -- what the pricing of its lines says: a refusal, or prices to go on with
-    module _ (table : List (List ℕ)) (e : table ≡ index_table input) (given : Result LinePrices Refusal)
-        (promise : LinePricesPromise table input.numbers input.lines input.in_force given) where
-      priced : given ≡ answer_by (verdict_of (input_checks n input))
-          (worked_prices (input_mean input) input.numbers input.lines input.in_force)
-      priced = rw (table_left, ← e) promise.answered
+    module _ (table : List (List ℕ)) (e : table ≡ index_table input) where
+      pub priced_refused : (refusal : Refusal) →
+          LinePricesPromise table input.numbers input.lines input.in_force (Err refusal) →
+          InputPromise n input (Err refusal)
+      priced_refused refusal promise =
+          input_refused refusal (table_left
+          ∙ passed_refused (index_table input) input.numbers input.lines input.in_force refusal (rw e at promise))
 
-      pub priced_refused : (refusal : Refusal) → given ≡ Err refusal → InputPromise n input (Err refusal)
-      priced_refused refusal v = input_refused refusal (answered_err (verdict_of (input_checks n input)) _ refusal (sym v ∙ priced))
-
-      module _ (prices : LinePrices) (v : given ≡ Ok prices) where
-        passed_checks : verdict_of (input_checks n input) ≡ Ok tt
-        passed_checks = (answered_ok (verdict_of (input_checks n input)) _ prices (sym v ∙ priced)).0
-
-        prices_are : prices ≡ worked_prices (input_mean input) input.numbers input.lines input.in_force
-        prices_are = (answered_ok (verdict_of (input_checks n input)) _ prices (sym v ∙ priced)).1
+      module _ (prices : LinePrices)
+          (promise : LinePricesPromise table input.numbers input.lines input.in_force (Ok prices)) where
+        worked : (verdict_of (table_checks (index_table input) input.numbers input.lines input.in_force) ≡ Ok tt)
+            × (prices ≡ worked_prices (input_mean input) input.numbers input.lines input.in_force)
+        worked = passed_prices (index_table input) input.numbers input.lines input.in_force prices (rw e at promise)
 
         within : beyond_line input ≡ None
         within =
-            passed_bounds (index_table input) input.numbers input.lines input.in_force (sym table_left ∙ passed_checks)
+            passed_bounds (index_table input) input.numbers input.lines input.in_force worked.0
 
         references_are : prices.references ≡ input_references input
         unfolding input_references worked_prices
-        references_are = ap (λ (p : LinePrices). p.references) prices_are
+        references_are = ap (λ (p : LinePrices). p.references) worked.1
 
         power_is : prices.power ≡ input_power_prices input
         unfolding input_power_prices worked_prices
-        power_is = ap (λ (p : LinePrices). p.power) prices_are
+        power_is = ap (λ (p : LinePrices). p.power) worked.1
 
         pub priced_accepted : AcceptedLines n prices.references input.lines
         priced_accepted = checked_accepted n input ok within prices.references references_are
@@ -210,7 +197,7 @@ module _ (n : ℕ) (input : FixingInput) where
         unfolding fixing_of input_averages input_power input_energies
         priced_worked fixing f =
             answers_by (λ _. []) (input_checks n input) (fixing_of n input) input_told (Ok fixing)
-            (rw passed_checks (ap Ok (f ∙ rw (references_are, power_is))))
+            (rw (table_left, worked.0) (ap Ok (f ∙ rw (references_are, power_is))))
 
   -- the parts of its fixing
   pub passed_fixing : fixing_of n input ≡ accepted_fixing n (input_averages n input) (input_power n input)

@@ -90,37 +90,30 @@ returns-then-not-every_energy c =
     (no_line c.args.n (input (goal.at.returns-then-not-every_energy c).Start) (passed_six (goal.at.returns-then-not-every_energy c).Else-not-input_in_range) (passed_seven (goal.at.returns-then-not-every_energy c).Else-not-values_in_range) (passed_eight (goal.at.returns-then-not-every_energy c).Else-not-sectors_allowed)
     (told_false (everyone (goal.at.returns-then-not-every_energy c).After-every_energy (own (goal.at.returns-then-not-every_energy c).Else-not-sectors_allowed)) c.if-not-every_energy.true-raw))
 
-pub price_lines-requires-clause-fact_1 : goal.price_lines-requires-clause-fact_1
-price_lines-requires-clause-fact_1 c =
-    checked_table _ (input (goal.at.price_lines-requires-clause-fact_1 c).Start) (passed_nine (goal.at.price_lines-requires-clause-fact_1 c).Else-not-every_energy) _ c.fill.ensures
-
-pub price_lines-requires-clause-fact_2 : goal.price_lines-requires-clause-fact_2
-price_lines-requires-clause-fact_2 c =
-    checked_numbers _ (input (goal.at.price_lines-requires-clause-fact_2 c).Start) (passed_nine (goal.at.price_lines-requires-clause-fact_2 c).Else-not-every_energy)
-
-pub price_lines-requires-clause-fact_3 : goal.price_lines-requires-clause-fact_3
-price_lines-requires-clause-fact_3 c =
-    (checked_own _ (input (goal.at.price_lines-requires-clause-fact_3 c).Start) (passed_nine (goal.at.price_lines-requires-clause-fact_3 c).Else-not-every_energy)).checked
-
-pub price_lines-requires-clause-fact_4 : goal.price_lines-requires-clause-fact_4
-price_lines-requires-clause-fact_4 c =
-    checked_in_force _ (input (goal.at.price_lines-requires-clause-fact_4 c).Start) (passed_nine (goal.at.price_lines-requires-clause-fact_4 c).Else-not-every_energy)
+pub price_lines-requires : goal.price_lines-requires
+price_lines-requires c =
+    let ok = passed_nine (goal.at.price_lines-requires c).Else-not-every_energy in
+    record {
+      fact_1 = checked_table _ (input (goal.at.price_lines-requires c).Start) ok _ c.fill.ensures;
+      fact_2 = checked_numbers _ (input (goal.at.price_lines-requires c).Start) ok;
+      fact_3 = (checked_own _ (input (goal.at.price_lines-requires c).Start) ok).checked;
+      fact_4 = checked_in_force _ (input (goal.at.price_lines-requires c).Start) ok;
+    }
 
 -- what the pricing of the lines says
 pub returns-in_err-priced : goal.returns-in_err-priced
 returns-in_err-priced c =
     let p = err_from_is_err_and c.from_residual.result c.from_residual.ensures.1 in
     rw (p.1, p.2)
-    (priced_refused _ (input (goal.at.returns-in_err-priced c).Start) (passed_nine (goal.at.returns-in_err-priced c).Else-not-every_energy) _ c.fill.ensures _ c.price_lines.ensures _
-    (c.in_err-priced.was))
+    (priced_refused _ (input (goal.at.returns-in_err-priced c).Start) (passed_nine (goal.at.returns-in_err-priced c).Else-not-every_energy) _ c.fill.ensures _
+    (c.in_err-priced.ensures))
 
 pub accepted-requires : goal.accepted-requires
 accepted-requires c =
     let ok = passed_nine (goal.at.accepted-requires c).Else-not-every_energy in
-    let given = c.in_ok-priced.was in
     record {
-      fact_1 = priced_accepted _ (input (goal.at.accepted-requires c).Start) ok _ c.fill.ensures _ c.price_lines.ensures _ given;
-      fact_2 = priced_power _ (input (goal.at.accepted-requires c).Start) ok _ c.fill.ensures _ c.price_lines.ensures _ given;
+      fact_1 = priced_accepted _ (input (goal.at.accepted-requires c).Start) ok _ c.fill.ensures _ c.in_ok-priced.ensures;
+      fact_2 = priced_power _ (input (goal.at.accepted-requires c).Start) ok _ c.fill.ensures _ c.in_ok-priced.ensures;
       fact_3 = c.energies-energies.ensures;
       fact_4 = ok.lengths.factors;
       fact_5 = ok.sectored;
@@ -128,8 +121,8 @@ accepted-requires c =
 
 pub returns : goal.returns
 returns c =
-    priced_worked _ (input (goal.at.returns c).Start) (passed_nine (goal.at.returns c).Else-not-every_energy) _ c.fill.ensures _ c.price_lines.ensures
-    _ (c.in_ok-priced.was) _ c.accepted.ensures
+    priced_worked _ (input (goal.at.returns c).Start) (passed_nine (goal.at.returns c).Else-not-every_energy) _ c.fill.ensures _ c.in_ok-priced.ensures
+    _ c.accepted.ensures
 
 pub values_in_range-requires : goal.values_in_range-requires
 values_in_range-requires c = search rules
