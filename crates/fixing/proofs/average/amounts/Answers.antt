@@ -14,7 +14,7 @@ use Rattle.fixing.proofs.average.amounts.Goals.{After-line_at-line}
 
 module _ (c : After-line_at-line) where
   below : c.loop-j.j < line_count c.args.lines.now
-  below = omega (arith, c.line_count-count.ensures)
+  below = omega (arith, c.line_count-j-end.ensures)
 
   -- the line's distributor
   own : c.line_at-line.result.distributor ≡ (line_of c.args.lines.now c.loop-j.j).distributor
@@ -34,13 +34,11 @@ module _ (c : After-line_at-line) where
 pub loop-j-init : goal.loop-j-init
 loop-j-init c = (
   omega arith,
-  rw c.no_amounts-amounts.ensures
-      (held_none as_total (λ e. e.0) (λ x. refl) (λ e. refl) c.args.lines.now
-      (amount_of c.args.prices c.args.lines.now)),
+  held_none as_total (λ e. e.0) (λ x. refl) (λ e. refl) c.args.lines.now (amount_of c.args.prices c.args.lines.now),
 )
 
 pub line_at-line-requires : goal.line_at-line-requires
-line_at-line-requires c = omega (arith, c.line_count-count.ensures)
+line_at-line-requires c = omega (arith, c.line_count-j-end.ensures)
 
 pub overflow_mul-amounts : goal.overflow_mul-amounts
 overflow_mul-amounts c = omega (arith, product (goal.at.overflow_mul-amounts c).After-line_at-line, product_small (goal.at.overflow_mul-amounts c).After-line_at-line)
@@ -72,7 +70,7 @@ pub returns : goal.returns
 unfolding lines_amount
 returns c =
     let a = c.args in
-    let e : c.loop-j.j ≡ line_count a.lines.now = omega (arith, c.line_count-count.ensures) in
+    let e : c.loop-j.j ≡ line_count a.lines.now = omega (arith, c.line_count-j-end.ensures) in
     held_done as_total (λ x. x.0) (λ x. refl) (λ x. refl) a.lines.now (amount_of a.prices a.lines.now)
     c.loop-j.amounts (rw e at c.loop-j.invariant.1)
 

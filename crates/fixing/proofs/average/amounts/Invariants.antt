@@ -6,6 +6,3 @@ use Rattle.fixing.proofs.average.amounts.Given as goal
 
 abbrev pub invariant-loop-j : goal.invariant-loop-j
 invariant-loop-j l = (l.j ≤ line_count l.lines) × AmountsHeld l.prices l.lines l.j l.amounts
-
-abbrev pub decreases-loop-j : goal.decreases-loop-j
-decreases-loop-j l = l.count - l.j

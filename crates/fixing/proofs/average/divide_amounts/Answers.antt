@@ -11,8 +11,7 @@ use Rattle.fixing.proofs.average.divide_amounts.Invariants.{average_in}
 pub loop-i-init : goal.loop-i-init
 loop-i-init c = (
   omega arith,
-  c.no_prices-averages.ensures ∙ filled_none most_distributors no_price
-      (average_in c.args.amounts c.args.energies),
+  filled_none most_distributors no_price (average_in c.args.amounts c.args.energies),
 )
 
 pub half_up-requires : goal.half_up-requires

@@ -18,6 +18,3 @@ average_in amounts energies i = record { 0 = half_up (get_or amounts i no_total)
 abbrev pub invariant-loop-i : goal.invariant-loop-i
 invariant-loop-i l =
     (l.i ≤ l.n) × (l.averages ≡ filled_below most_distributors no_price l.i (average_in l.amounts l.energies))
-
-abbrev pub decreases-loop-i : goal.decreases-loop-i
-decreases-loop-i l = l.n - l.i

@@ -12,7 +12,7 @@ use Rattle.fixing.proofs.average.energies.Goals.{After-line_at-line}
 
 module _ (c : After-line_at-line) where
   below : c.loop-j.j < line_count c.args.lines.now
-  below = omega (arith, c.line_count-count.ensures)
+  below = omega (arith, c.line_count-j-end.ensures)
 
   -- the line's words
   own : c.line_at-line.result.distributor ≡ (line_of c.args.lines.now c.loop-j.j).distributor
@@ -27,13 +27,11 @@ module _ (c : After-line_at-line) where
 pub loop-j-init : goal.loop-j-init
 loop-j-init c = (
   omega arith,
-  rw c.no_energies-energies.ensures
-      (held_none as_energy (λ e. e.0) (λ x. refl) (λ e. refl) c.args.lines.now
-      (energy_of c.args.lines.now)),
+  held_none as_energy (λ e. e.0) (λ x. refl) (λ e. refl) c.args.lines.now (energy_of c.args.lines.now),
 )
 
 pub line_at-line-requires : goal.line_at-line-requires
-line_at-line-requires c = omega (arith, c.line_count-count.ensures)
+line_at-line-requires c = omega (arith, c.line_count-j-end.ensures)
 
 pub overflow_add-energies : goal.overflow_add-energies
 overflow_add-energies c =
@@ -62,7 +60,7 @@ pub returns : goal.returns
 unfolding energy_list supplied_energy
 returns c =
     let lines = c.args.lines.now in
-    let e : c.loop-j.j ≡ line_count lines = omega (arith, c.line_count-count.ensures) in
+    let e : c.loop-j.j ≡ line_count lines = omega (arith, c.line_count-j-end.ensures) in
     held_done as_energy (λ x. x.0) (λ x. refl) (λ x. refl) lines (energy_of lines) c.loop-j.energies
     (rw e at c.loop-j.invariant.1)
 

@@ -6,6 +6,3 @@ use Rattle.fixing.proofs.average.energies.Given as goal
 
 abbrev pub invariant-loop-j : goal.invariant-loop-j
 invariant-loop-j l = (l.j ≤ line_count l.lines) × EnergiesHeld l.lines l.j l.energies
-
-abbrev pub decreases-loop-j : goal.decreases-loop-j
-decreases-loop-j l = l.count - l.j
