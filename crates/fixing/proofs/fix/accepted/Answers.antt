@@ -24,10 +24,10 @@ averages-averages-requires c =
 pub power_averages-power-requires : goal.power_averages-power-requires
 power_averages-power-requires c =
     record {
-      fact_1 = c.requires.fact_1.few;
-      fact_2 = c.requires.fact_2;
-      fact_3 = c.requires.fact_3;
-      fact_4 = c.requires.fact_1.supplied;
+      few = c.requires.fact_1.few;
+      priced = c.requires.fact_2;
+      supplied = c.requires.fact_3;
+      everyone = c.requires.fact_1.supplied;
     }
 
 pub fix_prices-prices-requires : goal.fix_prices-prices-requires
