@@ -1,10 +1,10 @@
 -- What the power of lines comes to is small enough, and its averages are the definition's. Assumes nothing.
-use mathlib.Core.Path.{◌≡◌, refl, sym, ◌∙◌, ap}
-use mathlib.Core.Bool.{Bool, true, false, cond}
+use mathlib.Core.Path.{◌≡◌, refl, ◌∙◌, ap}
+use mathlib.Core.Bool.{cond}
 use mathlib.Core.List.{List}
-use Prim.Native.Nat.{ℕ, ◌+◌, ◌*◌, ◌/◌, ◌%◌, ◌≤◌, ◌<◌}
+use Prim.Native.Nat.{ℕ, ◌*◌, ◌≤◌, ◌<◌}
 use native.Mathlib.Omega.{arith}
-use native.Mathlib.Nat.{mul-le-mul, div-add-mod}
+use native.Mathlib.Nat.{mul-le-mul}
 use lib.Dec.{eqb}
 use lib.ListN.{get_or}
 use Rattle.numbers.specs.Rounding.{half_up}
@@ -12,8 +12,7 @@ use Rattle.numbers.specs.Sizes.{most_distributors}
 use Rattle.numbers.specs.Units.{no_power}
 use Rattle.numbers.specs.declared.units.PowerPrice.{PowerPrice}
 use Rattle.numbers.proofs.ListLaws.{filled_at}
-use Rattle.numbers.proofs.SumLaws.{sum_same, sum_add, sum_scale}
-use Rattle.numbers.proofs.RoundingLaws.{half_up_whole}
+use Rattle.numbers.proofs.SumLaws.{sum_same}
 use Rattle.supply.specs.Line.{most_lines, line_count, line_of}
 use Rattle.supply.specs.Price.{power_price, power_list}
 use Rattle.supply.specs.Required.{most_power_in_pesos}

@@ -51,6 +51,10 @@ pub record Divisible (n : ℕ) (amounts : List UnsignedPesos) (energies : List E
   pub some : (i : ℕ) → i < n → 1 ≤ (get_or energies i no_energy).0
   pub most : (i : ℕ) → i < n → (get_or energies i no_energy).0 < 2 ^ 62
 
+-- prices of n distributors, each of at most so much
+abbrev pub PricesWithin : ℕ → ℕ → List PesoPrice → Type 0
+PricesWithin most n prices = (i : ℕ) → i < n → (get_or prices i no_price).0 ≤ most
+
 -- distributors in range, and their limit
 pub record Limited (d : Distributors) (price : PesoPrice) : Type 0 where
   pub range : InRange d

@@ -1,6 +1,6 @@
 -- The invariant: each place holds what the lines passed come to for its distributor.
 use mathlib.Core.Path.{◌≡◌, refl, ap}
-use Prim.Native.Nat.{◌*◌, ◌≤◌, ◌<◌}
+use Prim.Native.Nat.{◌*◌, ◌<◌}
 use native.Mathlib.Omega.{arith}
 use Rattle.numbers.specs.Sizes.{most_distributors}
 use Rattle.supply.specs.Line.{line_count}
