@@ -73,10 +73,10 @@ pub(crate) fn averages(
     lines: &[u64],
     energies: [Energy; MOST_DISTRIBUTORS],
 ) -> [PesoPrice; MOST_DISTRIBUTORS]
-    requires fact_1 { n ≤ most_distributors }
-    requires fact_2 { PricedLines references lines.now }
-    requires fact_3 { energies ≡ energy_list lines.now }
-    requires fact_4 { everyone_supplied n lines.now ≡ true }
+    requires few { n ≤ most_distributors }
+    requires priced { PricedLines references lines.now }
+    requires supplied { energies ≡ energy_list lines.now }
+    requires everyone { everyone_supplied n lines.now ≡ true }
     ensures { result ≡ average_list n references lines.now }
 {
     divide_amounts(n, amounts(references, lines), energies)

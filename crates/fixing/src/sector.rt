@@ -23,9 +23,9 @@ const MOST_FACTOR: u64 = 50000;
 
 // Whether distributor i has a sector.
 fn has_sector(n: usize, sectors: &[u64], i: usize) -> bool
-    requires fact_1 { n ≤ most_distributors }
-    requires fact_2 { length sectors.now ≡ n * sector_count }
-    requires fact_3 { i < n }
+    requires few { n ≤ most_distributors }
+    requires lent { length sectors.now ≡ n * sector_count }
+    requires below { i < n }
     ensures { result ≡ has_sector sectors.now i }
 {
     (0..SECTORS).any(|s| sectors[i * SECTORS + s] != 0)
@@ -33,8 +33,8 @@ fn has_sector(n: usize, sectors: &[u64], i: usize) -> bool
 
 // Whether every distributor has a sector.
 fn all_have_sectors(n: usize, sectors: &[u64]) -> bool
-    requires fact_1 { n ≤ most_distributors }
-    requires fact_2 { length sectors.now ≡ n * sector_count }
+    requires few { n ≤ most_distributors }
+    requires lent { length sectors.now ≡ n * sector_count }
     ensures { result ≡ all_below n (has_sector sectors.now) }
 {
     (0..n).all(|i| has_sector(n, sectors, i))
@@ -42,8 +42,8 @@ fn all_have_sectors(n: usize, sectors: &[u64]) -> bool
 
 // Whether no sector factor is too large and every distributor has a sector.
 pub(crate) fn sectors_allowed(n: usize, sectors: &[u64]) -> bool
-    requires fact_1 { n ≤ most_distributors }
-    requires fact_2 { length sectors.now ≡ n * sector_count }
+    requires few { n ≤ most_distributors }
+    requires lent { length sectors.now ≡ n * sector_count }
     ensures { result ≡ sectors_allowed n sectors.now }
 {
     all_between(0, MOST_FACTOR, sectors) && all_have_sectors(n, sectors)
@@ -51,8 +51,8 @@ pub(crate) fn sectors_allowed(n: usize, sectors: &[u64]) -> bool
 
 // The charge of a sector: the distributor's charge times the factor, in ten-thousandths.
 fn sector_charge(charge: i64, factor: u64) -> i64
-    requires fact_1 { nat_abs charge ≤ most_price }
-    requires fact_2 { factor ≤ most_factor }
+    requires charge { nat_abs charge ≤ most_price }
+    requires factor { factor ≤ most_factor }
     ensures { result ≡ sector_charge charge factor }
 {
     half_away(charge * difference(factor, 0), 10000)

@@ -1,7 +1,7 @@
 -- The invariant: the averages passed are filled in.
 use mathlib.Core.Path.{◌≡◌}
 use mathlib.Core.List.{List}
-use Prim.Native.Nat.{ℕ, ◌-◌, ◌≤◌}
+use Prim.Native.Nat.{ℕ, ◌≤◌}
 use lib.ListN.{get_or}
 use Rattle.numbers.specs.Sizes.{most_distributors}
 use Rattle.numbers.specs.Bounded.{filled_below}

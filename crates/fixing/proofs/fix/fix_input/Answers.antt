@@ -112,11 +112,11 @@ pub accepted-requires : goal.accepted-requires
 accepted-requires c =
     let ok = passed_nine (goal.at.accepted-requires c).Else-not-every_energy in
     record {
-      fact_1 = priced_accepted _ (input (goal.at.accepted-requires c).Start) ok _ c.fill.ensures _ c.in_ok-priced.ensures;
-      fact_2 = priced_power _ (input (goal.at.accepted-requires c).Start) ok _ c.fill.ensures _ c.in_ok-priced.ensures;
-      fact_3 = c.energies-energies.ensures;
-      fact_4 = ok.lengths.factors;
-      fact_5 = ok.sectored;
+      checked = priced_accepted _ (input (goal.at.accepted-requires c).Start) ok _ c.fill.ensures _ c.in_ok-priced.ensures;
+      power_priced = priced_power _ (input (goal.at.accepted-requires c).Start) ok _ c.fill.ensures _ c.in_ok-priced.ensures;
+      supplied = c.energies-energies.ensures;
+      lent = ok.lengths.factors;
+      allowed = ok.sectored;
     }
 
 pub returns : goal.returns

@@ -29,8 +29,8 @@ loop-k-init c = (omega arith, c.no_charges-force.ensures ∙ places_none (sector
 pub sector_charge-requires : goal.sector_charge-requires
 sector_charge-requires c =
     record {
-      fact_1 = rw (unread c.requires c.loop-k.k (omega arith)) (c.requires.charge (c.loop-k.k / 8) (omega (arith, c.requires.lent)));
-      fact_2 = c.requires.factors c.loop-k.k (omega (arith, c.requires.lent));
+      charge = rw (unread c.requires c.loop-k.k (omega arith)) (c.requires.charge (c.loop-k.k / 8) (omega (arith, c.requires.lent)));
+      factor = c.requires.factors c.loop-k.k (omega (arith, c.requires.lent));
     }
 
 pub loop-k-preserved : goal.loop-k-preserved
