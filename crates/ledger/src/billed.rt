@@ -37,12 +37,9 @@ fn split_charges(
     ensures { result ≡ split_charges n days before old new }
 {
     let mut force = no_charges();
-    let mut k: usize = 0;
-    while k < n * SECTORS {
-        let charge = split_charge(days, before, old.charges[k], new.charges[k]);
+    for k in 0..n * SECTORS {
         force.present[k] = old.present[k] | new.present[k];
-        force.charges[k] = charge;
-        k += 1;
+        force.charges[k] = split_charge(days, before, old.charges[k], new.charges[k]);
     }
     force
 }

@@ -51,14 +51,7 @@ impl Ledger {
     pub(crate) fn any_settled(self) -> bool
         ensures { result ≡ any_settled self }
     {
-        let mut i: usize = 0;
-        while i < MOST_DISTRIBUTORS {
-            if self.counts[i] != 0 {
-                return true;
-            }
-            i += 1;
-        }
-        false
+        self.counts.iter().any(|count| *count != 0)
     }
 
     // The month after the last settled one.
