@@ -1,14 +1,14 @@
 // The open calls of fixing, regular and interim: no requires. Both make the same fixing, an interim one with a price in
 // force for each line. Causes 2, 3, 4 and 16 are the ledger's, the others the fixing's; the prices and the power prices
 // are written only when all of them are passed.
-ghost use Rattle.std.specs.Prelude.{◌≡◌, true, false, [], ◌*◌, ◌≤◌, ◌<◌, ◌^◌, length, get_or, option_copied};
+ghost use Rattle.std.specs.Prelude.{◌≡◌, true, false, [], ◌*◌, ◌≤◌, ◌<◌, ◌^◌, length, get_or, is_some, unwrap_or, option_copied};
 ghost use Rattle.numbers.specs.Bounded.{list_below};
 ghost use Rattle.numbers.specs.Units.{no_power};
 ghost use Rattle.series.specs.Series.{last_month};
 ghost use Rattle.ledger.specs.Ledger.{any_settled, next_month, fixed_ledger};
 ghost use Rattle.ledger.specs.Turn.{fixing_turn};
 ghost use Rattle.numbers.specs.Sizes.{most_distributors};
-ghost use Rattle.ledger.specs.Fix.{fixing_call_of, lent_call, lines_whole, call_lengths, worked_answer};
+ghost use Rattle.ledger.specs.Fix.{fixing_call_of, lent_call, lines_whole, in_force_length, call_lengths, worked_answer};
 ghost use Rattle.ledger.specs.Fix.{price_part, price_word};
 ghost use Rattle.ledger.specs.Fix.{accepted_values, FixingPromise};
 ghost use Rattle.ledger.specs.Fix.{FixingCall, HandedBack, FixingAccepted, SameButPowerList};
@@ -74,7 +74,18 @@ fn lines_whole(lines: &[u64]) -> bool
     (lines.len() % LINE_WORDS == 0) & is_between(1, MOST_LINES as u64, line_count(lines) as u64)
 }
 
-// Whether every lent list has its length: of the prices in force one for each line.
+// Whether the prices in force of an interim fixing are one for each line.
+fn in_force_right(lines: &[u64], in_force: Option<&[u64]>) -> bool
+    ensures { result ≡ in_force_length (is_some (option_copied in_force.entry)) lines.now
+        (unwrap_or (option_copied in_force.entry) []) }
+{
+    match in_force {
+        Some(prices) => prices.len() == line_count(lines),
+        None => true,
+    }
+}
+
+// Whether every lent list has its length.
 fn lengths_right(n: usize, input: Input, prices: &[i64], power: &[u64]) -> bool
     requires { n ≤ most_distributors }
     ensures { result ≡ call_lengths n (lent_call input.entry.numbers input.entry.series.now input.entry.lines.now
@@ -85,7 +96,7 @@ fn lengths_right(n: usize, input: Input, prices: &[i64], power: &[u64]) -> bool
         & (input.sectors.len() == n * SECTORS)
         & (prices.len() == n * 3)
         & (power.len() == n)
-        & input.in_force.is_none_or(|prices| prices.len() == line_count(input.lines))
+        & in_force_right(input.lines, input.in_force)
 }
 
 // Whether the fixing's month is due.
@@ -98,9 +109,9 @@ fn in_turn(ledger: Ledger, month: u64) -> bool
 
 // A distributor's word of the price list: average, final price or charge.
 fn price_part(average: PesoPrice, last: PesoPrice, charge: i64, part: usize) -> i64
-    requires fact_1 { average.0 < 2 ^ 62 }
-    requires fact_2 { last.0 < 2 ^ 62 }
-    requires fact_3 { part < 3 }
+    requires average_small { average.0 < 2 ^ 62 }
+    requires last_small { last.0 < 2 ^ 62 }
+    requires part_below { part < 3 }
     ensures { result ≡ price_part average.0 last.0 charge part }
 {
     match part {
@@ -118,9 +129,9 @@ fn write_prices(
     charges: [i64; MOST_DISTRIBUTORS],
     prices: &mut [i64],
 )
-    requires fact_1 { n ≤ most_distributors }
-    requires fact_2 { length prices.old ≡ n * 3 }
-    requires fact_3 { PricesSmall averages finals }
+    requires few { n ≤ most_distributors }
+    requires length { length prices.old ≡ n * 3 }
+    requires small { PricesSmall averages finals }
     ensures { prices.new ≡ list_below (n * 3) (price_word averages finals charges) }
 {
     for (k, price) in prices.iter_mut().enumerate() {

@@ -1,9 +1,8 @@
 // The open call of joining: no requires. Causes 2 and 15 in their order.
 ghost use Rattle.std.specs.Prelude.{◌≡◌, ◌<◌};
-ghost use Rattle.numbers.specs.Refusal.{answer_by};
 ghost use Rattle.numbers.specs.Sizes.{most_distributors};
 ghost use Rattle.ledger.specs.Ledger.{joined_ledger};
-ghost use Rattle.ledger.specs.Join.{join_verdict, JoinPromise};
+ghost use Rattle.ledger.specs.Join.{joined_answer, JoinPromise};
 
 use crate::ledger::{Ledger, Outcome, refused};
 use crate::sound::is_sound;
@@ -35,7 +34,7 @@ impl Ledger {
 
 // The ledger with one distributor more: causes 2 and 15 in their order.
 fn joined(ledger: Ledger) -> Result<Ledger, Refusal>
-    ensures { result ≡ answer_by (join_verdict ledger) (joined_ledger ledger) }
+    ensures { result ≡ joined_answer ledger }
 {
     if !is_sound(ledger) {
         return Err(Refusal::Unsound);

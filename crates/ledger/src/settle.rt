@@ -71,8 +71,8 @@ fn in_turn(ledger: Ledger, month: u64) -> bool
 
 // The transfers, in one loop that cannot fail.
 fn write_transfers(n: usize, amounts: [Pesos; MOST_DISTRIBUTORS], transfers: &mut [i64])
-    requires fact_1 { n ≤ most_distributors }
-    requires fact_2 { length transfers.old ≡ n }
+    requires few { n ≤ most_distributors }
+    requires length { length transfers.old ≡ n }
     ensures { transfers.new ≡ list_below n (money_at amounts) }
 {
     for (i, transfer) in transfers.iter_mut().enumerate() {
