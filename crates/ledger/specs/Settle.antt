@@ -2,11 +2,10 @@
 -- and the side that clears (W-203 of document 02). Assumes nothing.
 use Rattle.std.specs.Prelude.{◌≡◌, Result, Bool, cond, ◌&&◌, List, [], ◌∷◌, ℕ, ◌*◌, eqb, length, get_or, ℤ, pos, neg_ℤ}
 use Rattle.numbers.specs.Bounded.{list_below}
-use Rattle.numbers.specs.Refusal.{answer_by, is_passed}
+use Rattle.numbers.specs.Refusal.{Verdict, answer_by, is_passed}
 use Rattle.numbers.specs.Checks.{Check, check, verdict_of, Judged}
 use Rattle.numbers.specs.declared.refusal.Refusal.TheVariants.{Unsound, WrongLength, OutOfTurn, NoFixing, WrongReading}
 use Rattle.numbers.specs.declared.refusal.Refusal.TheVariants.{PositionBeyond}
-use Rattle.numbers.specs.Refusal.{Verdict}
 use Rattle.numbers.specs.declared.refusal.Refusal.{Refusal}
 use Rattle.numbers.specs.declared.units.Pesos.{Pesos}
 use Rattle.settlement.specs.Amount.{billing_in_range}

@@ -15,10 +15,10 @@ use numbers::sizes::SECTORS;
 
 // The charge of a sector, by the days before and those that remain.
 fn split_charge(days: u64, before: u64, old: i64, new: i64) -> i64
-    requires fact_1 { days ≤ most_days }
-    requires fact_2 { before < days }
-    requires fact_3 { nat_abs old ≤ most_charge }
-    requires fact_4 { nat_abs new ≤ most_charge }
+    requires short { days ≤ most_days }
+    requires some { before < days }
+    requires old_within { nat_abs old ≤ most_charge }
+    requires new_within { nat_abs new ≤ most_charge }
     ensures { result ≡ split_charge days before old new }
 {
     let weighed = old * difference(before, 0) + new * difference(days - before, 0);

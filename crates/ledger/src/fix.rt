@@ -40,7 +40,7 @@ pub struct FixingValues {
 }
 
 // What a fixing is worked from: its numbers, the lists lent for it, and for an interim one a price in force for each
-// line.
+// line. The lists have one lifetime, the shortest, as the open calls take them: the borrow checker asks it of a struct.
 #[derive(Clone, Copy)]
 struct Input<'a> {
     numbers: FixingNumbers,
@@ -123,16 +123,14 @@ fn price_part(average: PesoPrice, last: PesoPrice, charge: i64, part: usize) -> 
 
 // The whole price list, distributor by distributor, in one loop that cannot fail.
 fn write_prices(
-    n: usize,
     averages: [PesoPrice; MOST_DISTRIBUTORS],
     finals: [PesoPrice; MOST_DISTRIBUTORS],
     charges: [i64; MOST_DISTRIBUTORS],
     prices: &mut [i64],
 )
-    requires few { n ≤ most_distributors }
-    requires length { length prices.old ≡ n * 3 }
+    requires few { length prices.old ≤ most_distributors * 3 }
     requires small { PricesSmall averages finals }
-    ensures { prices.new ≡ list_below (n * 3) (price_word averages finals charges) }
+    ensures { prices.new ≡ list_below (length prices.old) (price_word averages finals charges) }
 {
     for (k, price) in prices.iter_mut().enumerate() {
         let i = k / 3;
@@ -189,7 +187,14 @@ fn worked_fixing(
         return Err(Refusal::WrongDay);
     }
     let in_force = input.in_force.unwrap_or(&[]);
-    fix_input(n, numbers, input.series, input.lines, input.sectors, in_force)
+    fix_input(
+        n,
+        numbers,
+        input.series,
+        input.lines,
+        input.sectors,
+        in_force,
+    )
 }
 
 // A fixing, regular or interim. What is accepted is written, and it is in force in the ledger.
@@ -206,9 +211,8 @@ fn make_fixing(
 {
     match worked_fixing(ledger, input, prices, power) {
         Ok(fixing) => {
-            let n = ledger.n;
             let fixed = fixing.prices;
-            write_prices(n, fixing.averages, fixed.finals, fixing.charges, prices);
+            write_prices(fixing.averages, fixed.finals, fixing.charges, prices);
             write_power(fixing.power, power);
             Outcome {
                 answer: Ok(accepted(fixed)),

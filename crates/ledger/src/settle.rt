@@ -70,10 +70,9 @@ fn in_turn(ledger: Ledger, month: u64) -> bool
 }
 
 // The transfers, in one loop that cannot fail.
-fn write_transfers(n: usize, amounts: [Pesos; MOST_DISTRIBUTORS], transfers: &mut [i64])
-    requires few { n ≤ most_distributors }
-    requires length { length transfers.old ≡ n }
-    ensures { transfers.new ≡ list_below n (money_at amounts) }
+fn write_transfers(amounts: [Pesos; MOST_DISTRIBUTORS], transfers: &mut [i64])
+    requires { length transfers.old ≤ most_distributors }
+    ensures { transfers.new ≡ list_below (length transfers.old) (money_at amounts) }
 {
     for (i, transfer) in transfers.iter_mut().enumerate() {
         *transfer = amounts[i].0;
@@ -130,7 +129,7 @@ pub fn settle(
 {
     match settled(ledger, month, readings, losses, transfers) {
         Ok(settled) => {
-            write_transfers(ledger.n, settled.transfers, transfers);
+            write_transfers(settled.transfers, transfers);
             Outcome {
                 answer: Ok(()),
                 ledger: ledger.book_month(month, settled.balances),

@@ -17,8 +17,7 @@ write_prices-requires c =
     let l = call (goal.at.write_prices-requires c).Start in
     let p = made_passed _ l _ c.in-Ok.ensures in
     record {
-      few = sound_few _ p.whole;
-      length = prices_length c.args.ledger l p.lengths;
+      few = omega (arith, sound_few _ p.whole, prices_length c.args.ledger l p.lengths);
       small = made_small _ l _ c.in-Ok.ensures;
     }
 
@@ -34,7 +33,8 @@ returns-in-Ok c =
     let l = call (goal.at.returns-in-Ok c).Start in
     let p = made_passed _ l _ c.in-Ok.ensures in
     rw c.accepted.ensures
-    (fixed_accepted _ l _ c.in-Ok.ensures _ _ _ c.book_fixing.ensures c.write_prices.ensures
+    (fixed_accepted _ l _ c.in-Ok.ensures _ _ _ c.book_fixing.ensures
+    (rw (prices_length c.args.ledger l p.lengths) at c.write_prices.ensures)
     (rw (power_length c.args.ledger l p.lengths) at c.write_power.ensures))
 
 pub returns-in-Err : goal.returns-in-Err

@@ -1,5 +1,5 @@
 -- The invariant: the first k words are the definition's.
-use mathlib.Core.Path.{◌≡◌, ◌∙◌, ap}
+use mathlib.Core.Path.{refl, ◌≡◌, ◌∙◌, ap}
 use Prim.Native.Nat.{◌/◌, ◌%◌}
 use native.Mathlib.Omega.{arith}
 use lib.ListN.{get_or}
@@ -14,7 +14,7 @@ use Rattle.ledger.specs.Fix.{price_part, price_word}
 use Rattle.ledger.proofs.fix.write_prices.Goals as goal
 
 pub loop-k-init : goal.loop-k-init
-loop-k-init c = written_none _ _ _ c.requires.length
+loop-k-init c = written_none _ _ _ refl
 
 pub price_part-requires : goal.price_part-requires
 price_part-requires c =
