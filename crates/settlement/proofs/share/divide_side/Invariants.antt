@@ -1,6 +1,6 @@
 -- The invariant: floors and remainders of those passed are written; left is the transferred total less these floors.
 use mathlib.Core.Path.{◌≡◌}
-use Prim.Native.Nat.{◌≤◌, ◌-◌}
+use Prim.Native.Nat.{◌≤◌}
 use lib.ListN.{get_or}
 use Rattle.numbers.specs.Sizes.{most_distributors}
 use Rattle.numbers.specs.Bounded.{sum_below, filled_below}
@@ -9,9 +9,6 @@ use Rattle.settlement.proofs.share.divide_side.Given as goal
 
 abbrev pub invariant-loop-i : goal.invariant-loop-i
 invariant-loop-i l =
-    (l.i ≤ l.n) × (l.floors ≡ filled_below most_distributors 0 l.i (share_floor l.n (λ j. get_or l.sizes j 0) l.transferred)) ×
+    (l.floors ≡ filled_below most_distributors 0 l.i (share_floor l.n (λ j. get_or l.sizes j 0) l.transferred)) ×
     (l.remainders ≡ filled_below most_distributors 0 l.i (share_remainder l.n (λ j. get_or l.sizes j 0) l.transferred)) ×
     (l.left ≡ l.transferred - sum_below l.i (share_floor l.n (λ j. get_or l.sizes j 0) l.transferred))
-
-abbrev pub decreases-loop-i : goal.decreases-loop-i
-decreases-loop-i l = l.n - l.i

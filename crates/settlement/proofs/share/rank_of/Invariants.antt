@@ -12,6 +12,3 @@ counted remainder i j = cond (comes_before remainder j i) 1 0
 
 abbrev pub invariant-loop-j : goal.invariant-loop-j
 invariant-loop-j l = Summed l.n (counted (λ k. get_or l.remainders k 0) l.i) l.rank l.j
-
-abbrev pub decreases-loop-j : goal.decreases-loop-j
-decreases-loop-j l = l.n - l.j
