@@ -21,7 +21,6 @@ use Rattle.fixing.specs.Fixing.{accepted_fixing}
 use Rattle.fixing.specs.declared.prices.FixedPrices.{FixedPrices}
 use Rattle.fixing.specs.declared.sector.SectorCharges.{SectorCharges}
 use Rattle.fixing.specs.declared.fix.Fixing.{Fixing}
-use Rattle.std.specs.Prelude.{Ok, Err}
 use Rattle.fixing.proofs.LimitLaws.{final_most, charge_size}
 use Rattle.fixing.proofs.SectorLaws.{allowed_factor, sectors_same}
 
@@ -78,7 +77,6 @@ module _ (n : ℕ) (averages : List PesoPrice) (energies : List Energy) (r : InR
       pub fixing_is : (power : List PowerPrice) (sectors : List ℕ) (force : SectorCharges) →
           force ≡ sector_charges n (λ i. get_or list i (pos 0)) sectors →
           ◌≡◌ {A = Fixing} (record {
-            verdict = (Ok tt);
             averages = averages;
             power = power;
             prices = answer;

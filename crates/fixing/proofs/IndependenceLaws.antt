@@ -1,5 +1,5 @@
 -- What is worked from energy does not depend on power (W-204 of document 02): inputs that agree in all but the lines'
--- power words have the same averages and energies, and so, where both pass, the same prices, charges and sector
+-- power words have the same averages and energies, and so the same prices, charges and sector
 -- charges. Assumes nothing.
 use mathlib.Core.Path.{◌≡◌, ap, ap₂}
 use mathlib.Core.List.{List}
@@ -8,7 +8,6 @@ use lib.ListN.{get_or}
 use Rattle.numbers.specs.Rounding.{half_up}
 use Rattle.numbers.specs.Units.{no_price}
 use Rattle.numbers.specs.Sizes.{most_distributors}
-use Rattle.std.specs.Prelude.{Ok, Err}
 use Rattle.numbers.specs.declared.units.PesoPrice.{PesoPrice}
 use Rattle.numbers.specs.declared.units.Energy.{Energy}
 use Rattle.numbers.proofs.SumLaws.{sum_same}
@@ -20,7 +19,7 @@ use Rattle.fixing.specs.Average.{average_list}
 use Rattle.fixing.specs.Limit.{charge}
 use Rattle.fixing.specs.Prices.{distributors, fixed_prices, charge_list}
 use Rattle.fixing.specs.Sector.{sector_charges}
-use Rattle.fixing.specs.Input.{FixingInput, SameButPower, input_mean, input_verdict, input_references, input_averages}
+use Rattle.fixing.specs.Input.{FixingInput, SameButPower, input_mean, input_references, input_averages}
 use Rattle.fixing.specs.Input.{input_energies, input_distributors}
 use Rattle.fixing.specs.Fixing.{accepted_fixing, fixing_of}
 use Rattle.fixing.specs.declared.fix.Fixing.{Fixing}
@@ -75,11 +74,10 @@ module _ (n : ℕ) (one other : FixingInput) (same : SameButPower one other) whe
   unfolding input_distributors
   distributors_same = ap₂ (distributors n) averages_same energies_same
 
-  pub fixing_same : input_verdict n one ≡ Ok tt → input_verdict n other ≡ Ok tt →
-      SameEnergyParts (fixing_of n one) (fixing_of n other)
+  pub fixing_same : SameEnergyParts (fixing_of n one) (fixing_of n other)
   unfolding accepted_fixing input_distributors
-  fixing_same p q =
-      rw (passed_fixing n one p, passed_fixing n other q)
+  fixing_same =
+      rw (passed_fixing n one, passed_fixing n other)
       (record {
         averages = averages_same;
         prices = ap fixed_prices distributors_same;

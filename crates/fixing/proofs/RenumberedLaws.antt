@@ -12,7 +12,6 @@ use Rattle.numbers.specs.Renumbering.{Renumbering, place_by, moved_along}
 use Rattle.numbers.specs.Rounding.{half_up}
 use Rattle.numbers.specs.Sizes.{most_distributors, sector_count, sector_places}
 use Rattle.numbers.specs.Units.{no_price, no_power, no_energy}
-use Rattle.std.specs.Prelude.{Ok, Err}
 use Rattle.numbers.specs.declared.units.PesoPrice.{PesoPrice}
 use Rattle.numbers.specs.declared.units.PowerPrice.{PowerPrice}
 use Rattle.numbers.specs.declared.units.Energy.{Energy}
@@ -34,7 +33,7 @@ use Rattle.fixing.specs.Limit.{Distributors, charge}
 use Rattle.fixing.specs.Prices.{distributors, final_prices, charge_list, fixed_prices}
 use Rattle.fixing.specs.Sector.{most_factor, factor_at, sector_present, has_sector, sectors_allowed, sector_charge}
 use Rattle.fixing.specs.Sector.{place_charge, filled_places, sector_charges, no_charges, renumbered_charges}
-use Rattle.fixing.specs.Input.{FixingInput, index_table, input_mean, input_checks, input_verdict}
+use Rattle.fixing.specs.Input.{FixingInput, index_table, input_mean, input_checks}
 use Rattle.fixing.specs.Input.{input_references, input_power_prices, input_power, input_averages, input_energies}
 use Rattle.fixing.specs.Fixing.{accepted_fixing, fixing_of}
 use Rattle.fixing.specs.declared.fix.Fixing.{Fixing}
@@ -208,12 +207,11 @@ module _ {n : ℕ} (r : Renumbering n) (one other : FixingInput) (h : Renumbered
           energy = energies_renumbered;
         }
 
-    pub fixing_renumbered : input_verdict n one ≡ Ok tt → input_verdict n other ≡ Ok tt →
-        RenumberedFixing r (fixing_of n one) (fixing_of n other)
+    pub fixing_renumbered : RenumberedFixing r (fixing_of n one) (fixing_of n other)
     unfolding accepted_fixing fixed_prices final_prices charge_list
-    fixing_renumbered p q =
+    fixing_renumbered =
         let d = distributors_renumbered in
-        rw (passed_fixing n one p, passed_fixing n other q)
+        rw (passed_fixing n one, passed_fixing n other)
         (record {
           average = averages_renumbered;
           final =

@@ -2,7 +2,7 @@
 -- where a check is met, and that its verdict has the number and values of the checks. Assumes nothing.
 use mathlib.Core.Path.{◌≡◌, refl, sym, ◌∙◌, ap}
 use mathlib.Core.Bool.{true, false}
-use mathlib.Core.List.{List}
+use mathlib.Core.List.{List, []}
 use Rattle.std.specs.Prelude.{None, Ok, Err}
 use Prim.Native.Nat.{ℕ, ◌≤◌, ◌<◌}
 use native.Mathlib.Omega.{arith}
@@ -11,24 +11,24 @@ use Rattle.numbers.specs.Checks.{verdict_of}
 use Rattle.numbers.specs.Units.{no_price, no_power, least_price, most_price}
 use Rattle.numbers.specs.declared.refusal.Refusal.{Refusal}
 use Rattle.numbers.specs.declared.refusal.Refusal.TheVariants.{OutOfRange, ValueTooLarge, WrongSector, NoLine}
-use Rattle.numbers.specs.Refusal.{Verdict}
+use Rattle.numbers.specs.Refusal.{answer_by}
 use Rattle.numbers.specs.Required.{ValuesWithin}
 use Rattle.numbers.specs.declared.units.PesoPrice.{PesoPrice}
 use Rattle.numbers.specs.declared.units.PowerPrice.{PowerPrice}
 use Rattle.numbers.proofs.ListLaws.{filled_at}
 use Rattle.numbers.proofs.CheckLaws.{FirstPass, AllTold, passes, refused_unless, passed_test, verdict_from, all_passed}
-use Rattle.numbers.proofs.CheckLaws.{check_told, judged}
+use Rattle.numbers.proofs.CheckLaws.{check_told, answers_by}
 use Rattle.series.specs.Series.{values_in_range}
 use Rattle.series.specs.Required.{TableInRange}
 use Rattle.series.proofs.SeriesLaws.{table_in_range}
 use Rattle.supply.specs.Line.{most_lines, line_count}
-use Rattle.supply.specs.Price.{term_mean, price_checks, table_checks, reference_price, reference_list, power_price, power_list}
-use Rattle.supply.specs.Price.{prices_by, LinePricesPromise}
+use Rattle.supply.specs.Price.{price_checks, table_checks, reference_price, reference_list, power_price, power_list}
+use Rattle.supply.specs.Price.{worked_prices, LinePricesPromise}
 use Rattle.supply.specs.Required.{NumbersFacts}
 use Rattle.supply.specs.declared.price.LinePrices.{LinePrices}
 use Rattle.supply.proofs.RangeLaws.{input_numbers, input_lines, input_in_force}
 use Rattle.supply.proofs.PriceLaws.{search_within, power_within, bounds_passed}
-use Rattle.supply.proofs.LinePriceLaws.{table_told, passed_bounds, passed_prices}
+use Rattle.supply.proofs.LinePriceLaws.{answer_passed, table_told, passed_bounds, passed_prices, passed_refused}
 use Rattle.fixing.specs.Average.{energy_list, average_list}
 use Rattle.fixing.specs.Limit.{InRange}
 use Rattle.fixing.specs.Prices.{distributors}
@@ -37,7 +37,7 @@ use Rattle.fixing.specs.Sector.{sectors_allowed}
 use Rattle.fixing.specs.Input.{FixingInput, index_table, input_mean, ranged, supplied, beyond_line}
 use Rattle.fixing.specs.Input.{input_checks, input_verdict, input_references, input_power_prices, input_power}
 use Rattle.fixing.specs.Input.{input_averages, input_energies}
-use Rattle.fixing.specs.Fixing.{refused_fixing, accepted_fixing, fixing_by, worked_fixing, fixing_of, InputPromise}
+use Rattle.fixing.specs.Fixing.{accepted_fixing, fixing_of, InputPromise}
 use Rattle.fixing.specs.Required.{OwnLines, AcceptedLines, PowerPricedLines, RightLengths, CheckedInput}
 use Rattle.fixing.specs.declared.fix.Fixing.{Fixing}
 use Rattle.fixing.proofs.InputLaws.{own_lines, accepted_range}
@@ -79,7 +79,7 @@ module _ (n : ℕ) (input : FixingInput) where
     unfolding input_references reference_list
     checked_accepted h prices e =
         record {
-          Some = ok.lengths.some;
+          some = ok.lengths.some;
           few = ok.lengths.few;
           priced = record { own = checked_own; priced = λ j p. omega (arith, listed j p, (within j p).1) };
           least = λ j p. omega (arith, listed j p, (within j p).0);
@@ -113,17 +113,8 @@ module _ (n : ℕ) (input : FixingInput) where
               checked_numbers.dollar_most);
         }
 
--- the whole: a refusal, or the prices
+-- the whole: a refusal, or the fixing
 module _ (n : ℕ) (input : FixingInput) where
-  -- the verdict that a fixing tells is its input's
-  pub verdict_is : (fixing_of n input).verdict ≡ input_verdict n input
-  unfolding fixing_of refused_fixing worked_fixing accepted_fixing
-  verdict_is = go (input_verdict n input)
-    where
-      go : (v : Verdict) → (fixing_by v (worked_fixing n input)).verdict ≡ v
-      go (Ok _) = refl
-      go (Err refusal) = refl
-
   pub input_told : AllTold (input_checks n input)
   unfolding AllTold input_checks
   input_told = (
@@ -140,20 +131,20 @@ module _ (n : ℕ) (input : FixingInput) where
     ),
   )
 
-  fixing_worked : (fixing : Fixing) → fixing ≡ fixing_of n input → InputPromise n input fixing
-  unfolding input_verdict
-  fixing_worked fixing e =
-      record {
-        worked = e;
-        judged = judged (input_checks n input) input_told fixing.verdict
-            (ap (λ (x : Fixing). x.verdict) e ∙ verdict_is);
-      }
+  pub input_refused : (refusal : Refusal) → verdict_of (input_checks n input) ≡ Err refusal →
+      InputPromise n input (Err refusal)
+  input_refused refusal h =
+      answers_by (λ _. []) (input_checks n input) (fixing_of n input) input_told (Err refusal)
+      (ap (λ v. answer_by v (fixing_of n input)) (sym h))
 
-  pub worked_refused : (fixing : Fixing) (refusal : Refusal) → fixing ≡ refused_fixing refusal →
-      verdict_of (input_checks n input) ≡ Err refusal →
-      InputPromise n input fixing
-  unfolding fixing_of input_verdict
-  worked_refused fixing refusal e h = fixing_worked fixing (e ∙ ap (λ v. fixing_by v (worked_fixing n input)) (sym h))
+  -- what a fixing that was made tells of its input: it passes, and the fixing is its
+  module _ (fixing : Fixing) (promise : InputPromise n input (Ok fixing)) where
+    pub fixed_passed : input_verdict n input ≡ Ok tt
+    unfolding input_verdict
+    fixed_passed = (answer_passed (fixing_of n input) fixing (verdict_of (input_checks n input)) (sym promise.answered)).0
+
+    pub fixed_is : fixing ≡ fixing_of n input
+    fixed_is = (answer_passed (fixing_of n input) fixing (verdict_of (input_checks n input)) (sym promise.answered)).1
 
   -- input that passed causes 6 to 9: the checks of the index table give the verdict
   module _ (ok : CheckedInput n input) where
@@ -166,57 +157,56 @@ module _ (n : ℕ) (input : FixingInput) where
           (passes ValueTooLarge ok.small, (passes WrongSector ok.sectored, (passes NoLine ok.everyone, tt))),
         )
 
-    -- what the pricing of its lines says: a refusal, or references to go on with
-    module _ (table : List (List ℕ)) (e : table ≡ index_table input) (given : LinePrices)
-        (promise : LinePricesPromise table input.numbers input.lines input.in_force given) where
-      priced : (verdict : Verdict) → given.verdict ≡ verdict →
-          verdict_of (table_checks (index_table input) input.numbers input.lines input.in_force) ≡ verdict
-      priced verdict v =
-          ap (λ t. verdict_of (table_checks t input.numbers input.lines input.in_force)) (sym e)
-          ∙ sym promise.judged.answered ∙ v
+    -- what the pricing of its lines says: a refusal, or prices to go on with
+    module _ (table : List (List ℕ)) (e : table ≡ index_table input) where
+      pub priced_refused : (refusal : Refusal) →
+          LinePricesPromise table input.numbers input.lines input.in_force (Err refusal) →
+          InputPromise n input (Err refusal)
+      priced_refused refusal promise =
+          input_refused refusal (table_left
+          ∙ passed_refused (index_table input) input.numbers input.lines input.in_force refusal (rw e at promise))
 
-      pub priced_refused : (fixing : Fixing) (refusal : Refusal) → fixing ≡ refused_fixing refusal →
-          given.verdict ≡ Err refusal → InputPromise n input fixing
-      priced_refused fixing refusal f v = worked_refused fixing refusal f (table_left ∙ priced (Err refusal) v)
-
-      module _ (v : given.verdict ≡ Ok tt) where
-        prices_are : given ≡ prices_by (Ok tt) (input_references input) (input_power_prices input)
-        unfolding input_references input_power_prices
-        prices_are =
-            passed_prices table input.numbers input.lines input.in_force given promise v
-            ∙ ap (λ t. prices_by (Ok tt)
-            (reference_list (term_mean t input.numbers) input.numbers input.lines input.in_force)
-            (power_list (term_mean t input.numbers) input.numbers input.lines)) e
+      module _ (prices : LinePrices)
+          (promise : LinePricesPromise table input.numbers input.lines input.in_force (Ok prices)) where
+        worked : (verdict_of (table_checks (index_table input) input.numbers input.lines input.in_force) ≡ Ok tt)
+            × (prices ≡ worked_prices (input_mean input) input.numbers input.lines input.in_force)
+        worked = passed_prices (index_table input) input.numbers input.lines input.in_force prices (rw e at promise)
 
         within : beyond_line input ≡ None
         within =
-            passed_bounds (index_table input) input.numbers input.lines input.in_force (priced (Ok tt) v)
+            passed_bounds (index_table input) input.numbers input.lines input.in_force worked.0
 
-        pub priced_accepted : AcceptedLines n given.references input.lines
-        priced_accepted =
-            checked_accepted n input ok within given.references (ap (λ (p : LinePrices). p.references) prices_are)
+        references_are : prices.references ≡ input_references input
+        unfolding input_references worked_prices
+        references_are = ap (λ (p : LinePrices). p.references) worked.1
 
-        pub priced_power : PowerPricedLines given.power input.lines
-        priced_power = checked_power n input ok within given.power (ap (λ (p : LinePrices). p.power) prices_are)
+        power_is : prices.power ≡ input_power_prices input
+        unfolding input_power_prices worked_prices
+        power_is = ap (λ (p : LinePrices). p.power) worked.1
+
+        pub priced_accepted : AcceptedLines n prices.references input.lines
+        priced_accepted = checked_accepted n input ok within prices.references references_are
+
+        pub priced_power : PowerPricedLines prices.power input.lines
+        priced_power = checked_power n input ok within prices.power power_is
 
         pub priced_worked : (fixing : Fixing) →
-            fixing ≡ accepted_fixing n (average_list n given.references input.lines)
-            (power_averages n given.power input.lines) (energy_list input.lines) input.sectors →
-            InputPromise n input fixing
-        unfolding fixing_of input_verdict worked_fixing input_averages input_power input_energies
+            fixing ≡ accepted_fixing n (average_list n prices.references input.lines)
+            (power_averages n prices.power input.lines) (energy_list input.lines) input.sectors →
+            InputPromise n input (Ok fixing)
+        unfolding fixing_of input_averages input_power input_energies
         priced_worked fixing f =
-            fixing_worked fixing
-            (f ∙ ap (λ (p : LinePrices). accepted_fixing n (average_list n p.references input.lines)
-            (power_averages n p.power input.lines) (energy_list input.lines) input.sectors) prices_are
-            ∙ ap (λ x. fixing_by x (worked_fixing n input)) (sym (table_left ∙ priced (Ok tt) v)))
+            answers_by (λ _. []) (input_checks n input) (fixing_of n input) input_told (Ok fixing)
+            (rw (table_left, worked.0) (ap Ok (f ∙ rw (references_are, power_is))))
+
+  -- the parts of its fixing
+  pub passed_fixing : fixing_of n input ≡ accepted_fixing n (input_averages n input) (input_power n input)
+      (input_energies input) input.sectors
+  unfolding fixing_of
+  passed_fixing = refl
 
   -- input that passed every check
   module _ (passed : input_verdict n input ≡ Ok tt) where
-    pub passed_fixing : fixing_of n input ≡ accepted_fixing n (input_averages n input) (input_power n input)
-        (input_energies input) input.sectors
-    unfolding fixing_of worked_fixing
-    passed_fixing = rw passed
-
     pub passed_sectors : sectors_allowed n input.sectors ≡ true
     unfolding input_verdict input_checks FirstPass
     passed_sectors = passed_test WrongSector _ (all_passed (input_checks n input) passed).1.1.0

@@ -106,7 +106,7 @@ residue d = collected d - contract_total d
 -- the input that 01 lets reach the limit: 1 to 40 distributors, each average within the bounds of a peso price, each
 -- energy at least 1, and at most 256 lines of 10,000,000 in all
 pub record InRange (d : Distributors) : Type 0 where
-  pub Some : 1 ≤ d.count
+  pub some : 1 ≤ d.count
   pub few : d.count ≤ most_distributors
   pub least : (i : ℕ) → i < d.count → 1000 ≤ d.average i
   pub most : (i : ℕ) → i < d.count → d.average i ≤ 2000000

@@ -2,10 +2,10 @@
 -- Assumes nothing.
 use mathlib.Core.Path.{◌≡◌, refl, ◌∙◌, ap}
 use mathlib.Core.Bool.{true, false, false≢true, true≢false}
-use Prim.Native.Nat.{ℕ, suc, ◌+◌, ◌-◌, ◌*◌, ◌/◌, ◌<◌, ◌≤◌}
+use Prim.Native.Nat.{ℕ, zero, suc, ◌+◌, ◌-◌, ◌*◌, ◌/◌, ◌%◌, ◌<◌, ◌≤◌, min}
 use native.Mathlib.Omega.{arith}
 use native.Mathlib.Nat.{div-mul-le_self, lt-div-mul-add, le-div_iff_mul-le, div-lt_iff_lt-mul, mul-le-mul_left}
-use native.Mathlib.Nat.{add-mul-div_right}
+use native.Mathlib.Nat.{add-mul-div_right, mod-add-div, mod-lt}
 use lib.IntN.{ℤ, pos, negsuc, nat_abs, sub_ℕ}
 use Rattle.numbers.specs.Rounding.{half_up, half_away, divide_up}
 use Rattle.numbers.specs.Signed.{is_negative}
@@ -73,3 +73,18 @@ away_size (negsuc n) b = size_neg (half_up (suc n) b)
 
 pub away_le : (x : ℤ) (b c : ℕ) → 0 < b → nat_abs x ≤ c * b → nat_abs (half_away x b) ≤ c
 away_le x b c some h = rw (away_size x b) (half_up_le (nat_abs x) b some c h)
+
+-- std's division upwards is the definition's
+pub divide_up_is : (a b : ℕ) → 0 < b → a / b + min 1 (a % b) ≡ divide_up a b
+unfolding divide_up
+divide_up_is a b h = go (a % b) (mod-add-div a b) (mod-lt a h)
+  where
+    go : (r : ℕ) → r + b * (a / b) ≡ a → r < b → a / b + min 1 r ≡ (a + (b - 1)) / b
+    go zero e l =
+        let low : a / b ≤ (a + (b - 1)) / b = (le-div_iff_mul-le {k = b} h).1 (omega (arith, e)) in
+        let high : (a + (b - 1)) / b < a / b + 1 = (div-lt_iff_lt-mul {k = b} h).1 (omega (arith, e)) in
+        omega arith
+    go (suc r) e l =
+        let low : a / b + 1 ≤ (a + (b - 1)) / b = (le-div_iff_mul-le {k = b} h).1 (omega (arith, e)) in
+        let high : (a + (b - 1)) / b < a / b + 2 = (div-lt_iff_lt-mul {k = b} h).1 (omega (arith, e)) in
+        omega arith

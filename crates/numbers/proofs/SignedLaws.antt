@@ -7,13 +7,13 @@ use native.Mathlib.Omega.{arith}
 use native.Mathlib.Decide.{dec_lt}
 use native.Mathlib.Numerals.{add-one}
 use native.Mathlib.Nat.{zero-add, suc-add, suc-mul, mul-le-mul}
-use lib.Dec.{T, le→leb}
+use lib.Dec.{T, le→leb, ltb}
 use lib.IntN.{ℤ, pos, negsuc, neg_ℤ, sub_ℕ, nat_abs, ◌+ℤ◌, ◌-ℤ◌, ◌*ℤ◌, +ℤ_assoc, +ℤ_comm, +ℤ_idr}
 use lib.Signed.{lt_z, le_z, non_neg, ◌≤ℤ◌}
 use borrow.Author.Tests.{lt-ltb, le-ltb, ltb-true, leb-true, leb-false, le-leb, lt-leb}
 use mir.Syntax.{w64}
 use mir.Val.{SFits, to_z, of_z}
-use mir.Facts.{to_z-of_z, to_z_pos}
+use mir.Facts.{to_z-of_z}
 use Rattle.numbers.specs.Bounded.{sum_below}
 use Rattle.numbers.specs.Signed.{
   is_negative,
@@ -130,23 +130,16 @@ signed_sum_size (suc k) b f h =
     let ih : nat_abs (signed_sum_below k f) ≤ k * b = signed_sum_size k b f (λ j p. h j (omega arith)) in
     rw suc-mul (omega (arith, size_add (signed_sum_below k f) (f k), h k (omega arith)))
 
--- an i64: a number whose size is below 2 ^ 63 fits, and so does a difference of two such
+-- an i64: a number whose size is below 2 ^ 63 fits
 pub size_fits : (z : ℤ) → nat_abs z < 2 ^ 63 → SFits w64 z
 size_fits (pos n) h = record { sfits = h }
 size_fits (negsuc n) h = record { sfits = omega arith }
-
-pub sub_fits : (p n : ℕ) → p < 2 ^ 63 → n < 2 ^ 63 → SFits w64 (sub_ℕ p n)
-sub_fits p n hp hn =
-    sub_cases (SFits w64) p n (λ h. record { sfits = omega arith }) (λ h. record { sfits = omega arith })
 
 pub pos_sub : (p n : ℕ) → pos p -ℤ pos n ≡ sub_ℕ p n
 pos_sub p zero = ap pos (omega arith) ∙ sym (pos_sub_zero p)
 pos_sub p (suc n) = refl
 
 -- what the machine computes of the bits of signed values
-pub sub_bits : (p n : ℕ) → p < 2 ^ 63 → n < 2 ^ 63 → to_z w64 p -ℤ to_z w64 n ≡ sub_ℕ p n
-sub_bits p n hp hn = ap₂ ◌-ℤ◌ (to_z_pos w64 hp) (to_z_pos w64 hn) ∙ pos_sub p n
-
 pub mul_bits : (x y : ℤ) → SFits w64 x → SFits w64 y → to_z w64 (of_z w64 x) *ℤ to_z w64 (of_z w64 y) ≡ x *ℤ y
 mul_bits x y f g = ap₂ ◌*ℤ◌ (to_z-of_z f) (to_z-of_z g)
 
@@ -303,31 +296,16 @@ sum_wide n m f p h =
     let e : m - n + n ≡ m = omega arith in
     rw e at (sum_up n (m - n) f (λ i q r. h i q (omega arith)))
 
--- words of 64 bits: what an i64's tests say of its size
-pub sized_within : (z : ℤ) → within_size 9223372036854775807 z ≡ true → nat_abs z < 2 ^ 63
-unfolding within_size
-sized_within z e = omega (arith, leb-true (nat_abs z) 9223372036854775807 e)
-
 pub negative_some : (z : ℤ) → is_negative z ≡ true → 1 ≤ nat_abs z
 unfolding is_negative
 negative_some (pos n) e = absurd (false≢true e)
 negative_some (negsuc n) e = omega arith
 
--- the word by its cases: the least i64, the others below zero, the rest
-pub word_least : (z : ℤ) → SFits w64 z → within_size 9223372036854775807 z ≡ false → 9223372036854775808 ≡ word_of z
-unfolding within_size word_of
-word_least (pos n) f e = absurd (omega (arith, f.sfits, leb-false n 9223372036854775807 e))
-word_least (negsuc n) f e = omega (arith, f.sfits, leb-false (suc n) 9223372036854775807 e)
-
-pub word_below : (z : ℤ) → is_negative z ≡ true → 18446744073709551615 - (nat_abs z - 1) ≡ word_of z
-unfolding is_negative word_of
-word_below (pos n) e = absurd (false≢true e)
-word_below (negsuc n) e = omega arith
-
-pub word_above : (z : ℤ) → is_negative z ≡ false → nat_abs z ≡ word_of z
-unfolding is_negative word_of
-word_above (pos n) e = refl
-word_above (negsuc n) e = absurd (true≢false e)
+-- std's word of a number is the definition's
+pub word_is : (z : ℤ) → of_z w64 z ≡ word_of z
+unfolding word_of
+word_is (pos n) = refl
+word_is (negsuc n) = omega arith
 
 -- the number of a word by its cases: below 2 ^ 63, and from there on
 pub signed_small : (w : ℕ) → w < 2 ^ 63 → signed_of w ≡ pos w
@@ -337,6 +315,11 @@ signed_small w h = rw (lt-ltb w (2 ^ 63) h)
 pub signed_large : (w : ℕ) → 2 ^ 63 ≤ w → signed_of w ≡ negsuc (2 ^ 64 - 1 - w)
 unfolding signed_of
 signed_large w h = rw (le-ltb w (2 ^ 63) h)
+
+-- std's number of a word is the definition's
+pub signed_is : (w : ℕ) → to_z w64 w ≡ signed_of w
+unfolding signed_of
+signed_is w = ap (λ n. cond (ltb w (2 ^ 63)) (pos w) (negsuc n)) (omega arith)
 
 -- a number that fits in an i64 is read back from its word
 pub word_signed : (z : ℤ) → SFits w64 z → signed_of (word_of z) ≡ z

@@ -36,5 +36,5 @@ pub fn divide_up(a: u64, b: u64) -> u64
     requires fact_3 { b < 2 ^ 62 }
     ensures { result ≡ divide_up a b }
 {
-    (a + (b - 1)) / b
+    a.div_ceil(b)
 }

@@ -8,7 +8,7 @@ ghost use Rattle.numbers.specs.Signed.{is_negative, within_size, word_of, signed
 pub fn is_negative(x: i64) -> bool
     ensures { result ≡ is_negative x }
 {
-    x < 0
+    x.is_negative()
 }
 
 // The size of x, which is not the least i64.
@@ -16,7 +16,7 @@ pub fn magnitude(x: i64) -> u64
     requires { nat_abs x < 2 ^ 63 }
     ensures { result ≡ nat_abs x }
 {
-    if x < 0 { (0 - x) as u64 } else { x as u64 }
+    x.unsigned_abs()
 }
 
 // p - n, of either sign.
@@ -33,31 +33,19 @@ pub fn within_size(x: i64, bound: u64) -> bool
     requires { bound < 2 ^ 63 }
     ensures { result ≡ within_size bound x }
 {
-    0 - (bound as i64) <= x && x <= bound as i64
+    x.unsigned_abs() <= bound
 }
 
 // The word of 64 bits that holds x.
 pub fn word_of(x: i64) -> u64
     ensures { result ≡ word_of x }
 {
-    if !within_size(x, 9223372036854775807) {
-        return 9223372036854775808;
-    }
-    if is_negative(x) {
-        return 18446744073709551615 - (magnitude(x) - 1);
-    }
-    magnitude(x)
+    x.cast_unsigned()
 }
 
 // The number of either sign that a word of 64 bits holds.
 pub fn signed_of(word: u64) -> i64
     ensures { result ≡ signed_of word }
 {
-    if word < 9223372036854775808 {
-        return difference(word, 0);
-    }
-    if word == 9223372036854775808 {
-        return -9223372036854775808;
-    }
-    difference(0, 18446744073709551615 - word + 1)
+    word.cast_signed()
 }

@@ -48,21 +48,14 @@ impl PesoPrice {
 pub fn is_between(low: u64, high: u64, x: u64) -> bool
     ensures { result ≡ between low high x }
 {
-    (low <= x) & (x <= high)
+    (low..=high).contains(&x)
 }
 
 // Whether it is so for every word.
 pub fn all_between(low: u64, high: u64, words: &[u64]) -> bool
     ensures { result ≡ all_between low high words.now }
 {
-    let mut j: usize = 0;
-    while j < words.len() {
-        if !is_between(low, high, words[j]) {
-            return false;
-        }
-        j += 1;
-    }
-    true
+    words.iter().all(|word| is_between(low, high, *word))
 }
 
 // The bound where a test holds; where it does not, nothing but 0 may stand.

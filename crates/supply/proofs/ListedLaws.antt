@@ -24,7 +24,7 @@ use Rattle.supply.specs.Listed.{listed_mean, listed_lacks}
 use Rattle.supply.specs.Price.{term_mean, price_in_force, moved, answer_at, price_or, reference_price, reference_list}
 use Rattle.supply.specs.Price.{beyond_at, beyond_in, first_beyond, bounds_check, any_moved, any_line_moved}
 use Rattle.supply.specs.Price.{power_peso_of, line_power, power_price, power_list, price_checks}
-use Rattle.supply.specs.Price.{bounded_prices}
+use Rattle.supply.specs.Price.{worked_prices, bounded_prices}
 use Rattle.supply.specs.Required.{TermFacts, CheckedLines}
 use Rattle.supply.specs.declared.line.Term.{Term}
 use Rattle.supply.specs.declared.market.FixingNumbers.{FixingNumbers}
@@ -132,5 +132,5 @@ module _ (table : List (List ℕ)) (numbers : FixingNumbers) where
 
         pub prices_listed : bounded_prices (listed_mean means) numbers lines in_force ≡ bounded_prices
             (term_mean table numbers) numbers lines in_force
-        unfolding bounded_prices price_checks bounds_check
+        unfolding bounded_prices worked_prices price_checks bounds_check
         prices_listed = rw (beyond_listed, moved_listed, references_listed, power_listed_lem)

@@ -2,7 +2,7 @@
 -- proofs/ListedLaws and proofs/PriceLaws show that they are the terms' means and the lines' prices, and 0 where a month
 -- is missing, a factor, ratio or price out of bounds, and nowhere else. Assumes nothing.
 use Rattle.std.specs.Prelude.{Bool, cond, List, ℕ, eqb}
-use Rattle.std.specs.Prelude.{Option, Some, None}
+use Rattle.std.specs.Prelude.{Option, None}
 use Rattle.numbers.specs.Bounded.{filled_below}
 use Rattle.numbers.specs.Units.{between}
 use Rattle.series.specs.Means.{mean_at}

@@ -1,7 +1,7 @@
 -- "Steps for a line" of document 01, each half up, with the ratio of W-202 of document 02, the bounds of cause 11,
 -- which price a line takes in an interim fixing (W-201), and its power price (W-204). The steps up to the indexed price
 -- take the mean of each term as given; all later ones of energy take the price that the line takes. Assumes nothing.
-use Rattle.std.specs.Prelude.{◌≡◌, Bool, true, cond, ◌&&◌, List, [], ◌∷◌, ℕ, ◌+◌, ◌-◌, ◌*◌, leb, ltb, eqb, length, get_or}
+use Rattle.std.specs.Prelude.{Bool, true, cond, ◌&&◌, List, [], ◌∷◌, ℕ, ◌+◌, ◌-◌, ◌*◌, leb, ltb, eqb, length, get_or}
 use Rattle.std.specs.Prelude.{Option, Some, None, Result}
 use Rattle.numbers.specs.Bounded.{sum_below, any_below, first_below, filled_below}
 use Rattle.numbers.specs.Rounding.{half_up}

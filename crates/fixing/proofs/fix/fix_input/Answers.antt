@@ -1,6 +1,7 @@
 -- Each test is the check of its cause, made where those before it are passed; what passes all four is priced.
 use mathlib.Core.Path.{◌≡◌, refl, ◌∙◌, ap}
 use mathlib.Core.Bool.{true}
+use Rattle.std.proofs.lemmas.Result.{err_from_is_err_and}
 use Rattle.numbers.specs.declared.refusal.Refusal.TheVariants.{OutOfRange, ValueTooLarge, WrongSector, NoLine}
 use Rattle.numbers.proofs.BoolLaws.{told_true, told_false}
 use Rattle.numbers.proofs.CheckLaws.{FirstPass, passes, refused_unless}
@@ -12,7 +13,7 @@ use Rattle.fixing.specs.Input.{FixingInput, input_of, ranged, supplied, input_ch
 use Rattle.fixing.proofs.AverageLaws.{energies_tell}
 use Rattle.fixing.proofs.VerdictLaws.{no_line, ranged_own, checked_own, checked_numbers, checked_in_force}
 use Rattle.fixing.proofs.VerdictLaws.{checked_table}
-use Rattle.fixing.proofs.VerdictLaws.{worked_refused, priced_refused, priced_accepted, priced_power}
+use Rattle.fixing.proofs.VerdictLaws.{input_refused, priced_refused, priced_accepted, priced_power}
 use Rattle.fixing.proofs.VerdictLaws.{priced_worked}
 use borrow.Author.Rules.{rules}
 use Rattle.fixing.proofs.fix.fix_input.Goals as goal
@@ -60,14 +61,14 @@ passed_nine c =
 pub returns-then-not-input_in_range : goal.returns-then-not-input_in_range
 unfolding input_checks FirstPass
 returns-then-not-input_in_range c =
-    worked_refused c.args.n (input (goal.at.returns-then-not-input_in_range c).Start) _ OutOfRange c.refused.ensures
+    input_refused c.args.n (input (goal.at.returns-then-not-input_in_range c).Start) OutOfRange
     (refused_unless 0 (input_checks c.args.n (input (goal.at.returns-then-not-input_in_range c).Start)) 6 _ OutOfRange _ tt refl
     (told_false c.input_in_range.ensures c.if-not-input_in_range.true-raw))
 
 pub returns-then-not-values_in_range : goal.returns-then-not-values_in_range
 unfolding input_checks FirstPass
 returns-then-not-values_in_range c =
-    worked_refused c.args.n (input (goal.at.returns-then-not-values_in_range c).Start) _ ValueTooLarge c.refused-then-not-values_in_range.ensures
+    input_refused c.args.n (input (goal.at.returns-then-not-values_in_range c).Start) ValueTooLarge
     (refused_unless 1 (input_checks c.args.n (input (goal.at.returns-then-not-values_in_range c).Start)) 7 _ ValueTooLarge _ (passes OutOfRange (passed_six (goal.at.returns-then-not-values_in_range c).Else-not-input_in_range), tt)
     refl
     (told_false c.values_in_range.ensures c.if-not-values_in_range.true-raw))
@@ -75,7 +76,7 @@ returns-then-not-values_in_range c =
 pub returns-then-not-sectors_allowed : goal.returns-then-not-sectors_allowed
 unfolding input_checks FirstPass
 returns-then-not-sectors_allowed c =
-    worked_refused c.args.n (input (goal.at.returns-then-not-sectors_allowed c).Start) _ WrongSector c.refused-then-not-sectors_allowed.ensures
+    input_refused c.args.n (input (goal.at.returns-then-not-sectors_allowed c).Start) WrongSector
     (refused_unless 2 (input_checks c.args.n (input (goal.at.returns-then-not-sectors_allowed c).Start)) 8 _ WrongSector _
     (passes OutOfRange (passed_six (goal.at.returns-then-not-sectors_allowed c).Else-not-input_in_range), (passes ValueTooLarge (passed_seven (goal.at.returns-then-not-sectors_allowed c).Else-not-values_in_range), tt)) refl
     (told_false c.sectors_allowed.ensures c.if-not-sectors_allowed.true-raw))
@@ -85,33 +86,34 @@ energies-energies-requires c = own c
 
 pub returns-then-not-every_energy : goal.returns-then-not-every_energy
 returns-then-not-every_energy c =
-    worked_refused c.args.n (input (goal.at.returns-then-not-every_energy c).Start) _ NoLine c.refused-then-not-every_energy.ensures
+    input_refused c.args.n (input (goal.at.returns-then-not-every_energy c).Start) NoLine
     (no_line c.args.n (input (goal.at.returns-then-not-every_energy c).Start) (passed_six (goal.at.returns-then-not-every_energy c).Else-not-input_in_range) (passed_seven (goal.at.returns-then-not-every_energy c).Else-not-values_in_range) (passed_eight (goal.at.returns-then-not-every_energy c).Else-not-sectors_allowed)
     (told_false (everyone (goal.at.returns-then-not-every_energy c).After-every_energy (own (goal.at.returns-then-not-every_energy c).Else-not-sectors_allowed)) c.if-not-every_energy.true-raw))
 
-pub price_lines-priced-requires : goal.price_lines-priced-requires
-price_lines-priced-requires c =
-    let ok = passed_nine (goal.at.price_lines-priced-requires c).Else-not-every_energy in
+pub price_lines-requires : goal.price_lines-requires
+price_lines-requires c =
+    let ok = passed_nine (goal.at.price_lines-requires c).Else-not-every_energy in
     record {
-      fact_1 = checked_table _ (input (goal.at.price_lines-priced-requires c).Start) ok _ c.fill.ensures;
-      fact_2 = checked_numbers _ (input (goal.at.price_lines-priced-requires c).Start) ok;
-      fact_3 = (checked_own _ (input (goal.at.price_lines-priced-requires c).Start) ok).checked;
-      fact_4 = checked_in_force _ (input (goal.at.price_lines-priced-requires c).Start) ok;
+      fact_1 = checked_table _ (input (goal.at.price_lines-requires c).Start) ok _ c.fill.ensures;
+      fact_2 = checked_numbers _ (input (goal.at.price_lines-requires c).Start) ok;
+      fact_3 = (checked_own _ (input (goal.at.price_lines-requires c).Start) ok).checked;
+      fact_4 = checked_in_force _ (input (goal.at.price_lines-requires c).Start) ok;
     }
 
 -- what the pricing of the lines says
-pub returns-in-Refused : goal.returns-in-Refused
-returns-in-Refused c =
-    priced_refused _ (input (goal.at.returns-in-Refused c).Start) (passed_nine (goal.at.returns-in-Refused c).Else-not-every_energy) _ c.fill.ensures _ c.price_lines-priced.ensures _ _
-    c.refused-in-Refused.ensures c.in-Refused.is
+pub returns-in_err-priced : goal.returns-in_err-priced
+returns-in_err-priced c =
+    let p = err_from_is_err_and c.from_residual.result c.from_residual.ensures.1 in
+    rw (p.1, p.2)
+    (priced_refused _ (input (goal.at.returns-in_err-priced c).Start) (passed_nine (goal.at.returns-in_err-priced c).Else-not-every_energy) _ c.fill.ensures _
+    (c.in_err-priced.ensures))
 
 pub accepted-requires : goal.accepted-requires
 accepted-requires c =
     let ok = passed_nine (goal.at.accepted-requires c).Else-not-every_energy in
-    let given = c.in_default.is in
     record {
-      fact_1 = priced_accepted _ (input (goal.at.accepted-requires c).Start) ok _ c.fill.ensures _ c.price_lines-priced.ensures given;
-      fact_2 = priced_power _ (input (goal.at.accepted-requires c).Start) ok _ c.fill.ensures _ c.price_lines-priced.ensures given;
+      fact_1 = priced_accepted _ (input (goal.at.accepted-requires c).Start) ok _ c.fill.ensures _ c.in_ok-priced.ensures;
+      fact_2 = priced_power _ (input (goal.at.accepted-requires c).Start) ok _ c.fill.ensures _ c.in_ok-priced.ensures;
       fact_3 = c.energies-energies.ensures;
       fact_4 = ok.lengths.factors;
       fact_5 = ok.sectored;
@@ -119,8 +121,8 @@ accepted-requires c =
 
 pub returns : goal.returns
 returns c =
-    priced_worked _ (input (goal.at.returns c).Start) (passed_nine (goal.at.returns c).Else-not-every_energy) _ c.fill.ensures _ c.price_lines-priced.ensures
-    c.in_default.is _ c.accepted.ensures
+    priced_worked _ (input (goal.at.returns c).Start) (passed_nine (goal.at.returns c).Else-not-every_energy) _ c.fill.ensures _ c.in_ok-priced.ensures
+    _ c.accepted.ensures
 
 pub values_in_range-requires : goal.values_in_range-requires
 values_in_range-requires c = search rules

@@ -1,24 +1,16 @@
--- The invariant: each word passed is in range.
-use native.Mathlib.Omega.{arith}
-use Rattle.numbers.specs.Units.{all_between}
-use Rattle.numbers.proofs.BoolLaws.{told_true, told_false}
-use Rattle.numbers.proofs.TestLaws.{tested_none, tested_more, tested_fails, tested_all}
+-- The chain's answer is the definition's, index by index.
+use Rattle.std.proofs.Common.{rules}
+use borrow.Author.Tests.{tests}
+use mathlib.Core.Path.{◌∙◌}
+use Rattle.std.proofs.lemmas.Iterator.{YieldsList-from_slice}
+use Rattle.std.proofs.lemmas.Iterator.Search.{all_from_yields_List}
+use Rattle.numbers.specs.Units.{between, all_between}
+use Rattle.numbers.proofs.ChainLaws.{all_listed}
 use Rattle.numbers.proofs.units.all_between.Goals as goal
-
-pub returns-then-not-is_between : goal.returns-then-not-is_between
-unfolding all_between
-returns-then-not-is_between c =
-    tested_fails c.loop-j.invariant (omega arith)
-    (told_false c.is_between.ensures c.if-not-is_between.true-raw)
-
-pub loop-j-preserved : goal.loop-j-preserved
-loop-j-preserved c =
-    tested_more c.loop-j.invariant (omega arith)
-    (told_true c.is_between.ensures c.if-not-is_between.false-raw)
 
 pub returns : goal.returns
 unfolding all_between
-returns c = tested_all c.loop-j.invariant (omega arith)
-
-pub loop-j-init : goal.loop-j-init
-loop-j-init c = tested_none _ _
+returns c =
+    all_from_yields_List (between c.args.low c.args.high) _ _ _ c.all.ensures.ran (YieldsList-from_slice c.args.words.now cc)
+    (λ x b q k. search (rules, tests))
+    ∙ all_listed (between c.args.low c.args.high) c.args.words.now 0

@@ -1,8 +1,7 @@
--- The code is the definition.
-use mathlib.Core.Path.{refl}
+use Rattle.std.proofs.Common.{rules}
 use Rattle.numbers.specs.Units.{between}
 use Rattle.numbers.proofs.units.is_between.Goals as goal
 
 pub returns : goal.returns
 unfolding between
-returns c = refl
+returns c = search rules

@@ -19,7 +19,7 @@ use Rattle.supply.proofs.months.search_months.Goals.{After-line_at-line}
 -- the line at hand
 module _ (c : After-line_at-line) where
   abbrev j : ℕ
-  j = c.lines.j
+  j = c.loop-j.j
 
   below : j < line_count c.args.lines.now
   below = omega (arith, c.line_count-count.ensures)
@@ -33,16 +33,16 @@ returns-then-not-any_missing c =
     rw (none_listed c.args.means.now c.args.lines.now c.requires
     (told_false c.any_missing.ensures c.if-not-any_missing.true-raw))
 
-pub lines-init : goal.lines-init
+pub loop-j-init : goal.loop-j-init
 unfolding first_below
-lines-init c = (omega arith, refl, refl)
+loop-j-init c = (omega arith, refl)
 
 pub line_at-line-requires : goal.line_at-line-requires
 line_at-line-requires c = omega (arith, c.line_count-count.ensures)
 
 pub loop-k-init : goal.loop-k-init
 unfolding first_below
-loop-k-init c = (omega arith, c.lines.invariant.1, refl)
+loop-k-init c = (omega arith, refl)
 
 pub lacks_month-requires : goal.lacks_month-requires
 lacks_month-requires c =
@@ -54,31 +54,29 @@ lacks_month-requires c =
 pub loop-k-preserved : goal.loop-k-preserved
 loop-k-preserved c = (
   omega arith,
-  c.loop-k.invariant.1,
   first_step (missing_term (listed_lacks c.args.means.now) c.line_at-line.result (j (goal.at.loop-k-preserved c).After-line_at-line)) c.loop-k.k
-      c.loop-k.invariant.2
+      c.loop-k.invariant.1
       ∙ term_published (listed_lacks c.args.means.now) c.line_at-line.result (j (goal.at.loop-k-preserved c).After-line_at-line) c.loop-k.k
       (sym c.lacks_month.ensures ∙ c.if-lacks_month.false),
 )
 
-pub lines-preserved : goal.lines-preserved
+pub loop-j-preserved : goal.loop-j-preserved
 unfolding missing_in_line
-lines-preserved c =
+loop-j-preserved c =
     let t = listed_lacks c.args.means.now in
     let e : c.loop-k.k ≡ term_places = omega arith in (
       omega arith,
-      c.loop-k.invariant.1,
-      first_step (λ i. missing_in_line t (line_of c.args.lines.now i) i) (j (goal.at.lines-preserved c).After-line_at-line) c.lines.invariant.2
-          ∙ ap (λ line. missing_in_line t line (j (goal.at.lines-preserved c).After-line_at-line)) (sym c.line_at-line.ensures)
-          ∙ rw e at c.loop-k.invariant.2,
+      first_step (λ i. missing_in_line t (line_of c.args.lines.now i) i) (j (goal.at.loop-j-preserved c).After-line_at-line) c.loop-j.invariant.1
+          ∙ ap (λ line. missing_in_line t line (j (goal.at.loop-j-preserved c).After-line_at-line)) (sym c.line_at-line.ensures)
+          ∙ rw e at c.loop-k.invariant.1,
     )
 
-pub returns-after-lines : goal.returns-after-lines
+pub returns : goal.returns
 unfolding verdict_of month_check first_missing
-returns-after-lines c =
-    let e : c.lines.j ≡ line_count
+returns c =
+    let e : c.loop-j.j ≡ line_count
     c.args.lines.now = omega (arith, c.line_count-count.ensures) in
-    rw (← e, c.lines.invariant.2) c.lines.invariant.1
+    rw (← e, c.loop-j.invariant.1) refl
 
 pub returns-then-lacks_month : goal.returns-then-lacks_month
 unfolding verdict_of month_check first_missing missing_in_line
@@ -87,9 +85,9 @@ returns-then-lacks_month c =
     let place : Place = record { line = j (goal.at.returns-then-lacks_month c).After-line_at-line; term = c.loop-k.k } in
     rw
     (first_is (λ i. missing_in_line t (line_of c.args.lines.now i) i) (j (goal.at.returns-then-lacks_month c).After-line_at-line) (line_count c.args.lines.now)
-    place (below (goal.at.returns-then-lacks_month c).After-line_at-line) c.lines.invariant.2
+    place (below (goal.at.returns-then-lacks_month c).After-line_at-line) c.loop-j.invariant.1
     (ap (λ line. missing_in_line t line (j (goal.at.returns-then-lacks_month c).After-line_at-line)) (sym c.line_at-line.ensures)
     ∙ first_is (missing_term t c.line_at-line.result (j (goal.at.returns-then-lacks_month c).After-line_at-line)) c.loop-k.k term_places place
-    (omega arith) c.loop-k.invariant.2
+    (omega arith) c.loop-k.invariant.1
     (term_missing t c.line_at-line.result (j (goal.at.returns-then-lacks_month c).After-line_at-line) c.loop-k.k
     (sym c.lacks_month.ensures ∙ c.if-lacks_month.true))))

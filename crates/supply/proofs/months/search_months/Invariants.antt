@@ -1,8 +1,8 @@
 -- Where no mean is 0 nothing is missing. The walk's invariants: nothing is missing in the lines passed, nor in the
 -- terms passed of the line at hand.
 use mathlib.Core.Path.{◌≡◌}
-use Rattle.std.specs.Prelude.{None, Ok, Err}
-use Prim.Native.Nat.{◌≤◌, ◌-◌}
+use Rattle.std.specs.Prelude.{None}
+use Prim.Native.Nat.{◌≤◌}
 use Rattle.numbers.specs.Bounded.{first_below}
 use Rattle.supply.specs.Line.{term_places, line_of}
 use Rattle.supply.specs.Listed.{listed_lacks}
@@ -11,14 +11,8 @@ use Rattle.supply.proofs.months.search_months.Given as goal
 
 abbrev pub invariant-loop-k : goal.invariant-loop-k
 invariant-loop-k l =
-    (l.k ≤ term_places) × (l.found ≡ Ok tt) × (first_below l.k (missing_term (listed_lacks l.means) l.line l.j) ≡ None)
+    (l.k ≤ term_places) × (first_below l.k (missing_term (listed_lacks l.means) l.line l.j) ≡ None)
 
-abbrev pub decreases-loop-k : goal.decreases-loop-k
-decreases-loop-k l = term_places - l.k
-
-abbrev pub invariant-lines : goal.invariant-lines
-invariant-lines l =
-    (l.j ≤ l.count) × (l.found ≡ Ok tt) × (first_below l.j (λ i. missing_in_line (listed_lacks l.means) (line_of l.lines i) i) ≡ None)
-
-abbrev pub decreases-lines : goal.decreases-lines
-decreases-lines l = l.count - l.j
+abbrev pub invariant-loop-j : goal.invariant-loop-j
+invariant-loop-j l =
+    (l.j ≤ l.count) × (first_below l.j (λ i. missing_in_line (listed_lacks l.means) (line_of l.lines i) i) ≡ None)

@@ -2,7 +2,7 @@
 -- line, the words tell whether any moved, and are turned into the power prices.
 use mathlib.Core.Path.{◌≡◌, refl, sym, ◌∙◌, ap, ap₂}
 use mathlib.Core.Bool.{not}
-use Rattle.std.specs.Prelude.{Some, None}
+use Rattle.std.specs.Prelude.{Some, None, Err}
 use Prim.Native.Nat.{ℕ, ◌<◌}
 use native.Mathlib.Omega.{arith}
 use lib.Dec.{eqb}
@@ -17,8 +17,8 @@ use Rattle.numbers.proofs.ListLaws.{filled_none, filled_more}
 use Rattle.supply.specs.Line.{most_lines, line_count, line_of}
 use Rattle.supply.specs.Listed.{listed_mean, indexed_or_zero, indexed_reference}
 use Rattle.supply.specs.Price.{power_peso_of, price_in_force, answer_at, power_allowed, beyond_in, first_beyond, any_moved}
-use Rattle.supply.specs.Price.{any_line_moved, reference_price, reference_list, power_list, refused_prices}
-use Rattle.supply.specs.Price.{bounded_prices}
+use Rattle.supply.specs.Price.{any_line_moved, reference_price, reference_list, power_list}
+use Rattle.supply.specs.Price.{worked_prices, bounded_prices}
 use Rattle.supply.specs.declared.line.Term.{Term}
 use Rattle.supply.specs.declared.price.PriceWords.{PriceWords}
 use Rattle.supply.proofs.PriceLaws.{indexed_most, indexed_reference_lem, indexed_at, power_at, power_tells}
@@ -54,7 +54,7 @@ module _ (c : In-loop-j) where
   -- where it is out of bounds, it is the first that is
   refused_here : beyond_in mean c.args.numbers c.args.lines.now c.args.in_force.now c.loop-j.j ≡ Some
       c.loop-j.j →
-      bounded_prices mean c.args.numbers c.args.lines.now c.args.in_force.now ≡ refused_prices
+      bounded_prices mean c.args.numbers c.args.lines.now c.args.in_force.now ≡ Err
       (OutOfBounds c.loop-j.j)
   unfolding bounded_prices first_beyond
   refused_here h =
@@ -82,8 +82,7 @@ loop-j-init c = (omega arith, refl, c.no_references-references.ensures ∙ fille
 
 pub returns-then-purchases-j-eq0 : goal.returns-then-purchases-j-eq0
 returns-then-purchases-j-eq0 c =
-    c.refused.ensures
-    ∙ sym (refused_here (goal.at.returns-then-purchases-j-eq0 c).In-loop-j
+    sym (refused_here (goal.at.returns-then-purchases-j-eq0 c).In-loop-j
     (power_beyond (mean (goal.at.returns-then-purchases-j-eq0 c).In-loop-j) c.args.numbers c.args.lines.now c.args.in_force.now c.loop-j.j
     (not-true _ (sym (power_told (goal.at.returns-then-purchases-j-eq0 c).In-loop-j) ∙ eq-eqb _ _ c.if-purchases-j-eq0.true))))
 
@@ -100,18 +99,17 @@ price_line-requires c =
       fact_4 = rw (word (goal.at.price_line-requires c).In-loop-j) (indexed_most 1000000 _ _);
     }
 
-pub returns-in-OutsideBounds : goal.returns-in-OutsideBounds
-returns-in-OutsideBounds c =
-    c.refused-in-OutsideBounds.ensures
-    ∙ sym (refused_here (goal.at.returns-in-OutsideBounds c).In-loop-j
-    (line_beyond (mean (goal.at.returns-in-OutsideBounds c).In-loop-j) c.args.numbers c.args.lines.now c.args.in_force.now c.loop-j.j
-    (sym (answered (goal.at.returns-in-OutsideBounds c).After-price_line (word (goal.at.returns-in-OutsideBounds c).In-loop-j)) ∙ c.in-OutsideBounds.is)))
+pub returns-in-None : goal.returns-in-None
+returns-in-None c =
+    sym (refused_here (goal.at.returns-in-None c).In-loop-j
+    (line_beyond (mean (goal.at.returns-in-None c).In-loop-j) c.args.numbers c.args.lines.now c.args.in_force.now c.loop-j.j
+    (sym (answered (goal.at.returns-in-None c).After-price_line (word (goal.at.returns-in-None c).In-loop-j)) ∙ c.in-None.is)))
 
 pub loop-j-preserved : goal.loop-j-preserved
 loop-j-preserved c =
     let j = c.loop-j.j in
     let a = c.args in
-    let told = sym (answered (goal.at.loop-j-preserved c).After-price_line (word (goal.at.loop-j-preserved c).In-loop-j)) ∙ c.in-Within.is in (
+    let told = sym (answered (goal.at.loop-j-preserved c).After-price_line (word (goal.at.loop-j-preserved c).In-loop-j)) ∙ c.in-Some.is in (
       omega (arith, below (goal.at.loop-j-preserved c).In-loop-j),
       first_step (beyond_in (mean (goal.at.loop-j-preserved c).In-loop-j) a.numbers a.lines.now a.in_force.now) j c.loop-j.invariant.1
           ∙ line_within (mean (goal.at.loop-j-preserved c).In-loop-j) a.numbers a.lines.now a.in_force.now j _ told
@@ -172,7 +170,7 @@ told c none_beyond =
 pub returns-then-not-any_moved : goal.returns-then-not-any_moved
 unfolding bounded_prices
 returns-then-not-any_moved c =
-    rw (prices_unmoved _ _ _ _ (none_beyond (goal.at.returns-then-not-any_moved c).After-loop-j) (told_false (told (goal.at.returns-then-not-any_moved c).After-any_moved (none_beyond (goal.at.returns-then-not-any_moved c).After-loop-j)) c.if-not-any_moved.true-raw)) c.refused-then-not-any_moved.ensures
+    rw (prices_unmoved _ _ _ _ (none_beyond (goal.at.returns-then-not-any_moved c).After-loop-j) (told_false (told (goal.at.returns-then-not-any_moved c).After-any_moved (none_beyond (goal.at.returns-then-not-any_moved c).After-loop-j)) c.if-not-any_moved.true-raw)) refl
 
 pub power_prices-requires : goal.power_prices-requires
 power_prices-requires c =
@@ -200,7 +198,7 @@ turned c =
     ∙ words_power (listed_mean c.args.means.now) a.numbers a.lines.now a.in_force.now (none_beyond (goal.at.returns c).After-loop-j) (c.requires.fact_3.few)
 
 pub returns : goal.returns
-unfolding bounded_prices
+unfolding bounded_prices worked_prices
 returns c =
     rw (
       prices_passed _ _ _ _ (none_beyond (goal.at.returns c).After-loop-j) (told_true (told (goal.at.returns c).After-any_moved (none_beyond (goal.at.returns c).After-loop-j)) c.if-not-any_moved.false-raw),

@@ -2,6 +2,7 @@
 use mathlib.Core.Path.{◌≡◌, sym, ◌∙◌, ap}
 use mathlib.Core.List.{[], ◌∷◌}
 use Rattle.numbers.specs.Checks.{verdict_of}
+use Rattle.std.proofs.lemmas.Result.{err_from_is_err_and}
 use Rattle.series.proofs.MeanLaws.{means_within}
 use Rattle.supply.specs.Listed.{listed_mean, listed_lacks}
 use Rattle.supply.specs.Months.{lacks_month, month_check}
@@ -38,22 +39,23 @@ bounded_prices-requires c =
       fact_4 = c.requires.fact_4;
     }
 
-pub returns-in-Refused : goal.returns-in-Refused
-returns-in-Refused c =
+pub returns-in_err-search_months : goal.returns-in_err-search_months
+returns-in_err-search_months c =
     let a = c.args in
     prices_promised a.table a.numbers a.lines.now a.in_force.now _
-    (c.refused.ensures
-    ∙ sym (months_refused a.table a.numbers a.lines.now a.in_force.now _
-    (sym (searched (goal.at.returns-in-Refused c).After-search_months) ∙ c.in-Refused.is)))
+    (let p = err_from_is_err_and c.from_residual.result c.from_residual.ensures.1 in
+    rw (p.1, p.2)
+    (months_refused a.table a.numbers a.lines.now a.in_force.now _
+    (sym (searched (goal.at.returns-in_err-search_months c).After-search_months) ∙ c.in_err-search_months.was)))
 
-pub returns-in-Passed : goal.returns-in-Passed
-returns-in-Passed c =
+pub returns : goal.returns
+returns c =
     let a = c.args in
-    let present = sym (searched (goal.at.returns-in-Passed c).After-search_months) ∙ c.in-Passed.is in
+    let present = sym (searched (goal.at.returns c).After-search_months) ∙ c.in_ok-search_months.was in
     prices_promised a.table a.numbers a.lines.now a.in_force.now _
     (c.bounded_prices.ensures
     ∙ ap (λ means. bounded_prices (listed_mean means) a.numbers a.lines.now a.in_force.now)
     c.means-means.ensures
     ∙ prices_listed a.table a.numbers a.lines.now c.requires.fact_3
     (months_present a.table a.numbers a.lines.now a.in_force.now present) a.in_force.now
-    ∙ sym (months_priced a.table a.numbers a.lines.now a.in_force.now present))
+    ∙ months_priced a.table a.numbers a.lines.now a.in_force.now present)
