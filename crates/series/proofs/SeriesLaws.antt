@@ -8,7 +8,10 @@ use Rattle.std.specs.Prelude.{Option, Some, None}
 use Prim.Native.Nat.{ℕ, ◌+◌, ◌-◌, ◌*◌, ◌≤◌, ◌<◌}
 use native.Mathlib.Omega.{arith}
 use native.Mathlib.Decide.{dec_lt}
-use lib.ListN.{get_or, get_or-eq_default}
+use lib.ListN.{length, get_or, get_or-eq_default}
+use lib.Seq.{ext_get_or}
+use Rattle.std.specs.List.{between}
+use Rattle.std.proofs.lemmas.List.Edits.{length-between, get_or-between}
 use lib.Dec.{leb, ltb, eqb}
 use borrow.Author.Tests.{leb-true, eqb-true, eqb-false, eq-eqb, le-leb, lt-leb, lt-ltb, le-ltb}
 use Rattle.numbers.specs.Bounded.{sum_below}
@@ -33,6 +36,17 @@ window_size w h = go (eqb w 1) refl (eqb w 6) refl (eqb w 9) refl h
     go false p true q d r e = omega (arith, eqb-true w 6 q)
     go false p false q true r e = omega (arith, eqb-true w 9 r)
     go false p false q false r e = absurd (false≢true e)
+
+-- the words of a row, copied together
+pub row_copied : (words : List ℕ) (s : ℕ) → length words ≡ word_count → s < series_count →
+    between (s * month_count) (s * month_count + month_count) words ≡ series_row words s
+unfolding series_row
+row_copied words s e h =
+    let long = length-between words (s * month_count) (s * month_count + month_count) (omega arith) in
+    ext_get_or 0 _ _
+    (omega (arith, long, list_length (λ k. get_or words (s * month_count + k) 0) month_count))
+    (λ k p. let q : k < month_count = omega (arith, long) in
+    get_or-between words (s * month_count) _ k 0 (omega arith) ∙ sym (list_at (λ i. get_or words (s * month_count + i) 0) month_count 0 k q))
 
 pick_most : (b : Bool) (x m : ℕ) → x ≤ m → cond b x 0 ≤ m
 pick_most true x m h = h

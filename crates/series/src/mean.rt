@@ -27,20 +27,21 @@ pub fn window_allowed(window: u64) -> bool
 
 // Where the mean of a series, lag and window stands in the list.
 pub fn mean_place(series: u64, lag: u64, window: u64) -> usize
-    requires fact_1 { series < series_count }
-    requires fact_2 { 1 ≤ lag }
-    requires fact_3 { lag ≤ 12 }
-    requires fact_4 { window ≤ 9 }
+    requires known { series < series_count }
+    requires lagged { 1 ≤ lag }
+    requires few { lag ≤ 12 }
+    requires narrow { window ≤ 9 }
     ensures { result ≡ mean_place series lag window }
 {
     series as usize * SERIES_MEANS + (lag - 1) as usize * WINDOWS + (window / 4) as usize
 }
 
 // The mean of a window of a series' row, in millionths, or 0 where a month of it is missing: the window lies whole in
-// the table, and no value of it is zero.
+// the table, and no value of it is zero. The 0 stays: it is what 01 has for a missing month, no mean of published values
+// is 0, and the list of all means would hold 180 options.
 fn mean(row: &[u64; MONTHS], first: u64, month: u64, lag: u64, window: u64) -> u64
-    requires fact_1 { ValuesWithin most_value row.now }
-    requires fact_2 { WindowInRange first lag window }
+    requires small { ValuesWithin most_value row.now }
+    requires window { WindowInRange first lag window }
     ensures { result ≡ mean_or_zero row.now first month lag window }
 {
     if month < first + lag + window - 1 {
@@ -51,14 +52,12 @@ fn mean(row: &[u64; MONTHS], first: u64, month: u64, lag: u64, window: u64) -> u
         return 0;
     }
     let mut sum: u64 = 0;
-    let mut k: usize = 0;
-    while (k as u64) < window {
-        let value = row[newest - k];
+    for k in 0..window {
+        let value = row[newest - k as usize];
         if value == 0 {
             return 0;
         }
         sum += value;
-        k += 1;
     }
     half_up(sum * 100, window)
 }
@@ -66,20 +65,18 @@ fn mean(row: &[u64; MONTHS], first: u64, month: u64, lag: u64, window: u64) -> u
 // The means of every series, lag and window, worked in a month, from the table and its first month. A turn works those
 // of a series and lag, each window a constant, so that the compiler divides by none of them.
 pub fn means(table: [[u64; MONTHS]; SERIES], first: u64, month: u64) -> [u64; MEANS]
-    requires fact_1 { TableInRange table }
-    requires fact_2 { first ≤ last_month }
+    requires small { TableInRange table }
+    requires start { first ≤ last_month }
     ensures { result ≡ mean_list table first month }
 {
     let mut means = [0u64; MEANS];
-    let mut turn: usize = 0;
-    while turn < SERIES * LAGS {
+    for turn in 0..SERIES * LAGS {
         let series = turn / LAGS;
         let lag = (turn % LAGS + 1) as u64;
         let place = turn * WINDOWS;
         means[place] = mean(&table[series], first, month, lag, 1);
         means[place + 1] = mean(&table[series], first, month, lag, 6);
         means[place + 2] = mean(&table[series], first, month, lag, 9);
-        turn += 1;
     }
     means
 }

@@ -1,6 +1,6 @@
 // The table of 5 series by 48 months, by value, and the test of its 240 words.
-ghost use Rattle.std.specs.Prelude.{◌≡◌, ◌<◌, length};
-ghost use Rattle.series.specs.Series.{series_count, word_count, series_row, series_table, values_in_range};
+ghost use Rattle.std.specs.Prelude.{◌≡◌, length};
+ghost use Rattle.series.specs.Series.{word_count, series_table, values_in_range};
 
 use numbers::units::all_between;
 
@@ -18,31 +18,15 @@ pub const WORDS: usize = SERIES * MONTHS;
 
 pub const MOST_VALUE: u64 = 99999999;
 
-// Row `series` of the lent words.
-fn row(words: &[u64], series: usize) -> [u64; MONTHS]
-    requires fact_1 { length words.now ≡ word_count }
-    requires fact_2 { series < series_count }
-    ensures { result ≡ series_row words.now series }
-{
-    let mut row = [0u64; MONTHS];
-    let mut k: usize = 0;
-    while k < MONTHS {
-        row[k] = words[series * MONTHS + k];
-        k += 1;
-    }
-    row
-}
-
 // The table: word 48 * series + k of the lent words stands in row `series` at month k.
 pub fn fill(words: &[u64]) -> [[u64; MONTHS]; SERIES]
     requires { length words.now ≡ word_count }
     ensures { result ≡ series_table words.now }
 {
-    let mut table = [[0u64; MONTHS]; SERIES];
-    let mut series: usize = 0;
-    while series < SERIES {
-        table[series] = row(words, series);
-        series += 1;
+    let mut table = [[0; MONTHS]; SERIES];
+    for series in 0..SERIES {
+        let start = series * MONTHS;
+        table[series].copy_from_slice(&words[start..start + MONTHS]);
     }
     table
 }

@@ -31,10 +31,6 @@ pub example_billed : billing_in_range 3 (in_sector_zero false true true true) (b
 unfolding settlement_computed
 example_billed = refl
 
--- the loss factor at high voltage is the first of its pair
-pub high_first : (losses : List ℕ) (i : ℕ) → get_or losses (i * 2 + 0) 0 ≡ high_loss_of losses i
-high_first losses i = ap (λ j. get_or losses j 0) (omega arith)
-
 reading_most : (present : Bool) (reading : ℕ) → reading_allowed present reading ≡ true → reading ≤ most_reading
 unfolding reading_allowed
 reading_most present reading h =

@@ -1,20 +1,26 @@
 -- A month's lists: bounds of running totals, shares, positions that pass their test and the balances that a settlement
 -- leaves, and how a loop writes them. Assumes nothing.
-use mathlib.Core.Path.{◌≡◌, sym, ◌∙◌, ap, ap₂}
+use mathlib.Core.Path.{◌≡◌, refl, sym, ◌∙◌, ap, ap₂}
 use mathlib.Core.Bool.{Bool, true, false}
 use mathlib.Core.List.{List}
-use Prim.Native.Nat.{ℕ, ◌+◌, ◌≤◌, ◌<◌}
+use Prim.Native.Nat.{ℕ, zero, suc, ◌+◌, ◌≤◌, ◌<◌}
+use native.Mathlib.Numerals.{add-one}
 use native.Mathlib.Omega.{arith}
 use lib.IntN.{ℤ, sub_ℕ, nat_abs, ◌+ℤ◌}
-use lib.ListN.{get_or, set, replicate}
+use lib.ListN.{length, get_or, set, take, replicate}
+use Rattle.std.specs.Prelude.{sum}
+use Rattle.std.specs.List.{list_all}
+use Rattle.std.proofs.lemmas.List.{length-take-le, get_or-take}
+use Rattle.std.proofs.lemmas.List.Sums.{fold_more}
 use borrow.Author.Tests.{leb-true}
-use Rattle.numbers.specs.Bounded.{sum_below}
+use Rattle.numbers.specs.Bounded.{sum_below, all_below}
 use Rattle.numbers.specs.Signed.{within_size}
 use Rattle.numbers.specs.Units.{no_money}
 use Rattle.numbers.specs.Sizes.{most_distributors}
 use Rattle.numbers.specs.declared.units.Pesos.{Pesos}
 use Rattle.numbers.proofs.SumLaws.{sum_same, sum_le}
-use Rattle.numbers.proofs.TestLaws.{all_at}
+use Rattle.numbers.proofs.TestLaws.{all_at, all_same}
+use Rattle.numbers.proofs.ChainLaws.{all_listed}
 use Rattle.numbers.proofs.ListLaws.{filled_none, filled_at, filled_next, filled_same}
 use Rattle.settlement.specs.Amount.{collected_amount}
 use Rattle.settlement.specs.Required.{Billed}
@@ -28,6 +34,21 @@ use Rattle.numbers.proofs.SignedLaws.{part_most, size_add_le, size_sub_le}
 use Rattle.settlement.proofs.AmountLaws.{amount_size}
 use Rattle.settlement.proofs.ShareLaws.{share_same, share_most, share_whole}
 use Rattle.settlement.proofs.SettlementLaws.{balance_size}
+
+-- the sum of the first values of a list
+pub sum_taken : (xs : List ℕ) (n : ℕ) → n ≤ length xs → sum (take n xs) ≡ sum_below n (λ i. get_or xs i 0)
+unfolding sum_below
+sum_taken xs zero h = refl
+sum_taken xs (suc n) h =
+    omega (arith, rw add-one at (fold_more ◌+◌ 0 xs n 0 (omega arith)), sum_taken xs n (omega arith))
+
+-- `all` of the first values of a list
+pub all_taken : {A : Type 0} (test : A → Bool) (list : List A) (n : ℕ) (empty : A) → n ≤ length list →
+    list_all test (take n list) ≡ all_below n (λ i. test (get_or list i empty))
+all_taken test list n empty h =
+    all_listed test (take n list) empty
+    ∙ ap (λ k. all_below k (λ i. test (get_or (take n list) i empty))) (length-take-le n list h)
+    ∙ all_same n _ _ (λ i p. ap test (get_or-take n list i empty p))
 
 -- a side's running totals
 module _ (n : ℕ) (sizes : List ℕ) (side : Side n sizes) where

@@ -5,6 +5,7 @@ use Rattle.std.proofs.Math.IntN.{sub_ℕ}
 use Rattle.numbers.specs.Bounded.{filled_below}
 use Rattle.numbers.specs.Units.{no_money}
 use Rattle.numbers.specs.Sizes.{most_distributors}
+use Rattle.numbers.specs.declared.division.Division.{Division}
 use Rattle.numbers.specs.declared.units.Pesos.{Pesos}
 use Rattle.settlement.specs.Amount.{collected_amount}
 use Rattle.settlement.specs.Share.{share_floor, share_remainder, pesos_left, share}
@@ -41,13 +42,24 @@ sizes_below n size = filled_below most_distributors 0 n size
 unfoldable pub share_list : ℕ → List ℕ → ℕ → List ℕ
 share_list n sizes transferred = filled_below most_distributors 0 n (share n (λ i. get_or sizes i 0) transferred)
 
--- a side's floors and remainders as lists, and the pesos that the floors leave
+-- what stands at i of a list of divisions, and an empty place
+abbrev pub no_division : Division
+no_division = record { quotient = 0; remainder = 0 }
+
+abbrev pub division_at : List Division → ℕ → Division
+division_at list i = get_or list i no_division
+
+-- the division that gives a share: its floor, and the remainder
+unfoldable pub share_division : ℕ → (ℕ → ℕ) → ℕ → ℕ → Division
+share_division n size transferred i =
+    record { quotient = share_floor n size transferred i; remainder = share_remainder n size transferred i }
+
+-- a side's divisions as a list, and the pesos that the floors leave
 unfoldable pub divided_side : ℕ → List ℕ → ℕ → DividedSide
 divided_side n sizes transferred =
     let size : ℕ → ℕ = λ i. get_or sizes i 0 in
     record {
-      floors = filled_below most_distributors 0 n (share_floor n size transferred);
-      remainders = filled_below most_distributors 0 n (share_remainder n size transferred);
+      divisions = filled_below most_distributors no_division n (share_division n size transferred);
       left = pesos_left n size transferred;
     }
 

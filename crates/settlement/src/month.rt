@@ -5,7 +5,7 @@ ghost use Rattle.settlement.specs.Settlement.{positions_in_range, side_size};
 ghost use Rattle.settlement.specs.Month.{money_at, sizes_below, position_list, settled_month, moved_month};
 ghost use Rattle.settlement.specs.Required.{Billed, MoneyWithin, Side};
 
-use crate::amount::collected_amount;
+use crate::amount::Billing;
 use crate::share::{shares, side_total};
 use numbers::signed::{difference, is_negative, magnitude, within_size};
 use numbers::sizes::{MOST_DISTRIBUTORS, PLACES};
@@ -29,19 +29,20 @@ pub fn positions(
     readings: &[u64],
     losses: &[u64],
 ) -> [Pesos; MOST_DISTRIBUTORS]
-    requires fact_1 { MoneyWithin n balances }
-    requires fact_2 { Billed n charges.now readings.now losses.now }
+    requires within { MoneyWithin n balances }
+    requires billed { Billed n charges.now readings.now losses.now }
     ensures { result ≡ position_list n balances
         charges.now readings.now losses.now }
 {
-    let none = Pesos(0);
-    let mut positions = [none; MOST_DISTRIBUTORS];
-    let mut i: usize = 0;
-    while i < n {
-        let balance = balances[i];
-        let amount = collected_amount(n, charges, readings, losses, i);
-        positions[i] = Pesos(balance.0 + amount.0);
-        i += 1;
+    let billing = Billing {
+        n,
+        readings,
+        losses,
+    };
+    let mut positions = [Pesos(0); MOST_DISTRIBUTORS];
+    for i in 0..n {
+        let amount = billing.collected_amount(charges, i);
+        positions[i] = Pesos(balances[i].0 + amount.0);
     }
     positions
 }
@@ -51,15 +52,7 @@ pub fn positions_in_range(n: usize, positions: [Pesos; MOST_DISTRIBUTORS]) -> bo
     requires { n ≤ most_distributors }
     ensures { result ≡ positions_in_range n (money_at positions) }
 {
-    let mut i: usize = 0;
-    while i < n {
-        let position = positions[i];
-        if !within_size(position.0, MOST_POSITION) {
-            return false;
-        }
-        i += 1;
-    }
-    true
+    positions[..n].iter().all(|position| within_size(position.0, MOST_POSITION))
 }
 
 // The sizes of one side: of those who are owed, with a position below zero, or of those who owe.
@@ -72,13 +65,11 @@ fn side_sizes(
     ensures { result ≡ sizes_below n (side_size negative (money_at positions)) }
 {
     let mut sizes = [0u64; MOST_DISTRIBUTORS];
-    let mut i: usize = 0;
-    while i < n {
+    for i in 0..n {
         let position = positions[i];
         if is_negative(position.0) == negative {
             sizes[i] = magnitude(position.0);
         }
-        i += 1;
     }
     sizes
 }
@@ -90,21 +81,17 @@ fn moved(
     paid: &[u64; MOST_DISTRIBUTORS],
     received: &[u64; MOST_DISTRIBUTORS],
 ) -> SettledMonth
-    requires fact_1 { MoneyWithin n positions }
-    requires fact_2 { Side n paid.now }
-    requires fact_3 { Side n received.now }
+    requires within { MoneyWithin n positions }
+    requires paid { Side n paid.now }
+    requires received { Side n received.now }
     ensures { result ≡ moved_month n positions paid.now received.now }
 {
-    let none = Pesos(0);
-    let mut balances = [none; MOST_DISTRIBUTORS];
-    let mut transfers = [none; MOST_DISTRIBUTORS];
-    let mut i: usize = 0;
-    while i < n {
-        let position = positions[i];
+    let mut balances = [Pesos(0); MOST_DISTRIBUTORS];
+    let mut transfers = [Pesos(0); MOST_DISTRIBUTORS];
+    for i in 0..n {
         let transfer = difference(received[i], paid[i]);
-        balances[i] = Pesos(position.0 + transfer);
+        balances[i] = Pesos(positions[i].0 + transfer);
         transfers[i] = Pesos(transfer);
-        i += 1;
     }
     SettledMonth {
         balances,
@@ -122,11 +109,7 @@ pub fn settle_positions(n: usize, positions: [Pesos; MOST_DISTRIBUTORS]) -> Sett
     let owed = side_sizes(n, positions, true);
     let owing_total = side_total(n, &owing);
     let owed_total = side_total(n, &owed);
-    let transferred = if owing_total < owed_total {
-        owing_total
-    } else {
-        owed_total
-    };
+    let transferred = owing_total.min(owed_total);
     let paid = shares(n, &owing, owing_total, transferred);
     let received = shares(n, &owed, owed_total, transferred);
     moved(n, positions, &paid, &received)

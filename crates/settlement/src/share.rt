@@ -3,10 +3,10 @@
 ghost use Rattle.std.specs.Prelude.{◌≡◌, ◌≤◌, ◌<◌, get_or};
 ghost use Rattle.numbers.specs.Sizes.{most_distributors};
 ghost use Rattle.settlement.specs.Share.{side_total, rank};
-ghost use Rattle.settlement.specs.Month.{share_list, divided_side};
+ghost use Rattle.settlement.specs.Month.{division_at, share_list, divided_side};
 ghost use Rattle.settlement.specs.Required.{Side};
 
-use numbers::division::multiply_divide;
+use numbers::division::{Division, multiply_divide};
 use numbers::sizes::MOST_DISTRIBUTORS;
 
 // The total of a side.
@@ -14,20 +14,13 @@ pub(crate) fn side_total(n: usize, sizes: &[u64; MOST_DISTRIBUTORS]) -> u64
     requires { Side n sizes.now }
     ensures { result ≡ side_total n (λ i. get_or sizes.now i 0) }
 {
-    let mut total: u64 = 0;
-    let mut i: usize = 0;
-    while i < n {
-        total += sizes[i];
-        i += 1;
-    }
-    total
+    sizes[..n].iter().sum()
 }
 
-// A side divided: each distributor's floor and remainder, and the pesos that the floors leave.
+// A side divided: each distributor's division, with its floor for a quotient, and the pesos that the floors leave.
 #[derive(Clone, Copy)]
 pub(crate) struct DividedSide {
-    pub(crate) floors: [u64; MOST_DISTRIBUTORS],
-    pub(crate) remainders: [u64; MOST_DISTRIBUTORS],
+    pub(crate) divisions: [Division; MOST_DISTRIBUTORS],
     pub(crate) left: u64,
 }
 
@@ -38,44 +31,41 @@ fn divide_side(
     total: u64,
     transferred: u64,
 ) -> DividedSide
-    requires fact_1 { Side n sizes.now }
-    requires fact_2 { total ≡ side_total n (λ i. get_or sizes.now i 0) }
-    requires fact_3 { transferred < total }
+    requires side { Side n sizes.now }
+    requires whole { total ≡ side_total n (λ i. get_or sizes.now i 0) }
+    requires most { transferred < total }
     ensures { result ≡ divided_side n sizes.now transferred }
 {
-    let mut floors = [0u64; MOST_DISTRIBUTORS];
-    let mut remainders = [0u64; MOST_DISTRIBUTORS];
+    let none = Division {
+        quotient: 0,
+        remainder: 0,
+    };
+    let mut divisions = [none; MOST_DISTRIBUTORS];
     let mut left = transferred;
-    let mut i: usize = 0;
-    while i < n {
+    for i in 0..n {
         let division = multiply_divide(transferred, sizes[i], total);
-        floors[i] = division.quotient;
-        remainders[i] = division.remainder;
+        divisions[i] = division;
         left -= division.quotient;
-        i += 1;
     }
     DividedSide {
-        floors,
-        remainders,
+        divisions,
         left,
     }
 }
 
 // How many come before i: those with a larger remainder, and the lower ones with the same.
-fn rank_of(n: usize, remainders: &[u64; MOST_DISTRIBUTORS], i: usize) -> u64
-    requires fact_1 { n ≤ most_distributors }
-    requires fact_2 { i < n }
-    ensures { result ≡ rank n (λ j. get_or remainders.now j 0) i }
+fn rank_of(n: usize, divisions: &[Division; MOST_DISTRIBUTORS], i: usize) -> u64
+    requires few { n ≤ most_distributors }
+    requires known { i < n }
+    ensures { result ≡ rank n (λ j. (division_at divisions.now j).remainder) i }
 {
-    let own = remainders[i];
+    let own = divisions[i].remainder;
     let mut rank: u64 = 0;
-    let mut j: usize = 0;
-    while j < n {
-        let other = remainders[j];
+    for j in 0..n {
+        let other = divisions[j].remainder;
         if (own < other) | ((other == own) & (j < i)) {
             rank += 1;
         }
-        j += 1;
     }
     rank
 }
@@ -88,26 +78,22 @@ pub(crate) fn shares(
     total: u64,
     transferred: u64,
 ) -> [u64; MOST_DISTRIBUTORS]
-    requires fact_1 { Side n sizes.now }
-    requires fact_2 { total ≡ side_total n (λ i. get_or sizes.now i 0) }
-    requires fact_3 { transferred ≤ total }
+    requires side { Side n sizes.now }
+    requires whole { total ≡ side_total n (λ i. get_or sizes.now i 0) }
+    requires most { transferred ≤ total }
     ensures { result ≡ share_list n sizes.now transferred }
 {
     if transferred == total {
         return *sizes;
     }
     let divided = divide_side(n, sizes, total, transferred);
-    let floors = divided.floors;
-    let remainders = divided.remainders;
     let mut shares = [0u64; MOST_DISTRIBUTORS];
-    let mut i: usize = 0;
-    while i < n {
-        let mut share = floors[i];
-        if rank_of(n, &remainders, i) < divided.left {
+    for i in 0..n {
+        let mut share = divided.divisions[i].quotient;
+        if rank_of(n, &divided.divisions, i) < divided.left {
             share += 1;
         }
         shares[i] = share;
-        i += 1;
     }
     shares
 }

@@ -24,7 +24,7 @@ module _ (c : In-loop-k) where
       c.args.row.now c.args.first c.args.month c.args.lag k
   taken =
       window_inside c.args.row.now c.args.first c.args.month c.args.lag c.args.window
-      c.requires.fact_2.some k (omega arith)
+      c.requires.window.some k (omega arith)
       (omega arith) (omega arith)
 
 -- the sum at the loop's head
@@ -32,24 +32,24 @@ sum_most : (l : At-loop-k) → l.loop-k.sum ≤ 899999991
 sum_most l =
     omega (
       arith,
-      l.loop-k.invariant.2,
-      values_most l.args.row.now l.requires.fact_1 l.args.first l.args.month l.args.lag l.loop-k.k,
-      l.requires.fact_2.few,
+      l.loop-k.invariant.1,
+      values_most l.args.row.now l.requires.small l.args.first l.args.month l.args.lag l.loop-k.k,
+      l.requires.window.few,
     )
 
 pub returns-then-month-first : goal.returns-then-month-first
 returns-then-month-first c =
     sym (mean_missing c.args.row.now _ _ _ _
-    (window_before c.args.row.now _ _ _ _ c.requires.fact_2.some (omega arith)))
+    (window_before c.args.row.now _ _ _ _ c.requires.window.some (omega arith)))
 
 pub returns-then-newest-ge-MONTHS : goal.returns-then-newest-ge-MONTHS
 returns-then-newest-ge-MONTHS c =
     sym (mean_missing c.args.row.now _ _ _ _
-    (window_past c.args.row.now _ _ _ _ c.requires.fact_2.some (omega arith) (omega arith) (omega arith)))
+    (window_past c.args.row.now _ _ _ _ c.requires.window.some (omega arith) (omega arith) (omega arith)))
 
 pub loop-k-init : goal.loop-k-init
 unfolding any_below sum_below
-loop-k-init c = (omega arith, refl, refl)
+loop-k-init c = (refl, refl)
 
 pub returns-then-value-eq0 : goal.returns-then-value-eq0
 unfolding window_missing
@@ -66,7 +66,7 @@ overflow_add-sum c =
     omega (
       arith,
       taken (goal.at.overflow_add-sum c).In-loop-k,
-      value_most a.row.now c.requires.fact_1 a.first a.month a.lag (k (goal.at.overflow_add-sum c).In-loop-k),
+      value_most a.row.now c.requires.small a.first a.month a.lag (k (goal.at.overflow_add-sum c).In-loop-k),
       sum_most
           (goal.at.overflow_add-sum c).At-loop-k,
     )
@@ -74,43 +74,21 @@ overflow_add-sum c =
 pub loop-k-preserved : goal.loop-k-preserved
 loop-k-preserved c =
     let a = c.args in (
-      omega arith,
-      any_more (k (goal.at.loop-k-preserved c).In-loop-k) (λ j. eqb (term_value a.row.now a.first a.month a.lag j) 0) c.loop-k.invariant.1
+      any_more (k (goal.at.loop-k-preserved c).In-loop-k) (λ j. eqb (term_value a.row.now a.first a.month a.lag j) 0) c.loop-k.invariant.0
           (ne_eqb _ _ (λ e. c.if-value-eq0.false (taken (goal.at.loop-k-preserved c).In-loop-k ∙ e))),
       rw sum_step (omega (arith, taken (goal.at.loop-k-preserved c).In-loop-k)),
     )
 
 pub half_up-requires : goal.half_up-requires
 half_up-requires c =
-    omega (arith, c.requires.fact_2.some, c.requires.fact_2.few, sum_most (goal.at.half_up-requires c).At-loop-k)
+    omega (arith, c.requires.window.some, c.requires.window.few, sum_most (goal.at.half_up-requires c).At-loop-k)
 
 pub returns : goal.returns
 unfolding window_missing window_mean mean_of
 returns c =
     let e : c.loop-k.k ≡ c.args.window = omega arith in
-    c.half_up.ensures ∙ ap (λ x. half_up (x * 100) c.args.window) (rw e at c.loop-k.invariant.2)
-    ∙ sym (mean_published c.args.row.now _ _ _ _ (rw e at c.loop-k.invariant.1))
-
-pub overflow_add-first : goal.overflow_add-first
-overflow_add-first c = omega (arith, c.requires.fact_2.start, c.requires.fact_2.lagged)
-
-pub overflow_add-first-2 : goal.overflow_add-first-2
-overflow_add-first-2 c = omega (arith, c.requires.fact_2.start, c.requires.fact_2.lagged, c.requires.fact_2.few)
-
-pub overflow_sub-first : goal.overflow_sub-first
-overflow_sub-first c = omega (arith, c.requires.fact_2.some)
-
-pub overflow_sub-newest : goal.overflow_sub-newest
-overflow_sub-newest c = omega (arith, c.requires.fact_2.some)
-
-pub overflow_sub-newest-2 : goal.overflow_sub-newest-2
-overflow_sub-newest-2 c = omega (arith, c.requires.fact_2.some)
-
-pub overflow_sub-value : goal.overflow_sub-value
-overflow_sub-value c = omega (arith, c.requires.fact_2.some)
-
-pub overflow_add-k : goal.overflow_add-k
-overflow_add-k c = omega (arith, c.requires.fact_2.few)
+    c.half_up.ensures ∙ ap (λ x. half_up (x * 100) c.args.window) (rw e at c.loop-k.invariant.1)
+    ∙ sym (mean_published c.args.row.now _ _ _ _ (rw e at c.loop-k.invariant.0))
 
 pub overflow_mul-sum : goal.overflow_mul-sum
 overflow_mul-sum c = omega (arith, sum_most (goal.at.overflow_mul-sum c).At-loop-k)

@@ -1,7 +1,6 @@
 -- The window lies in the row; the invariant: no month passed is missing, and the sum is that of the months passed.
 use mathlib.Core.Path.{◌≡◌}
 use mathlib.Core.Bool.{false}
-use Prim.Native.Nat.{◌≤◌, ◌-◌}
 use lib.Dec.{eqb}
 use Rattle.numbers.specs.Bounded.{sum_below, any_below}
 use Rattle.series.specs.Series.{term_value}
@@ -9,9 +8,5 @@ use Rattle.series.proofs.mean.mean.Given as goal
 
 abbrev pub invariant-loop-k : goal.invariant-loop-k
 invariant-loop-k l =
-    (l.k ≤ l.window)
-    × (any_below l.k (λ i. eqb (term_value l.row l.first l.month l.lag i) 0) ≡ false)
+    (any_below l.k (λ i. eqb (term_value l.row l.first l.month l.lag i) 0) ≡ false)
     × (l.sum ≡ sum_below l.k (term_value l.row l.first l.month l.lag))
-
-abbrev pub decreases-loop-k : goal.decreases-loop-k
-decreases-loop-k l = l.window - l.k

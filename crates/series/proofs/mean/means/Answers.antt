@@ -1,42 +1,14 @@
 -- The invariant: the places of the turns made hold their means.
 use mathlib.Core.Path.{◌≡◌, refl, ◌∙◌}
-use Prim.Native.Nat.{ℕ, ◌+◌, ◌*◌, ◌/◌, ◌%◌, ◌≤◌}
+use Prim.Native.Nat.{◌+◌, ◌*◌}
 use native.Mathlib.Omega.{arith}
 use Rattle.numbers.proofs.ListLaws.{written_none, written_more, written_all}
-use Rattle.series.specs.Series.{last_month}
 use Rattle.series.specs.Means.{window_of, mean_list}
-use Rattle.series.specs.Required.{WindowInRange}
 use Rattle.series.proofs.MeanLaws.{worked_at}
 use Rattle.series.proofs.mean.means.Goals as goal
 
--- a lag of a turn, with a window
-window_known : (first turn window : ℕ) → first ≤ last_month → 1 ≤ window → window ≤ 9 →
-    WindowInRange first (turn % 12 + 1) window
-window_known first turn window h p q = record { start = h; lagged = omega arith; some = p; few = q }
-
 pub loop-turn-init : goal.loop-turn-init
 loop-turn-init c = written_none _ _ _ refl
-
-pub mean-requires : goal.mean-requires
-mean-requires c =
-    record {
-      fact_1 = c.requires.fact_1.row (c.loop-turn.turn / 12);
-      fact_2 = window_known _ c.loop-turn.turn 1 c.requires.fact_2 (omega arith) (omega arith);
-    }
-
-pub mean-requires-in-loop-turn : goal.mean-requires-in-loop-turn
-mean-requires-in-loop-turn c =
-    record {
-      fact_1 = c.requires.fact_1.row (c.loop-turn.turn / 12);
-      fact_2 = window_known _ c.loop-turn.turn 6 c.requires.fact_2 (omega arith) (omega arith);
-    }
-
-pub mean-requires-in-loop-turn-2 : goal.mean-requires-in-loop-turn-2
-mean-requires-in-loop-turn-2 c =
-    record {
-      fact_1 = c.requires.fact_1.row (c.loop-turn.turn / 12);
-      fact_2 = window_known _ c.loop-turn.turn 9 c.requires.fact_2 (omega arith) (omega arith);
-    }
 
 pub loop-turn-preserved : goal.loop-turn-preserved
 unfolding window_of

@@ -1,11 +1,7 @@
 -- The invariant: the first rows of the table are filled.
-use Prim.Native.Nat.{◌-◌}
 use Rattle.numbers.proofs.ListLaws.{Written}
 use Rattle.series.specs.Series.{series_row}
 use Rattle.series.proofs.table.fill.Given as goal
 
 abbrev pub invariant-loop-series : goal.invariant-loop-series
 invariant-loop-series l = Written (series_row l.words) 5 l.table l.series
-
-abbrev pub decreases-loop-series : goal.decreases-loop-series
-decreases-loop-series l = 5 - l.series

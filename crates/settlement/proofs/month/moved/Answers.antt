@@ -8,15 +8,15 @@ use mir.Val.{SFits, to_z, of_z}
 use mir.Facts.{to_z-of_z}
 use Rattle.settlement.specs.Month.{money_at, moved_month}
 use Rattle.settlement.specs.declared.month.SettledMonth.{SettledMonth}
-use Rattle.numbers.proofs.SignedLaws.{is_fits, sum_bits}
+use Rattle.numbers.proofs.SignedLaws.{size_fits, is_fits, sum_bits}
 use Rattle.settlement.proofs.MonthLaws.{money_none, money_next, moved_size}
 use native.Mathlib.Omega.{arith}
 use borrow.Author.Rules.{sfits_of}
 use Rattle.settlement.proofs.month.moved.Goals as goal
-use Rattle.settlement.proofs.month.moved.Goals.{After-struct_told-1}
+use Rattle.settlement.proofs.month.moved.Goals.{After-difference-transfer}
 
 -- the balance and the transfer of the distributor at hand
-module _ (c : After-struct_told-1) where
+module _ (c : After-difference-transfer) where
   abbrev transfer : ℕ → ℤ
   transfer j = sub_ℕ (get_or c.args.received.now j 0) (get_or c.args.paid.now j 0)
 
@@ -30,7 +30,7 @@ module _ (c : After-struct_told-1) where
 
   sum : code ≡ balance c.loop-i.i
   sum =
-      sum_bits (money_at c.args.positions c.loop-i.i) _ _ _ (sfits_of c.struct_told-1.given.0.1)
+      sum_bits (money_at c.args.positions c.loop-i.i) _ _ _ (size_fits _ (omega (arith, c.requires.within.within c.loop-i.i (omega arith))))
       (sfits_of c.difference-transfer.type_inv)
       refl c.difference-transfer.ensures
 
@@ -39,26 +39,26 @@ module _ (c : After-struct_told-1) where
       is_fits code (balance c.loop-i.i) sum
       (omega (
         arith,
-        moved_size c.args.n c.args.positions c.args.paid.now c.args.received.now c.requires.fact_1
-            c.requires.fact_2 c.requires.fact_3 c.loop-i.i (omega arith),
+        moved_size c.args.n c.args.positions c.args.paid.now c.args.received.now c.requires.within
+            c.requires.paid c.requires.received c.loop-i.i (omega arith),
       ))
 
 pub loop-i-init : goal.loop-i-init
-loop-i-init c = (omega arith, money_none _, money_none _)
+loop-i-init c = (money_none _, money_none _)
 
 pub difference-transfer-requires : goal.difference-transfer-requires
 difference-transfer-requires c =
-    omega (arith, c.requires.fact_2.within c.loop-i.i (omega arith), c.requires.fact_3.within c.loop-i.i (omega arith))
+    omega (arith, c.requires.paid.within c.loop-i.i (omega arith), c.requires.received.within c.loop-i.i (omega arith))
 
 pub overflow_add-balances : goal.overflow_add-balances
-overflow_add-balances c = fits c
+overflow_add-balances c = fits (goal.at.overflow_add-balances c).After-difference-transfer
 
 pub loop-i-preserved : goal.loop-i-preserved
-loop-i-preserved c = (
-  omega arith,
-  money_next (balance c) c.loop-i.i c.loop-i.balances _ (omega arith) c.loop-i.invariant.1
-      (to_z-of_z (fits c) ∙ sum c),
-  money_next (transfer c) c.loop-i.i c.loop-i.transfers _ (omega arith) c.loop-i.invariant.2
+loop-i-preserved c =
+    let d = (goal.at.loop-i-preserved c).After-difference-transfer in (
+  money_next (balance d) c.loop-i.i c.loop-i.balances _ (omega arith) c.loop-i.invariant.0
+      (to_z-of_z (fits d) ∙ sum d),
+  money_next (transfer d) c.loop-i.i c.loop-i.transfers _ (omega arith) c.loop-i.invariant.1
       (to_z-of_z {w = w64} (sfits_of c.difference-transfer.type_inv) ∙ c.difference-transfer.ensures),
 )
 
@@ -66,5 +66,5 @@ pub returns : goal.returns
 unfolding moved_month
 returns c =
     let e : c.loop-i.i ≡ c.args.n = omega arith in
-    ap₂ {C = SettledMonth} (λ b t. record { balances = b; transfers = t }) (rw e at c.loop-i.invariant.1)
-    (rw e at c.loop-i.invariant.2)
+    ap₂ {C = SettledMonth} (λ b t. record { balances = b; transfers = t }) (rw e at c.loop-i.invariant.0)
+    (rw e at c.loop-i.invariant.1)

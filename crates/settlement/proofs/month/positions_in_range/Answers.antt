@@ -1,29 +1,22 @@
--- The invariant: no position passed is beyond its limit.
+-- The first n positions are tested, each as it is read back from its bits.
+use mathlib.Core.Path.{◌≡◌, ◌∙◌}
 use native.Mathlib.Omega.{arith}
-use mir.Facts.{to_z-of_z}
-use borrow.Author.Rules.{sfits_of}
-use Rattle.numbers.proofs.BoolLaws.{told_true, told_false}
-use Rattle.numbers.proofs.TestLaws.{tested_none, tested_more, tested_fails, tested_all}
-use Rattle.settlement.specs.Settlement.{positions_in_range}
-use mir.Syntax.{w64}
+use borrow.Author.Tests.{tests}
+use lib.ListN.{take}
+use Rattle.std.proofs.Common.{rules}
+use Rattle.std.proofs.lemmas.Iterator.{YieldsList-from_slice}
+use Rattle.std.proofs.lemmas.Iterator.Search.{all_from_yields_List}
+use Rattle.numbers.specs.Signed.{within_size}
+use Rattle.numbers.specs.Units.{no_money}
+use Rattle.numbers.specs.declared.units.Pesos.{Pesos}
+use Rattle.settlement.specs.Settlement.{most_position, positions_in_range}
+use Rattle.settlement.proofs.MonthLaws.{all_taken}
 use Rattle.settlement.proofs.month.positions_in_range.Goals as goal
-
-pub loop-i-init : goal.loop-i-init
-loop-i-init c = tested_none _ _
-
-pub returns-then-not-within_size : goal.returns-then-not-within_size
-unfolding positions_in_range
-returns-then-not-within_size c =
-    tested_fails c.loop-i.invariant (omega arith)
-    (told_false (rw (to_z-of_z {w = w64} (sfits_of c.struct_told-1.given.0.1)) at
-    c.within_size.ensures) c.if-not-within_size.true-raw)
-
-pub loop-i-preserved : goal.loop-i-preserved
-loop-i-preserved c =
-    tested_more c.loop-i.invariant (omega arith)
-    (told_true (rw (to_z-of_z {w = w64} (sfits_of c.struct_told-1.given.0.1)) at
-    c.within_size.ensures) c.if-not-within_size.false-raw)
 
 pub returns : goal.returns
 unfolding positions_in_range
-returns c = tested_all c.loop-i.invariant (omega arith)
+returns c =
+    all_from_yields_List (λ (p : Pesos). within_size most_position p.0) _ _ _ c.all.ensures.ran
+    (YieldsList-from_slice (take c.args.n c.args.positions) cc)
+    (λ x b q k. search (rules, tests))
+    ∙ all_taken (λ (p : Pesos). within_size most_position p.0) c.args.positions c.args.n no_money (omega arith)

@@ -1,7 +1,7 @@
 -- The smaller total is what the definition transfers, and the month moved by both sides' shares is the month settled.
 use mathlib.Core.Path.{◌≡◌, ◌∙◌, ap₂}
 use mathlib.Core.Bool.{true, false}
-use Prim.Native.Nat.{ℕ, ◌≤◌}
+use Prim.Native.Nat.{ℕ, min}
 use native.Mathlib.Omega.{arith}
 use lib.IntN.{ℤ}
 use Rattle.settlement.specs.Share.{side_total}
@@ -10,8 +10,7 @@ use Rattle.settlement.specs.Month.{money_at, share_list, moved_month}
 use Rattle.settlement.specs.Required.{Side}
 use Rattle.settlement.proofs.MonthLaws.{sizes_total, sizes_within, shares_within, moved_settled}
 use Rattle.settlement.proofs.month.settle_positions.Goals as goal
-use Rattle.settlement.proofs.month.settle_positions.Goals.{After-side_sizes-owed, Joined-owing_total-owed_total}
-use Rattle.settlement.proofs.month.settle_positions.Goals.{then-owing_total-owed_total, else-owing_total-owed_total}
+use Rattle.settlement.proofs.month.settle_positions.Goals.{After-side_sizes-owed, After-min-transferred}
 
 -- the two sides
 module _ (c : After-side_sizes-owed) where
@@ -22,19 +21,12 @@ module _ (c : After-side_sizes-owed) where
   owed_side = sizes_within c.args.n c.args.positions c.requires true _ c.side_sizes-owed.ensures
 
 -- their totals, and the smaller one
-module _ (c : Joined-owing_total-owed_total) where
+module _ (c : After-min-transferred) where
   abbrev n : ℕ
   n = c.args.n
 
   abbrev position : ℕ → ℤ
   position = money_at c.args.positions
-
-  least : (c.if-owing_total-owed_total.transferred ≤ c.side_total-owing_total.result)
-      × (c.if-owing_total-owed_total.transferred ≤ c.side_total-owed_total.result)
-  least = elim c.if-owing_total-owed_total.branch [
-    | then-owing_total-owed_total w ↦ omega arith
-    | else-owing_total-owed_total w ↦ omega arith
-  ]
 
   owing_total : c.side_total-owing_total.result ≡ side_total n (owing position)
   unfolding side_size
@@ -48,13 +40,9 @@ module _ (c : Joined-owing_total-owed_total) where
       sizes_total n c.requires.few (side_size true position) _ _ c.side_sizes-owed.ensures
       c.side_total-owed_total.ensures
 
-  smaller : c.if-owing_total-owed_total.transferred ≡ transferred n position
+  smaller : c.min-transferred.result ≡ transferred n position
   unfolding transferred
-  smaller =
-      elim c.if-owing_total-owed_total.branch [
-        | then-owing_total-owed_total w ↦ omega (arith, owing_total, owed_total)
-        | else-owing_total-owed_total w ↦ omega (arith, owing_total, owed_total)
-      ]
+  smaller = c.min-transferred.ensures ∙ ap₂ min owing_total owed_total
 
 pub side_total-owing_total-requires : goal.side_total-owing_total-requires
 side_total-owing_total-requires c = owing_side (goal.at.side_total-owing_total-requires c).After-side_sizes-owed
@@ -65,34 +53,34 @@ side_total-owed_total-requires c = owed_side (goal.at.side_total-owed_total-requ
 pub shares-paid-requires : goal.shares-paid-requires
 shares-paid-requires c =
     record {
-      fact_1 = owing_side (goal.at.shares-paid-requires c).After-side_sizes-owed;
-      fact_2 = c.side_total-owing_total.ensures;
-      fact_3 = (least (goal.at.shares-paid-requires c).Joined-owing_total-owed_total).0;
+      side = owing_side (goal.at.shares-paid-requires c).After-side_sizes-owed;
+      whole = c.side_total-owing_total.ensures;
+      most = omega arith;
     }
 
 pub shares-received-requires : goal.shares-received-requires
 shares-received-requires c =
     record {
-      fact_1 = owed_side (goal.at.shares-received-requires c).After-side_sizes-owed;
-      fact_2 = c.side_total-owed_total.ensures;
-      fact_3 = (least (goal.at.shares-received-requires c).Joined-owing_total-owed_total).1;
+      side = owed_side (goal.at.shares-received-requires c).After-side_sizes-owed;
+      whole = c.side_total-owed_total.ensures;
+      most = omega arith;
     }
 
 pub moved-requires : goal.moved-requires
 moved-requires c =
     let s = (goal.at.moved-requires c).After-side_sizes-owed in
-    let t = (goal.at.moved-requires c).Joined-owing_total-owed_total in
+    let t = (goal.at.moved-requires c).After-min-transferred in
     record {
-      fact_1 = c.requires;
-      fact_2 = shares_within (n t) _ _ (owing_side s) (omega (arith, c.side_total-owing_total.ensures, least t)) _
+      within = c.requires;
+      paid = shares_within (n t) _ _ (owing_side s) (omega arith) _
           c.shares-paid.ensures;
-      fact_3 = shares_within (n t) _ _ (owed_side s) (omega (arith, c.side_total-owed_total.ensures, least t)) _
+      received = shares_within (n t) _ _ (owed_side s) (omega arith) _
           c.shares-received.ensures;
     }
 
 pub returns : goal.returns
 returns c =
-    let t = (goal.at.returns c).Joined-owing_total-owed_total in
+    let t = (goal.at.returns c).After-min-transferred in
     c.moved.ensures
     ∙ ap₂ (moved_month (n t) c.args.positions)
     (c.shares-paid.ensures ∙ ap₂ (share_list (n t)) c.side_sizes-owing.ensures (smaller t))

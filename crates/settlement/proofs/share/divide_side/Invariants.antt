@@ -1,17 +1,15 @@
--- The invariant: floors and remainders of those passed are written; left is the transferred total less these floors.
+-- The invariant: the divisions of those passed are written; left is the transferred total less their floors.
 use mathlib.Core.Path.{◌≡◌}
-use Prim.Native.Nat.{◌≤◌, ◌-◌}
+use Prim.Native.Nat.{◌-◌}
 use lib.ListN.{get_or}
 use Rattle.numbers.specs.Sizes.{most_distributors}
 use Rattle.numbers.specs.Bounded.{sum_below, filled_below}
-use Rattle.settlement.specs.Share.{share_floor, share_remainder}
+use Rattle.settlement.specs.Share.{share_floor}
+use Rattle.settlement.specs.Month.{no_division, share_division}
 use Rattle.settlement.proofs.share.divide_side.Given as goal
 
 abbrev pub invariant-loop-i : goal.invariant-loop-i
 invariant-loop-i l =
-    (l.i ≤ l.n) × (l.floors ≡ filled_below most_distributors 0 l.i (share_floor l.n (λ j. get_or l.sizes j 0) l.transferred)) ×
-    (l.remainders ≡ filled_below most_distributors 0 l.i (share_remainder l.n (λ j. get_or l.sizes j 0) l.transferred)) ×
-    (l.left ≡ l.transferred - sum_below l.i (share_floor l.n (λ j. get_or l.sizes j 0) l.transferred))
-
-abbrev pub decreases-loop-i : goal.decreases-loop-i
-decreases-loop-i l = l.n - l.i
+    (l.divisions
+    ≡ filled_below most_distributors no_division l.i (share_division l.n (λ j. get_or l.sizes j 0) l.transferred))
+    × (l.left ≡ l.transferred - sum_below l.i (share_floor l.n (λ j. get_or l.sizes j 0) l.transferred))

@@ -9,7 +9,8 @@ use Rattle.numbers.specs.Sizes.{most_distributors}
 use Rattle.numbers.proofs.ListLaws.{filled_none, filled_at, filled_next}
 use Rattle.settlement.specs.Share.{side_total, share_floor, share_remainder, pesos_left, rank, odd_peso, share}
 use Rattle.settlement.specs.Settlement.{most_position}
-use Rattle.settlement.specs.Month.{share_list, divided_side}
+use Rattle.numbers.specs.declared.division.Division.{Division}
+use Rattle.settlement.specs.Month.{no_division, division_at, share_division, share_list, divided_side}
 use Rattle.settlement.specs.declared.share.DividedSide.{DividedSide}
 use Rattle.settlement.proofs.RankLaws.{rank_same}
 use Rattle.settlement.proofs.ShareLaws.{share_is, floor_most}
@@ -21,22 +22,14 @@ use Rattle.settlement.proofs.share.shares.Goals.{After-rank_of, then-rank_of-div
 
 pub returns-then-transferred-total : goal.returns-then-transferred-total
 returns-then-transferred-total c =
-    shares_whole c.args.n c.args.sizes.now c.args.transferred c.requires.fact_1 (omega (arith, c.requires.fact_2))
-
-pub divide_side-divided-requires : goal.divide_side-divided-requires
-divide_side-divided-requires c =
-    record {
-      fact_1 = c.requires.fact_1;
-      fact_2 = c.requires.fact_2;
-      fact_3 = omega arith;
-    }
+    shares_whole c.args.n c.args.sizes.now c.args.transferred c.requires.side (omega (arith, c.requires.whole))
 
 pub loop-i-init : goal.loop-i-init
-loop-i-init c = (omega arith, filled_none most_distributors 0 _)
+loop-i-init c = filled_none most_distributors 0 _
 
 pub rank_of-requires : goal.rank_of-requires
 rank_of-requires c =
-    omega (arith, c.requires.fact_1.few)
+    omega (arith, c.requires.side.few)
 
 -- a turn: the floor and the rank at hand, and the pesos left
 module _ (r : After-rank_of) where
@@ -53,25 +46,29 @@ module _ (r : After-rank_of) where
   remainder = share_remainder n size r.args.transferred
 
   enough : r.args.transferred ≤ side_total n size
-  enough = omega (arith, r.requires.fact_2, r.requires.fact_3)
+  enough = omega (arith, r.requires.whole, r.requires.most)
 
   inside : i < most_distributors
-  inside = omega (arith, r.requires.fact_1.few)
+  inside = omega (arith, r.requires.side.few)
 
-  floor : get_or r.divide_side-divided.result.floors i 0 ≡ share_floor n size r.args.transferred i
+  divided : (j : ℕ) → j < n →
+      division_at r.divide_side-divided.result.divisions j ≡ share_division n size r.args.transferred j
   unfolding divided_side
-  floor =
-      ap (λ (p : DividedSide). get_or p.floors i 0) r.divide_side-divided.ensures
-      ∙ filled_at most_distributors 0 (share_floor n size r.args.transferred) n i (omega arith) inside
+  divided j p =
+      ap (λ (d : DividedSide). division_at d.divisions j) r.divide_side-divided.ensures
+      ∙ filled_at most_distributors no_division (share_division n size r.args.transferred) n j p
+      (omega (arith, r.requires.side.few))
+
+  floor : (division_at r.divide_side-divided.result.divisions i).quotient ≡ share_floor n size r.args.transferred i
+  unfolding share_division
+  floor = ap (λ (d : Division). d.quotient) (divided i (omega arith))
 
   ranked : r.rank_of.result ≡ rank n remainder i
-  unfolding divided_side
+  unfolding share_division
   ranked =
       r.rank_of.ensures
-      ∙ rank_same n (λ j. get_or r.divide_side-divided.result.remainders j 0) remainder
-      (λ j p.
-      ap (λ (p : DividedSide). get_or p.remainders j 0) r.divide_side-divided.ensures
-      ∙ filled_at most_distributors 0 remainder n j p (omega (arith, r.requires.fact_1.few)))
+      ∙ rank_same n (λ j. (division_at r.divide_side-divided.result.divisions j).remainder) remainder
+      (λ j p. ap (λ (d : Division). d.remainder) (divided j p))
       i (omega arith)
 
   left : r.divide_side-divided.result.left ≡ pesos_left n size r.args.transferred
@@ -80,16 +77,16 @@ module _ (r : After-rank_of) where
 
   few : share_floor n size r.args.transferred i ≤ most_position
   few =
-      let most = floor_most n size r.args.transferred enough (omega (arith, r.requires.fact_2)) i in
-      omega (arith, most, r.requires.fact_1.within i (omega arith))
+      let most = floor_most n size r.args.transferred enough (omega (arith, r.requires.whole)) i in
+      omega (arith, most, r.requires.side.within i (omega arith))
 
   -- the share is the floor with the odd peso
   shared : (b : Bool) → ltb (rank n remainder i) (pesos_left n size r.args.transferred) ≡ b →
-      get_or r.divide_side-divided.result.floors i 0 + cond b 1 0 ≡ share n size r.args.transferred i
+      (division_at r.divide_side-divided.result.divisions i).quotient + cond b 1 0 ≡ share n size r.args.transferred i
   unfolding odd_peso
   shared b e =
       let odd : odd_peso n size r.args.transferred i ≡ cond b 1 0 = ap (λ x. cond x 1 0) e in
-      omega (arith, floor, odd, share_is n size r.args.transferred enough (omega (arith, r.requires.fact_2)) i)
+      omega (arith, floor, odd, share_is n size r.args.transferred enough (omega (arith, r.requires.whole)) i)
 
 pub overflow_add-share : goal.overflow_add-share
 overflow_add-share c =
@@ -111,14 +108,12 @@ loop-i-preserved c =
             w.share-is,
             shared r false (le-ltb ranks pesos (omega (arith, ranked r, left r, w.if-rank_of-divided.false))),
           )
-    ] in (
-      omega arith,
-      filled_next most_distributors 0 (i r) (share (n r) (size r) c.args.transferred) c.loop-i.shares _ (inside r)
-          c.loop-i.invariant.1 written,
-    )
+    ] in
+    filled_next most_distributors 0 (i r) (share (n r) (size r) c.args.transferred) c.loop-i.shares _ (inside r)
+    c.loop-i.invariant written
 
 pub returns : goal.returns
 unfolding share_list
 returns c =
     let e : c.loop-i.i ≡ c.args.n = omega arith in
-    rw e at c.loop-i.invariant.1
+    rw e at c.loop-i.invariant

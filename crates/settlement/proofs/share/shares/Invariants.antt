@@ -1,7 +1,7 @@
 -- A side that is transferred whole has its sizes for shares. The invariant of any other: the shares of those passed are
 -- written.
 use mathlib.Core.Path.{◌≡◌}
-use Prim.Native.Nat.{◌≤◌, ◌-◌}
+use Prim.Native.Nat.{◌≤◌}
 use lib.ListN.{get_or}
 use Rattle.numbers.specs.Sizes.{most_distributors}
 use Rattle.numbers.specs.Bounded.{filled_below}
@@ -10,8 +10,4 @@ use Rattle.settlement.proofs.share.shares.Given as goal
 
 abbrev pub invariant-loop-i : goal.invariant-loop-i
 invariant-loop-i l =
-    (l.i ≤ l.n) ×
     (l.shares ≡ filled_below most_distributors 0 l.i (share l.n (λ j. get_or l.sizes j 0) l.transferred))
-
-abbrev pub decreases-loop-i : goal.decreases-loop-i
-decreases-loop-i l = l.n - l.i

@@ -3,7 +3,7 @@ use native.Mathlib.Omega.{arith}
 use Rattle.numbers.proofs.BoolLaws.{told_true, told_false}
 use Rattle.numbers.proofs.TestLaws.{tested_none, tested_more, tested_fails, tested_all}
 use Rattle.settlement.specs.Amount.{readings_allowed}
-use Rattle.settlement.proofs.amount.readings_allowed.Goals as goal
+use Rattle.settlement.proofs.amount.Billing.readings_allowed.Goals as goal
 
 pub loop-s-init : goal.loop-s-init
 loop-s-init c = tested_none _ _

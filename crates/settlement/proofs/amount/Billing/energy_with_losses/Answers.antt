@@ -13,38 +13,38 @@ use Rattle.numbers.specs.Rounding.{half_away}
 use Rattle.numbers.proofs.SignedLaws.{pos_sub_zero, is_fits, sum_bits, product_bits}
 use Rattle.settlement.specs.Amount.{reading_of, high_loss_of, low_loss_of, high_net, low_net, energy_with_losses}
 use Rattle.settlement.specs.Required.{BillingFacts}
-use Rattle.settlement.proofs.AmountLaws.{high_first, high_product, low_product, products_size}
-use Rattle.settlement.proofs.amount.energy_with_losses.Goals as goal
-use Rattle.settlement.proofs.amount.energy_with_losses.Goals.{After-difference, After-difference-2}
-use Rattle.settlement.proofs.amount.energy_with_losses.Goals.{After-loss-low_loss, Start}
+use Rattle.settlement.proofs.AmountLaws.{high_product, low_product, products_size}
+use Rattle.settlement.proofs.amount.Billing.energy_with_losses.Goals as goal
+use Rattle.settlement.proofs.amount.Billing.energy_with_losses.Goals.{After-difference, After-difference-2}
+use Rattle.settlement.proofs.amount.Billing.energy_with_losses.Goals.{After-low_loss-low_loss, Start}
 
 -- a value as it is read back from its bits
 abbrev back : ℤ → ℤ
 back z = to_z w64 (of_z w64 z)
 
-facts : (s : Start) → BillingFacts s.args.readings.now s.args.losses.now s.args.i
-facts s = s.requires.fact_1.facts s.args.i s.requires.fact_2
+facts : (s : Start) → BillingFacts s.args.self.now.readings.now s.args.self.now.losses.now s.args.i
+facts s = s.requires.allowed.facts s.args.i s.requires.known
 
 -- a reading fits
 small : (s : Start) (k reading : ℕ) → k < 4 →
-    reading ≡ reading_of s.args.readings.now s.args.i s.args.s k → reading < 2 ^ 63
-small s k reading p e = omega (arith, (facts s).reading s.args.s k s.requires.fact_3 p)
+    reading ≡ reading_of s.args.self.now.readings.now s.args.i s.args.s k → reading < 2 ^ 63
+small s k reading p e = omega (arith, (facts s).reading s.args.s k s.requires.sector p)
 
 -- the loss factors
-module _ (c : After-loss-low_loss) where
+module _ (c : After-low_loss-low_loss) where
   abbrev start : Start
   start = (goal.at.overflow_mul-high_loss c).Start
 
-  high_loss : c.loss-high_loss.result ≡ high_loss_of c.args.losses.now c.args.i
-  high_loss = c.loss-high_loss.ensures ∙ high_first c.args.losses.now c.args.i
+  high_loss : c.high_loss-high_loss.result ≡ high_loss_of c.args.self.now.losses.now c.args.i
+  high_loss = c.high_loss-high_loss.ensures
 
-  low_loss : c.loss-low_loss.result ≡ low_loss_of c.args.losses.now c.args.i
-  low_loss = c.loss-low_loss.ensures
+  low_loss : c.low_loss-low_loss.result ≡ low_loss_of c.args.self.now.losses.now c.args.i
+  low_loss = c.low_loss-low_loss.ensures
 
-  most : (c.loss-high_loss.result ≤ 20000) × (c.loss-low_loss.result ≤ 20000)
+  most : (c.high_loss-high_loss.result ≤ 20000) × (c.low_loss-low_loss.result ≤ 20000)
   most = omega (arith, high_loss, low_loss, (facts start).high_most, (facts start).low_most)
 
-  both : c.loss-high_loss.result * c.loss-low_loss.result ≤ 20000 * 20000
+  both : c.high_loss-high_loss.result * c.low_loss-low_loss.result ≤ 20000 * 20000
   both = mul-le-mul most.0 most.1
 
 -- the net at high voltage, carried up: in the code, and in the definition
@@ -52,16 +52,16 @@ module _ (c : After-difference) where
   abbrev d : Start
   d = (goal.at.overflow_mul-carried c).Start
 
-  abbrev l : After-loss-low_loss
-  l = (goal.at.overflow_mul-carried c).After-loss-low_loss
+  abbrev l : After-low_loss-low_loss
+  l = (goal.at.overflow_mul-carried c).After-low_loss-low_loss
 
   abbrev high_code : ℤ
   high_code = back c.difference-high.result *ℤ back c.difference.result
 
   abbrev high_part : ℤ
   high_part =
-      high_net c.args.readings.now c.args.i c.args.s *ℤ pos
-      (high_loss_of c.args.losses.now c.args.i * 10000)
+      high_net c.args.self.now.readings.now c.args.i c.args.s *ℤ pos
+      (high_loss_of c.args.self.now.losses.now c.args.i * 10000)
 
   high : high_code ≡ high_part
   unfolding high_net
@@ -72,15 +72,15 @@ module _ (c : After-difference) where
 
   high_fits : SFits w64 high_code
   high_fits =
-      is_fits high_code high_part high (omega (arith, high_product [] _ _ _ (facts d) c.args.s c.requires.fact_3))
+      is_fits high_code high_part high (omega (arith, high_product [] _ _ _ (facts d) c.args.s c.requires.sector))
 
 -- the net at low voltage, carried up, and the two added up
 module _ (c : After-difference-2) where
   abbrev b : Start
   b = (goal.at.overflow_mul-carried-2 c).Start
 
-  abbrev m : After-loss-low_loss
-  m = (goal.at.overflow_mul-carried-2 c).After-loss-low_loss
+  abbrev m : After-low_loss-low_loss
+  m = (goal.at.overflow_mul-carried-2 c).After-low_loss-low_loss
 
   abbrev h : After-difference
   h = (goal.at.overflow_mul-carried-2 c).After-difference
@@ -90,8 +90,8 @@ module _ (c : After-difference-2) where
 
   abbrev low_part : ℤ
   low_part =
-      low_net c.args.readings.now c.args.i c.args.s *ℤ pos
-      (high_loss_of c.args.losses.now c.args.i * low_loss_of c.args.losses.now c.args.i)
+      low_net c.args.self.now.readings.now c.args.i c.args.s *ℤ pos
+      (high_loss_of c.args.self.now.losses.now c.args.i * low_loss_of c.args.self.now.losses.now c.args.i)
 
   low : low_code ≡ low_part
   unfolding low_net
@@ -102,7 +102,7 @@ module _ (c : After-difference-2) where
 
   low_fits : SFits w64 low_code
   low_fits =
-      is_fits low_code low_part low (omega (arith, low_product [] _ _ _ (facts b) c.args.s c.requires.fact_3))
+      is_fits low_code low_part low (omega (arith, low_product [] _ _ _ (facts b) c.args.s c.requires.sector))
 
   abbrev sum_code : ℤ
   sum_code = back (high_code h) +ℤ back low_code
@@ -111,7 +111,7 @@ module _ (c : After-difference-2) where
   sum = sum_bits (high_code h) low_code _ _ (high_fits h) low_fits (high h) low
 
   size : nat_abs (high_part h +ℤ low_part) ≤ 1200000000000000000
-  size = products_size [] _ _ _ (facts b) c.args.s c.requires.fact_3
+  size = products_size [] _ _ _ (facts b) c.args.s c.requires.sector
 
   fits : SFits w64 sum_code
   fits = is_fits sum_code (high_part h +ℤ low_part) sum (omega (arith, size))
@@ -145,10 +145,10 @@ pub overflow_mul-carried : goal.overflow_mul-carried
 overflow_mul-carried c = high_fits c
 
 pub overflow_mul-high_loss-2 : goal.overflow_mul-high_loss-2
-overflow_mul-high_loss-2 c = omega (arith, both (goal.at.overflow_mul-high_loss-2 c).After-loss-low_loss)
+overflow_mul-high_loss-2 c = omega (arith, both (goal.at.overflow_mul-high_loss-2 c).After-low_loss-low_loss)
 
 pub difference-requires-2 : goal.difference-requires-2
-difference-requires-2 c = omega (arith, both (goal.at.difference-requires-2 c).After-loss-low_loss)
+difference-requires-2 c = omega (arith, both (goal.at.difference-requires-2 c).After-low_loss-low_loss)
 
 pub overflow_mul-carried-2 : goal.overflow_mul-carried-2
 overflow_mul-carried-2 c = low_fits c

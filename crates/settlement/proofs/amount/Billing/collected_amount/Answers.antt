@@ -13,28 +13,28 @@ use Rattle.settlement.specs.Amount.{charge_at, collected_amount}
 use Rattle.settlement.proofs.AmountLaws.{sector_amount, sectors_amount}
 use native.Mathlib.Omega.{arith}
 use borrow.Author.Rules.{sfits_of}
-use Rattle.settlement.proofs.amount.collected_amount.Goals as goal
-use Rattle.settlement.proofs.amount.collected_amount.Invariants.{sector}
-use Rattle.settlement.proofs.amount.collected_amount.Goals.{After-energy_with_losses, After-loop-s, Start}
+use Rattle.settlement.proofs.amount.Billing.collected_amount.Goals as goal
+use Rattle.settlement.proofs.amount.Billing.collected_amount.Invariants.{sector}
+use Rattle.settlement.proofs.amount.Billing.collected_amount.Goals.{After-energy_with_losses, After-loop-s, Start}
 
 -- the bounds of a distributor's sectors
 module _ (d : Start) where
   abbrev f : ℕ → ℤ
-  f = sector d.args.charges.now d.args.readings.now d.args.losses.now d.args.i
+  f = sector d.args.charges.now d.args.self.now.readings.now d.args.self.now.losses.now d.args.i
 
   one : (s : ℕ) → s < 8 → SFits w64 (f s)
   one s p =
       size_fits (f s)
       (omega (
         arith,
-        sector_amount d.args.charges.now _ _ _ (d.requires.fact_1.billed.facts d.args.i d.requires.fact_2)
-            (λ k. d.requires.fact_1.bounded d.args.i k d.requires.fact_2) s p,
+        sector_amount d.args.charges.now _ _ _ (d.requires.billed.billed.facts d.args.i d.requires.known)
+            (λ k. d.requires.billed.bounded d.args.i k d.requires.known) s p,
       ))
 
   size : (s : ℕ) → s ≤ 8 → nat_abs (signed_sum_below s f) ≤ 1008000000000000000
   size =
-      sectors_amount d.args.charges.now _ _ _ (d.requires.fact_1.billed.facts d.args.i d.requires.fact_2)
-      (λ k. d.requires.fact_1.bounded d.args.i k d.requires.fact_2)
+      sectors_amount d.args.charges.now _ _ _ (d.requires.billed.billed.facts d.args.i d.requires.known)
+      (λ k. d.requires.billed.bounded d.args.i k d.requires.known)
 
   all : (s : ℕ) → s ≤ 8 → SFits w64 (signed_sum_below s f)
   all s p = size_fits (signed_sum_below s f) (omega (arith, size s p))
@@ -57,7 +57,7 @@ module _ (c : After-energy_with_losses) where
       (sfits_of c.energy_with_losses.type_inv) refl c.energy_with_losses.ensures
 
   kept : c.loop-s.sum-bits ≡ of_z w64 (signed_sum_below c.loop-s.s (f d))
-  kept = sym (of_z-to_z c.loop-s.auto.sum) ∙ ap (of_z w64) c.loop-s.invariant.1
+  kept = sym (of_z-to_z c.loop-s.auto.sum) ∙ ap (of_z w64) c.loop-s.invariant
 
   next : to_z w64 c.loop-s.sum-bits +ℤ to_z w64
       (of_z w64 (to_z w64 (of_z w64 charge) *ℤ to_z w64 (of_z w64 c.energy_with_losses.result))) ≡ signed_sum_below
@@ -74,11 +74,11 @@ module _ (c : After-loop-s) where
   whole : to_z w64 c.loop-s.sum-bits ≡ signed_sum_below 8 (f e)
   whole =
       let end : c.loop-s.s ≡ 8 = omega arith in
-      c.loop-s.invariant.1 ∙ ap (λ k. signed_sum_below k (f e)) end
+      c.loop-s.invariant ∙ ap (λ k. signed_sum_below k (f e)) end
 
 pub loop-s-init : goal.loop-s-init
 unfolding signed_sum_below
-loop-s-init c = (omega arith, refl)
+loop-s-init c = refl
 
 pub overflow_mul-sum : goal.overflow_mul-sum
 overflow_mul-sum c = rw (product c) (one (goal.at.overflow_mul-sum c).Start c.loop-s.s (under c))
@@ -87,7 +87,7 @@ pub overflow_add-sum : goal.overflow_add-sum
 overflow_add-sum c = rw (next c) (all (goal.at.overflow_add-sum c).Start (c.loop-s.s + 1) (omega arith))
 
 pub loop-s-preserved : goal.loop-s-preserved
-loop-s-preserved c = (omega arith, to_z-of_z (overflow_add-sum c) ∙ next c)
+loop-s-preserved c = to_z-of_z (overflow_add-sum c) ∙ next c
 
 pub half_away-requires : goal.half_away-requires
 half_away-requires c = omega (arith, ap nat_abs (whole c), size (goal.at.half_away-requires c).Start 8 (omega arith))

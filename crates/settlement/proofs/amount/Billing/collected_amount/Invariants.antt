@@ -1,11 +1,11 @@
 -- The invariant: the sum's bits are those of the sum over the sectors passed.
 use mathlib.Core.Path.{◌≡◌}
 use mathlib.Core.List.{List}
-use Prim.Native.Nat.{ℕ, ◌≤◌, ◌-◌}
+use Prim.Native.Nat.{ℕ}
 use lib.IntN.{ℤ, ◌*ℤ◌}
 use Rattle.numbers.specs.Signed.{signed_sum_below}
 use Rattle.settlement.specs.Amount.{charge_at, energy_with_losses}
-use Rattle.settlement.proofs.amount.collected_amount.Given as goal
+use Rattle.settlement.proofs.amount.Billing.collected_amount.Given as goal
 
 -- what a sector adds
 abbrev pub sector : List ℤ → List ℕ → List ℕ → ℕ → ℕ → ℤ
@@ -13,7 +13,4 @@ sector charges readings losses i s = charge_at charges i s *ℤ energy_with_loss
 
 abbrev pub invariant-loop-s : goal.invariant-loop-s
 invariant-loop-s l =
-    (l.s ≤ 8) × (l.sum ≡ signed_sum_below l.s (sector l.charges l.readings l.losses l.i))
-
-abbrev pub decreases-loop-s : goal.decreases-loop-s
-decreases-loop-s l = 8 - l.s
+    l.sum ≡ signed_sum_below l.s (sector l.charges l.self.readings.now l.self.losses.now l.i)
