@@ -1,6 +1,6 @@
 -- What the commands of a journal answer (docs/JOURNAL.md, "Output"): the text of each line, and of a whole answer.
 -- Assumes nothing.
-use Rattle.std.specs.Prelude.{Bool, true, false, cond, ◌&&◌, List, [], ◌∷◌, ◌++◌, ℕ, eqb, take, drop, ℤ, negsuc, Result, Ok, Err}
+use Rattle.std.specs.Prelude.{Bool, cond, ◌&&◌, List, [], ◌∷◌, ◌++◌, ℕ, eqb, take, drop, ℤ, negsuc, Result, Ok, Err}
 use Prim.Native.String.{String}
 use Rattle.std.specs.List.{list_all}
 use Rattle.std.specs.Ordering.{int_eq}
