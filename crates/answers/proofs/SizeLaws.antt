@@ -14,10 +14,12 @@ use Rattle.numbers.specs.declared.units.Pesos.{Pesos}
 use Rattle.ledger.specs.Fix.{FixingAnswer}
 use Rattle.text.specs.Text.{decimal, integer}
 use Rattle.text.specs.Row.{rows_text}
-use Rattle.text.proofs.SizeLaws.{choice_size, decimal_size, integer_size, column_size, column_none, rows_size, numbers_line_size}
-use Rattle.answers.specs.Answer.{refused_text, outcome_line, used_line, error_line, changed_line, place_text, values_line}
-use Rattle.answers.specs.Answer.{fixing_line, signed_unwritten, all_unwritten, unwritten_word, unwritten_byte}
-use Rattle.answers.specs.Answer.{changed_text, answer_text, settled_text, fixed_text, sheet_read_text, sheet_written_text}
+use Rattle.text.proofs.SizeLaws.{choice_size, decimal_size, integer_size, column_size, column_none}
+use Rattle.text.proofs.SizeLaws.{rows_size, numbers_line_size}
+use Rattle.answers.specs.Answer.{refused_text, outcome_line, used_line, error_line, changed_line, place_text}
+use Rattle.answers.specs.Answer.{values_line, fixing_line, signed_unwritten, all_unwritten, unwritten_word}
+use Rattle.answers.specs.Answer.{unwritten_byte, changed_text, answer_text, settled_text, fixed_text}
+use Rattle.answers.specs.Answer.{sheet_read_text, sheet_written_text}
 
 unsigned_size : (x : ℕ) → length (decimal x) ≤ 21
 unsigned_size x = omega (arith, decimal_size x)
@@ -90,7 +92,10 @@ module _ (name : List ℕ) (short : length name ≤ 12) where
   fixed_size answer prices power =
       answer_size (fixing_line name answer) answer (rows_text integer decimal prices 3 power)
       (signed_unwritten prices && all_unwritten eqb unwritten_word power) 4360 (omega arith) (fixing_size answer)
-      (omega (arith, rows_size integer integer_size decimal power 22 (column_size decimal unsigned_size power) prices 3))
+      (omega (
+        arith,
+        rows_size integer integer_size decimal power 22 (column_size decimal unsigned_size power) prices 3,
+      ))
 
   pub sheet_read_size : (answer : Verdict) (readings : List ℕ) →
       length (sheet_read_text name answer readings) ≤ 29204

@@ -86,7 +86,8 @@ answer_text line (Err refusal) rows unwritten = line ++ changed_text unwritten
 -- "I TRANSFER BALANCE"; "if a word of it is no longer -1, `replay` prints the line `changed`"
 unfoldable pub settled_text : List ℕ → Verdict → List ℤ → List Pesos → List ℕ
 settled_text name answer transfers balances =
-    answer_text (outcome_line name answer) answer (rows_text integer (λ balance. integer balance.0) transfers 1 balances)
+    answer_text (outcome_line name answer) answer
+    (rows_text integer (λ balance. integer balance.0) transfers 1 balances)
     (signed_unwritten transfers)
 
 -- "I AVERAGE FINAL CHARGE POWER"; "`changed` is printed once where either list changed in a refused call"

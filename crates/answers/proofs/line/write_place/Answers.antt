@@ -6,7 +6,8 @@ use Rattle.answers.proofs.line.write_place.Goals as goal
 
 pub returns-in-MonthMissing : goal.returns-in-MonthMissing
 returns-in-MonthMissing g c =
-    rw c.in-MonthMissing.is (written_after g.row.SIZE _ _ _ _ _ c.write_item.ensures c.write_item-in-MonthMissing.ensures)
+    rw c.in-MonthMissing.is
+    (written_after g.row.SIZE _ _ _ _ _ c.write_item.ensures c.write_item-in-MonthMissing.ensures)
 
 pub returns-in_default : goal.returns-in_default
 returns-in_default g c =
