@@ -1,6 +1,7 @@
 -- What the commands of a journal answer (docs/JOURNAL.md, "Output"): the text of each line, and of a whole answer.
 -- Assumes nothing.
-use Rattle.std.specs.Prelude.{Bool, true, false, cond, ◌&&◌, List, [], ◌∷◌, ◌++◌, ℕ, eqb, take, drop, ℤ, negsuc, Result, Ok, Err}
+use Rattle.std.specs.Prelude.{Bool, cond, ◌&&◌, List, [], ◌∷◌, ◌++◌, ℕ, eqb, take, drop, ℤ, negsuc, Result, Ok, Err}
+use Prim.Native.String.{String}
 use Rattle.std.specs.List.{list_all}
 use Rattle.std.specs.Ordering.{int_eq}
 use Rattle.numbers.specs.Refusal.{Verdict, refusal_answered}
@@ -9,42 +10,46 @@ use Rattle.numbers.specs.declared.refusal.Refusal.{Refusal}
 use Rattle.numbers.specs.declared.units.Pesos.{Pesos}
 use Rattle.ledger.specs.Fix.{FixingAnswer}
 use Rattle.ledger.specs.declared.fix.FixingValues.{FixingValues}
-use Rattle.text.specs.Text.{bytes, line_end, word, decimal, integer}
+use Rattle.text.specs.Text.{bytes, blank, line_end, decimal, integer}
 use Rattle.text.specs.Row.{rows_text, numbers_line}
+
+-- a name, and a number after a blank
+abbrev item : String → ℕ → List ℕ
+item name number = bytes name ++ blank ∷ decimal number
 
 -- "open refused 1": a refused command and the number of its refusal
 unfoldable pub refused_text : List ℕ → Refusal → List ℕ
-refused_text name refusal = name ++ bytes " refused" ++ word (refusal_answered refusal).number
+refused_text name refusal = name ++ item " refused" (refusal_answered refusal).number
 
 -- "open accepted", "open refused 1"
 unfoldable pub outcome_line : List ℕ → Verdict → List ℕ
-outcome_line name (Ok passed) = name ++ bytes " accepted" ++ line_end ∷ []
+outcome_line name (Ok passed) = name ++ (bytes " accepted" ++ line_end ∷ [])
 outcome_line name (Err refusal) = refused_text name refusal ++ line_end ∷ []
 
 -- "writesheet accepted used U"
 unfoldable pub used_line : List ℕ → Result ℕ Refusal → List ℕ
-used_line name (Ok used) = name ++ bytes " accepted used" ++ word used ++ line_end ∷ []
-used_line name (Err refusal) = refused_text name refusal ++ line_end ∷ []
+used_line name (Ok used) = name ++ item " accepted used" used ++ line_end ∷ []
+used_line name (Err refusal) = outcome_line name (Err refusal)
 
 -- "journal error at byte B"
 unfoldable pub error_line : ℕ → List ℕ
-error_line at = bytes "journal error at byte" ++ word at ++ line_end ∷ []
+error_line at = item "journal error at byte" at ++ line_end ∷ []
 
 -- "`replay` prints the line `changed`"
-unfoldable pub changed_line : List ℕ
+abbrev pub changed_line : List ℕ
 changed_line = bytes "changed" ++ line_end ∷ []
 
--- " line J term T", " line J": by the values of the refusal
-unfoldable pub place_text : List ℕ → List ℕ
+-- "line J term T", "line J": by the values of the refusal
+abbrev pub place_text : List ℕ → List ℕ
 place_text [] = []
-place_text (line ∷ []) = bytes " line" ++ word line
-place_text (line ∷ term ∷ more) = bytes " line" ++ word line ++ bytes " term" ++ word term
+place_text (line ∷ []) = item " line" line
+place_text (line ∷ term ∷ more) = item " line" line ++ item " term" term
 
 -- "limit L surcharge R rounds C residue S"
 unfoldable pub values_line : FixingValues → List ℕ
 values_line values =
-    bytes "limit" ++ word values.limit.0 ++ bytes " surcharge" ++ word values.surcharge.0 ++ bytes " rounds"
-    ++ word values.rounds ++ bytes " residue" ++ word values.residue.0 ++ line_end ∷ []
+    item "limit" values.limit.0 ++ item " surcharge" values.surcharge.0 ++ item " rounds" values.rounds
+    ++ item " residue" values.residue.0 ++ line_end ∷ []
 
 -- "fix accepted limit L surcharge R rounds C residue S"; "fix refused 10 line J term T", "fix refused 11 line J", "fix
 -- refused NUMBER"
@@ -81,7 +86,8 @@ answer_text line (Err refusal) rows unwritten = line ++ changed_text unwritten
 -- "I TRANSFER BALANCE"; "if a word of it is no longer -1, `replay` prints the line `changed`"
 unfoldable pub settled_text : List ℕ → Verdict → List ℤ → List Pesos → List ℕ
 settled_text name answer transfers balances =
-    answer_text (outcome_line name answer) answer (rows_text integer (λ balance. integer balance.0) transfers 1 balances)
+    answer_text (outcome_line name answer) answer
+    (rows_text integer (λ balance. integer balance.0) transfers 1 balances)
     (signed_unwritten transfers)
 
 -- "I AVERAGE FINAL CHARGE POWER"; "`changed` is printed once where either list changed in a refused call"

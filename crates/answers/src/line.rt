@@ -3,7 +3,7 @@ ghost use Rattle.std.specs.Prelude.{◌≡◌};
 ghost use Rattle.numbers.specs.Refusal.{refusal_answered};
 ghost use Rattle.text.specs.Buffer.{written};
 ghost use Rattle.answers.specs.Answer.{refused_text, outcome_line, used_line, error_line, changed_line, place_text};
-ghost use Rattle.answers.specs.Answer.{refusal_line, values_line, fixing_line};
+ghost use Rattle.answers.specs.Answer.{values_line, fixing_line};
 
 use ledger::fix::FixingValues;
 use numbers::refusal::Refusal;
@@ -50,10 +50,10 @@ pub fn write_used<const SIZE: usize>(
         Ok(used) => {
             text.push_all(name);
             write_item(text, b" accepted used", used as u64);
+            text.push(b'\n');
         }
-        Err(refusal) => write_refused(text, name, refusal),
+        Err(refusal) => write_outcome(text, name, Err(refusal)),
     }
-    text.push(b'\n');
 }
 
 // The line of a journal that cannot be read at this byte.

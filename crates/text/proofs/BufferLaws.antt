@@ -35,7 +35,8 @@ module _ (size : ℕ) where
   unfolding written
   written_more a b held =
       let part = take (size - length held) a in
-      let room : size - length (held ++ part) ≡ size - length held - length a = simp (length-append, length-take) (omega arith) in
+      let room : size - length (held ++ part) ≡ size - length held - length a =
+      simp (length-append, length-take) (omega arith) in
       rw (room, take_both (size - length held) a b) (append_assoc held part (take (size - length held - length a) b))
 
   -- what two calls have written

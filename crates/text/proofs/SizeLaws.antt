@@ -10,7 +10,7 @@ use lib.IntN.{ℤ, pos, negsuc}
 use lib.ListN.{length, get_or, take, drop, length-append, length-take}
 use Rattle.std.proofs.lemmas.List.{drop_all}
 use Rattle.numbers.specs.Sizes.{most_distributors}
-use Rattle.text.specs.Row.{column_text, row_text, rows_text, numbers_line}
+use Rattle.text.specs.Row.{column_text, row_text, row_of, rows_text, numbers_line}
 use Rattle.text.specs.Text.{blank, digit, minus, decimal_within, decimal, integer, signed_decimal, word, word_by}
 use Rattle.text.specs.Text.{words_text, text_below, words_by}
 
@@ -66,7 +66,8 @@ texts_size (suc k) most f h =
 pub words_size : (signed : Bool) (words : List ℕ) → length (words_by signed words) ≤ length words * 22
 unfolding words_by
 words_size signed words =
-    texts_size (length words) 22 (λ k. word_by signed (get_or words k 0)) (λ k p. word_by_size signed (get_or words k 0))
+    texts_size (length words) 22 (λ k. word_by signed (get_or words k 0))
+    (λ k p. word_by_size signed (get_or words k 0))
 
 -- numbers that are shown in 21 bytes at most
 module _ {A : Type 0} (shown : A → List ℕ) (few : (x : A) → length (shown x) ≤ 21) where
@@ -106,7 +107,7 @@ module _ {A : Type 0} (shown : A → List ℕ) (few : (x : A) → length (shown 
         let few_rows : rows ≤ most_distributors = omega arith in
         le_trans
         (texts_size rows (21 + most + width * 22)
-        (λ i. row_text shown column_shown i (take width (drop (i * width) list)) column)
+        (row_of shown column_shown list width column)
         (λ i p. row_size i width (take width (drop (i * width) list)) (rw length-take (omega arith))))
         (mul-le-mul_right (21 + most + width * 22) few_rows)
 

@@ -12,11 +12,15 @@ unfoldable pub row_text : {A B : Type 0} → (A → List ℕ) → (B → List �
 row_text shown column_shown i numbers column =
     decimal i ++ words_text shown numbers ++ column_text column_shown column i ++ line_end ∷ []
 
+-- row i of a list, each of whose rows has `width` numbers
+abbrev pub row_of : {A B : Type 0} → (A → List ℕ) → (B → List ℕ) → List A → ℕ → List B → ℕ → List ℕ
+row_of shown column_shown list width column i =
+    row_text shown column_shown i (take width (drop (i * width) list)) column
+
 -- a row for each `width` numbers of the list, which are those of a distributor: for no more than the most
 unfoldable pub rows_text : {A B : Type 0} → (A → List ℕ) → (B → List ℕ) → List A → ℕ → List B → List ℕ
 rows_text shown column_shown list width column =
-    text_below (min (length list / width) most_distributors)
-    (λ i. row_text shown column_shown i (take width (drop (i * width) list)) column)
+    text_below (min (length list / width) most_distributors) (row_of shown column_shown list width column)
 
 -- numbers as a line, a blank between any two
 unfoldable pub numbers_line : {A : Type 0} → (A → List ℕ) → List A → List ℕ

@@ -1,5 +1,5 @@
 // Names: what a command, a list or a number is called. A name has 12 bytes, the last of them blank where it is shorter.
-ghost use Rattle.std.specs.Prelude.{◌≡◌, length};
+ghost use Rattle.std.specs.Prelude.{◌≡◌};
 ghost use Rattle.text.specs.Text.{name_text};
 ghost use Rattle.text.specs.Buffer.{written};
 

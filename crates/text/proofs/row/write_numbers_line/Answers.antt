@@ -10,9 +10,12 @@ use Rattle.text.proofs.row.write_numbers_line.Goals.{in-Some, in_default}
 pub returns : goal.returns
 returns g c =
     let size = g.row.SIZE in
+    let numbers = c.args.numbers.now in
     elim c.match-split_first.branch [
-      | in-Some w ↦ rw (line_some g.N.Decimal.shown c.args.numbers.now _ _ w.in-Some.ensures.cases) (written_after size _ (line_end ∷ []) _ _ _
-          (w.text-is ∙ written_after size _ _ _ _ _ w.write_decimal.ensures w.write_words.ensures) c.push.ensures)
-      | in_default w ↦ rw (line_none g.N.Decimal.shown c.args.numbers.now w.in_default.ensures.cases)
+      | in-Some w ↦ rw (line_some g.N.Decimal.shown numbers _ _ w.in-Some.ensures.cases)
+          (written_after size _ (line_end ∷ []) _ _ _
+          (w.text-is ∙ written_after size _ _ _ _ _ w.write_decimal.ensures w.write_words.ensures)
+          c.push.ensures)
+      | in_default w ↦ rw (line_none g.N.Decimal.shown numbers w.in_default.ensures.cases)
           (c.push.ensures ∙ ap (written size (line_end ∷ [])) w.text-is)
     ]

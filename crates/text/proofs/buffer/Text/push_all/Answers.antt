@@ -9,16 +9,16 @@ pub loop-byte-preserved : goal.loop-byte-preserved
 loop-byte-preserved g c =
     let size = g.row.SIZE in
     let bytes = c.args.bytes.now in
+    let held = c.loop-byte.self in
     let i = c.loop-byte.byte-index in
-    written_after size (get_or bytes i 0 ∷ []) (drop (i + 1) bytes) c.loop-byte.self c.push.new.self _ c.push.ensures refl
-    ∙ ap (λ (rest : List ℕ). written size rest c.loop-byte.self) (sym (drop_more bytes i 0 c.loop-byte-test.true))
+    written_after size (get_or bytes i 0 ∷ []) (drop (i + 1) bytes) held c.push.new.self _ c.push.ensures refl
+    ∙ ap (λ (rest : List ℕ). written size rest held) (sym (drop_more bytes i 0 c.loop-byte-test.true))
     ∙ c.loop-byte.invariant
 
 pub returns : goal.returns
 returns g c =
     let size = g.row.SIZE in
-    let bytes = c.args.bytes.now in
-    let i = c.loop-byte.byte-index in
-    sym (written_none size c.loop-byte.self)
-    ∙ ap (λ (rest : List ℕ). written size rest c.loop-byte.self) (sym (drop_all i bytes c.loop-byte-test.false))
+    let held = c.loop-byte.self in
+    sym (written_none size held)
+    ∙ ap (λ (rest : List ℕ). written size rest held) (sym (drop_all _ c.args.bytes.now c.loop-byte-test.false))
     ∙ c.loop-byte.invariant

@@ -9,8 +9,10 @@ use Rattle.text.proofs.number.U64Decimal.decimal.Goals as goal
 
 pub returns : goal.returns
 returns c =
-    let digits = c.decimal-size.ensures.digits ∙ fewest_decimal c.args.self c.decimal-size.result c.ranges.self.fits c.decimal-size.ensures.len in
+    let x = c.args.self in
+    let size = c.decimal-size in
+    let digits = size.ensures.digits ∙ fewest_decimal x size.result c.ranges.self.fits size.ensures.len in
     c.push_all.ensures
     ∙ ap (λ text. written 20 text c.new-text.result) digits
-    ∙ ap (written 20 (decimal c.args.self)) c.new-text.ensures
-    ∙ text_stands 20 (decimal c.args.self) [] (omega (arith, decimal_size c.args.self))
+    ∙ ap (written 20 (decimal x)) c.new-text.ensures
+    ∙ text_stands 20 (decimal x) [] (omega (arith, decimal_size x))
