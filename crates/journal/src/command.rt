@@ -6,7 +6,7 @@ use crate::cursor::{Read, Unreadable};
 use crate::form::{Kind, MOST_WORD, PARTS, Part};
 use crate::token::next_token;
 use numbers::sizes::{MOST_DISTRIBUTORS, PLACES};
-use text::name::{NAME, name_size};
+use text::name::{NAME, name_bytes};
 
 // The longest list that a call is ever lent.
 const LONGEST_LIST: u64 = 8192;
@@ -150,9 +150,7 @@ fn command_named(word: &[u8]) -> Option<Command>
     ensures { result ≡ command_named word.now }
 {
     for row in &COMMANDS {
-        let name = row.0;
-        let size = name_size(name);
-        if word == &name[..size] {
+        if word == name_bytes(&row.0) {
             return Some(row.1);
         }
     }

@@ -6,7 +6,7 @@ ghost use Rattle.journal.specs.Cursor.{token_read, at_most, word_after, number_a
 
 use crate::number::read_digits;
 use crate::token::{Token, next_token};
-use text::name::{NAME, name_size};
+use text::name::{NAME, name_bytes};
 
 // The byte where the token starts that cannot be read.
 #[derive(Clone, Copy, PartialEq, Eq)]
@@ -39,8 +39,7 @@ pub(crate) fn next_name(text: &[u8], at: usize, name: [u8; NAME]) -> Result<usiz
     ensures { result ≡ word_after text.now at (name_text name) }
 {
     let token = next_token(text, at);
-    let size = name_size(name);
-    if token.bytes(text) == &name[..size] {
+    if token.bytes(text) == name_bytes(&name) {
         return Ok(token.end);
     }
     Err(Unreadable(token.start))

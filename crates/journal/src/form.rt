@@ -1,15 +1,17 @@
 // A form: the parts of a command's text in their order, as data. One reader and one writer serve every form.
 ghost use Rattle.std.specs.Prelude.{◌≡◌, ◌<◌, ◌≤◌, length, MatchResult, Err};
-ghost use Rattle.text.specs.Buffer.{buffer_of, written};
+ghost use Rattle.text.specs.Text.{words_by};
+ghost use Rattle.text.specs.Buffer.{written};
 ghost use Rattle.journal.specs.Form.{part_count, held_of, room_of, count_of, place_of, start_of, end_of, words_in};
 ghost use Rattle.journal.specs.Form.{part_after, form_after, PartFollows, FormFollows, FormHeld, parts_in};
 ghost use Rattle.journal.specs.Form.{list_text, part_text, form_text};
 
 use crate::cursor::{Read, Unreadable, next_number};
 use crate::list::{read_count, read_list};
+use numbers::signed::signed_of;
+use text::buffer::Text;
 use text::name::{NAME, write_name};
 use text::number::{write_word, write_words};
-use text::write::write_byte;
 
 // The most parts of a form.
 pub const PARTS: usize = 12;
@@ -133,56 +135,63 @@ pub fn read_form(
     })
 }
 
+// Writes words, each after a blank, as numbers of either sign where they are signed.
+fn write_words_by<const SIZE: usize>(text: &mut Text<SIZE>, signed: bool, words: &[u64])
+    ensures { text.new ≡ written SIZE (words_by signed words.now) text.old }
+{
+    if !signed {
+        return write_words(text, words);
+    }
+    for word in words {
+        write_word(text, signed_of(*word));
+    }
+}
+
 // Writes a list, or a length, as a line of its own: its name, its number and its words.
-fn write_list(
-    buffer: &mut [u8],
-    count: usize,
+fn write_list<const SIZE: usize>(
+    text: &mut Text<SIZE>,
     name: [u8; NAME],
     signed: bool,
     number: u64,
     words: &[u64],
-) -> usize
-    ensures { buffer_of buffer.new result ≡ written (list_text name signed number words.now)
-        (buffer_of buffer.old count) }
+)
+    ensures { text.new ≡ written SIZE (list_text name signed number words.now) text.old }
 {
-    let end = write_byte(buffer, count, b'\n');
-    let end = write_name(buffer, end, name);
-    let end = write_word(buffer, end, number);
-    write_words(buffer, end, signed, words)
+    text.push(b'\n');
+    write_name(text, name);
+    write_word(text, number);
+    write_words_by(text, signed, words);
 }
 
-// Writes a part of its number and words.
-fn write_part(buffer: &mut [u8], count: usize, part: Part, number: u64, words: &[u64]) -> usize
-    ensures { buffer_of buffer.new result ≡ written (part_text part (held_of number words.now))
-        (buffer_of buffer.old count) }
-{
-    let name = part.0;
-    match part.1 {
-        Kind::Nothing => count,
-        Kind::Number(_) => write_word(buffer, count, number),
-        Kind::Signed(_) => write_list(buffer, count, name, true, number, words),
-        Kind::List(_, _) | Kind::Length(_) => write_list(buffer, count, name, false, number, words),
+impl Part {
+    // Writes the part of its number and words.
+    fn write<const SIZE: usize>(self, text: &mut Text<SIZE>, number: u64, words: &[u64])
+        ensures { text.new ≡ written SIZE (part_text self (held_of number words.now)) text.old }
+    {
+        match self.1 {
+            Kind::Nothing => (),
+            Kind::Number(_) => write_word(text, number),
+            Kind::Signed(_) => write_list(text, self.0, true, number, words),
+            Kind::List(_, _) | Kind::Length(_) => write_list(text, self.0, false, number, words),
+        }
     }
 }
 
 // Writes a command of these parts: its name and numbers on the first line, then a line for each list.
-pub fn write_form(
-    buffer: &mut [u8],
-    count: usize,
+pub fn write_form<const SIZE: usize>(
+    text: &mut Text<SIZE>,
     name: [u8; NAME],
     form: &[Part],
     parts: &Parts,
     words: &[u64],
-) -> usize
+)
     requires few { length form.now ≤ part_count }
     requires held { FormHeld form.now parts.now (length words.now) }
-    ensures { buffer_of buffer.new result ≡ written
-        (form_text name form.now (parts_in parts.now words.now)) (buffer_of buffer.old count) }
+    ensures { text.new ≡ written SIZE (form_text name form.now (parts_in parts.now words.now)) text.old }
 {
-    let mut end = write_name(buffer, count, name);
+    write_name(text, name);
     for (k, part) in form.iter().enumerate() {
-        let number = parts.0[k].number;
-        end = write_part(buffer, end, *part, number, parts.words_of(words, k));
+        part.write(text, parts.0[k].number, parts.words_of(words, k));
     }
-    write_byte(buffer, end, b'\n')
+    text.push(b'\n');
 }

@@ -1,9 +1,7 @@
 -- By the sign, the number of the digits after it.
-use mathlib.Core.Path.{◌≡◌, refl, sym, ◌∙◌, ap}
-use mathlib.Core.Bool.{true, false}
-use Rattle.std.specs.Prelude.{Option, option_and_then}
-use Prim.Native.Nat.{ℕ}
-use Rattle.journal.specs.Number.{is_minus, number_in, below_zero, above_zero, signed_in}
+use mathlib.Core.Path.{◌≡◌, ◌∙◌, ap}
+use Rattle.std.specs.Prelude.{option_and_then}
+use Rattle.journal.specs.Number.{is_minus, below_zero, above_zero, signed_in}
 use Rattle.journal.proofs.number.read_signed.Goals as goal
 use Rattle.journal.proofs.number.read_signed.Goals.{After-read_number, After-read_number-2}
 
@@ -20,7 +18,8 @@ above r = rw r.in_default.ensures.cases (ap (option_and_then above_zero) r.read_
 
 pub returns-in_err-read_number : goal.returns-in_err-read_number
 returns-in_err-read_number c =
-    rw (c.from_residual.ensures, ← c.in_err-read_number.was) (below (goal.at.returns-in_err-read_number c).After-read_number)
+    c.from_residual.ensures
+    ∙ rw c.in_err-read_number.was at (below (goal.at.returns-in_err-read_number c).After-read_number)
 
 pub returns-in-Some : goal.returns-in-Some
 returns-in-Some c =
@@ -28,7 +27,9 @@ returns-in-Some c =
     ∙ rw c.in_ok-read_number.was at (below (goal.at.returns-in-Some c).After-read_number)
 
 pub returns-in_err-read_number-2 : goal.returns-in_err-read_number-2
-returns-in_err-read_number-2 c = ?
+returns-in_err-read_number-2 c =
+    c.from_residual-in_err-read_number-2.ensures
+    ∙ rw c.in_err-read_number-2.was at (above (goal.at.returns-in_err-read_number-2 c).After-read_number-2)
 
 pub returns : goal.returns
 returns c =
