@@ -23,7 +23,7 @@ use Rattle.journal.specs.Cursor.{read_of, Reading, reads_below, most_word}
 use Rattle.journal.specs.List.{list_after, ListFollows}
 use Rattle.journal.specs.Form.{part_count, part_at, Held, held_of, held_in, bound_by, bound_of, count_by, count_of}
 use Rattle.journal.specs.Form.{room_of, place_of, number_part, list_part, part_by, part_after, parts_after, form_after}
-use Rattle.journal.specs.Form.{placed_none, placed_at, number_of, start_of, end_of, words_in, parts_below, parts_in}
+use Rattle.journal.specs.Form.{placed, placed_none, placed_at, number_of, start_of, end_of, words_in, parts_below, parts_in}
 use Rattle.journal.specs.Form.{FormHeld, PartFollows, FormFollows, part_text}
 use Rattle.journal.specs.declared.cursor.Read.{Read}
 use Rattle.journal.specs.declared.cursor.Unreadable.{Unreadable}
@@ -169,9 +169,6 @@ after_first : (at : ℕ) (words w r z : List ℕ) → at ≤ length words →
 after_first at words w r z p =
     ap (take (length w)) (drop_at (take at words) ((w ++ r) ++ z) at (length-take-le at words p) ∙ append_assoc w r z)
     ∙ take-append_seam w (r ++ z)
-
-abbrev pub placed : ℕ → ℕ → ℕ → Placed
-placed number start end = record { number = number; start = start; end = end }
 
 abbrev pub parts_of : List Placed → Parts
 parts_of list = record { 0 = list }

@@ -10,7 +10,7 @@ use Rattle.journal.proofs.form.read_form.Goals as goal
 use Rattle.journal.proofs.form.read_form.Goals.{After-room, At-loop-k}
 
 pub loop-k-init : goal.loop-k-init
-loop-k-init c = form_none _ _ _ _
+loop-k-init c = rw c.of_number-parts.ensures (form_none _ _ _ _)
 
 -- the words of the whole form have room, in fewer than 2^63 bytes
 module _ (a : At-loop-k) where
