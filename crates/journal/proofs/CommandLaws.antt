@@ -2,20 +2,21 @@
 -- Assumes nothing.
 use mathlib.Core.Path.{◌≡◌, refl}
 use mathlib.Core.Bool.{Bool, true, false, cond}
-use mathlib.Core.List.{List, [], ◌∷◌}
+use mathlib.Core.List.{List}
 use Prim.Native.Nat.{ℕ, ◌+◌, ◌≤◌, ◌<◌}
+use native.Mathlib.Numerals.{add-one}
 use native.Mathlib.Omega.{arith}
-use lib.ListN.{length}
+use lib.ListN.{length, get_or, drop}
+use lib.Seq.{drop-cons}
 use lib.Dec.{eqb}
 use borrow.Author.Tests.{eq-eqb, ne_eqb, eqb-false}
-use Rattle.std.specs.Prelude.{Result, Ok, Err, Option, Some, None, IfOk, IfSome}
+use Rattle.std.specs.Prelude.{Ok, Option, Some, None, IfOk, IfSome}
+use Rattle.std.specs.List.{find}
 use Rattle.journal.specs.Token.{token_after, bytes_of}
 use Rattle.journal.specs.Cursor.{and_then, token_read}
 use Rattle.journal.specs.Form.{part_count}
 use Rattle.journal.specs.Command.{command_form, command_named, command_after}
 use Rattle.journal.specs.declared.token.Token.{Token}
-use Rattle.journal.specs.declared.cursor.Read.{Read}
-use Rattle.journal.specs.declared.cursor.Unreadable.{Unreadable}
 use Rattle.journal.specs.declared.command.Command.{Command}
 use Rattle.journal.specs.declared.command.Command.TheVariants.{Open, Fix, Settle, Save, Load, Interim, Join}
 use Rattle.journal.specs.declared.command.Command.TheVariants.{ReadSheet, WriteSheet}
@@ -33,6 +34,14 @@ form_few Interim = omega arith
 form_few Join = omega arith
 form_few ReadSheet = omega arith
 form_few WriteSheet = omega arith
+
+-- a search comes to item k: it is found, or sought after it
+module _ {A : Type 0} (test : A → Bool) (items : List A) (k : ℕ) (d : A) (p : k < length items) where
+  pub find_here : test (get_or items k d) ≡ true → find test (drop k items) ≡ Some (get_or items k d)
+  find_here h = rw (drop-cons items k d p, h)
+
+  pub find_on : test (get_or items k d) ≡ false → find test (drop (k + 1) items) ≡ find test (drop k items)
+  find_on h = rw (add-one, drop-cons items k d p, h)
 
 -- the next command is that of the next token
 module _ (text : List ℕ) (at : ℕ) (token : Token) (e : token ≡ token_after text at) where

@@ -1,5 +1,5 @@
 -- Laws of reading on in a text: reading after reading, how far it reaches, and how large a number is. Assumes nothing.
-use mathlib.Core.Path.{◌≡◌, refl, sym, ◌∙◌, ap}
+use mathlib.Core.Path.{◌≡◌, refl, ◌∙◌}
 use mathlib.Core.Bool.{Bool, true, false, cond}
 use mathlib.Core.List.{List, [], ◌∷◌, ◌++◌}
 use Prim.Native.Nat.{ℕ, zero, suc, ◌+◌, ◌≤◌, ◌<◌}
@@ -12,10 +12,9 @@ use borrow.Author.Tests.{leb-true}
 use Rattle.std.specs.Prelude.{Result, Ok, Err, Option, Some, None, IfOk, bytes_eq}
 use Rattle.journal.specs.Token.{token_after, bytes_of}
 use Rattle.journal.specs.Number.{reading_in}
-use Rattle.journal.specs.Cursor.{unreadable, read_of, Reading, and_then, map_read, reads_below, token_read, word_after}
+use Rattle.journal.specs.Cursor.{unreadable, read_of, Reading, and_then, reads_below, token_read, word_after}
 use Rattle.journal.specs.Cursor.{at_most, number_after}
 use Rattle.journal.specs.declared.token.Token.{Token}
-use Rattle.journal.specs.declared.cursor.Read.{Read}
 use Rattle.journal.specs.declared.cursor.Unreadable.{Unreadable}
 use Rattle.journal.proofs.TokenLaws.{token_ordered, token_within, token_later}
 

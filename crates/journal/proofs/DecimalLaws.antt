@@ -1,15 +1,15 @@
 -- A number that stands in a text as its decimal digits is read as that number. Assumes nothing.
-use mathlib.Core.Path.{◌≡◌, refl, sym, ◌∙◌, ap, ap₂}
-use mathlib.Core.Bool.{Bool, true, false, cond, and-false}
+use mathlib.Core.Path.{◌≡◌, refl, ◌∙◌, ap, ap₂}
+use mathlib.Core.Bool.{Bool, true, false, cond}
 use mathlib.Core.List.{List, [], ◌∷◌, ◌++◌}
 use Prim.Native.Nat.{ℕ, zero, suc, ◌+◌, ◌*◌, ◌-◌, ◌/◌, ◌%◌, ◌^◌, ◌<◌, ◌≤◌}
-use native.Mathlib.Nat.{zero-add, add-zero, pow-suc}
+use native.Mathlib.Nat.{pow-suc}
 use native.Mathlib.Omega.{arith}
 use native.Mathlib.Decide.{dec_lt}
 use lib.Dec.{ltb}
 use lib.ListN.{length, take, length-append, get_or-append}
 use lib.Seq.{get_or-append_seam}
-use borrow.Author.Tests.{le-leb, lt-ltb, le-ltb, eq-eqb, ne_eqb}
+use borrow.Author.Tests.{le-leb, lt-ltb, le-ltb, ne_eqb}
 use Rattle.numbers.proofs.BoolLaws.{by_last}
 use Rattle.text.specs.Text.{digit, minus, decimal_within, decimal, signed_decimal}
 use Rattle.journal.specs.Token.{byte_at, ends_token}
@@ -17,7 +17,7 @@ use Rattle.journal.specs.Number.{is_digit, digit_taken, digits_read, number_in, 
 use Rattle.std.specs.Prelude.{Some, option_and_then, bytes_eq}
 use Rattle.journal.proofs.NumberLaws.{digit_least}
 use Rattle.journal.proofs.SignedLaws.{word_below}
-use Rattle.journal.proofs.TextLaws.{byte_first, byte_of, one_after, Plain}
+use Rattle.journal.proofs.TextLaws.{Plain}
 
 -- a token of digits, and the number that they write
 pub record Digits (token : List ℕ) (x : ℕ) : Type 0 where

@@ -2,7 +2,7 @@
 -- Assumes nothing.
 use mathlib.Core.Path.{◌≡◌, refl, sym, ◌∙◌, ap, ap₂}
 use mathlib.Core.Bool.{Bool, true, false}
-use mathlib.Core.List.{List, [], ◌∷◌, ◌++◌, append_assoc}
+use mathlib.Core.List.{List, [], ◌∷◌, ◌++◌, append_assoc, append-nil}
 use Prim.Native.Nat.{ℕ, zero, suc, ◌+◌, ◌-◌, ◌≤◌, ◌<◌}
 use native.Mathlib.Numerals.{add-one}
 use native.Mathlib.Omega.{arith}
@@ -11,20 +11,20 @@ use native.Mathlib.Decide.{dec_lt}
 use lib.ListN.{length, get_or, take, drop, set, replicate, length-drop, length-set, take-append-drop}
 use lib.ListN.{get_or-replicate, get_or-eq_default}
 use lib.Seq.{length-take-le, drop-append-le, take-append-le, take-append_seam, drop_at, get_or-set_same, get_or-set_other}
-use borrow.Rule.Slice.PartMut.{put_mid, mid_len, same_len_mid}
-use Rattle.std.specs.Prelude.{Result, Ok, Err, IfOk, MatchResult}
-use Rattle.std.proofs.lemmas.Result.{IfOk-weaker, IfOk-at_ok}
+use borrow.Rule.Slice.PartMut.{put_mid, mid_len}
+use Rattle.std.specs.Prelude.{Ok, Err, IfOk, MatchResult}
+use Rattle.std.proofs.lemmas.Result.{IfOk-at_ok}
 use Rattle.numbers.proofs.BoolLaws.{by_last}
 use Rattle.numbers.proofs.SumLaws.{sum_step, sum_mono}
 use Rattle.numbers.proofs.ListLaws.{list_at, list_same}
 use Rattle.numbers.specs.Bounded.{sum_below, list_below}
-use Rattle.text.specs.Text.{name_text}
+use Rattle.text.specs.Text.{name_text, text_below}
 use Rattle.journal.specs.Cursor.{read_of, Reading, reads_below, most_word}
 use Rattle.journal.specs.List.{list_after, ListFollows}
 use Rattle.journal.specs.Form.{part_count, part_at, Held, held_of, held_in, bound_by, bound_of, count_by, count_of}
 use Rattle.journal.specs.Form.{room_of, place_of, number_part, list_part, part_by, part_after, parts_after, form_after}
-use Rattle.journal.specs.Form.{placed_none, placed_at, number_of, start_of, end_of, words_in, parts_below, parts_in}
-use Rattle.journal.specs.Form.{FormHeld, PartFollows, FormFollows}
+use Rattle.journal.specs.Form.{placed, placed_none, placed_at, number_of, start_of, end_of, words_in, parts_below, parts_in}
+use Rattle.journal.specs.Form.{FormHeld, PartFollows, FormFollows, part_text}
 use Rattle.journal.specs.declared.cursor.Read.{Read}
 use Rattle.journal.specs.declared.cursor.Unreadable.{Unreadable}
 use Rattle.journal.specs.declared.form.Kind.{Kind}
@@ -32,7 +32,7 @@ use Rattle.journal.specs.declared.form.Kind.TheVariants.{Nothing, Number, List a
 use Rattle.journal.specs.declared.form.Part.{Part}
 use Rattle.journal.specs.declared.form.Parts.{Parts}
 use Rattle.journal.specs.declared.form.Placed.{Placed}
-use Rattle.journal.proofs.CursorLaws.{if_then, if_any, reads_none, reads_more, reads_broken, reads_keep, Past, then_number}
+use Rattle.journal.proofs.CursorLaws.{reads_more, reads_broken, reads_keep, Past, then_number}
 use Rattle.journal.proofs.CursorLaws.{number_most}
 use Rattle.journal.proofs.ListLaws.{count_most, list_most, then_count, then_list}
 
@@ -169,9 +169,6 @@ after_first : (at : ℕ) (words w r z : List ℕ) → at ≤ length words →
 after_first at words w r z p =
     ap (take (length w)) (drop_at (take at words) ((w ++ r) ++ z) at (length-take-le at words p) ∙ append_assoc w r z)
     ∙ take-append_seam w (r ++ z)
-
-abbrev pub placed : ℕ → ℕ → ℕ → Placed
-placed number start end = record { number = number; start = start; end = end }
 
 abbrev pub parts_of : List Placed → Parts
 parts_of list = record { 0 = list }
@@ -343,6 +340,25 @@ part_none {form} {parts} words h k p e = go (words_in parts words k) (rw e at (p
     go : (l : List ℕ) → length l ≤ 0 → l ≡ []
     go [] q = refl
     go (x ∷ l) q = absurd (omega arith)
+
+-- past the last part of a form there is no text
+module _ (form : List Part) (parts : List Held) where
+  text_ends : (n k : ℕ) → k + n ≡ part_count → length form ≤ k →
+      text_below k (λ j. part_text (part_at form j) (held_in parts j))
+      ≡ text_below part_count (λ j. part_text (part_at form j) (held_in parts j))
+  unfolding text_below part_text
+  text_ends zero k e p =
+      ap (λ n. text_below n (λ j. part_text (part_at form j) (held_in parts j))) (sym (add-zero k) ∙ e)
+  text_ends (suc n) k e p =
+      let nothing : part_at form k ≡ record { 0 = []; 1 = Nothing } = get_or-eq_default form _ {n = k} p in
+      let text : ℕ → List ℕ = λ j. part_text (part_at form j) (held_in parts j) in
+      sym (ap (λ part. text_below k text ++ part_text part (held_in parts k)) nothing ∙ append-nil (text_below k text))
+      ∙ text_ends n (suc k) (omega arith) (omega arith)
+
+  pub text_whole : length form ≤ part_count →
+      text_below (length form) (λ j. part_text (part_at form j) (held_in parts j))
+      ≡ text_below part_count (λ j. part_text (part_at form j) (held_in parts j))
+  text_whole few = text_ends (part_count - length form) (length form) (omega arith) (omega arith)
 
 -- what is said of each of the twelve parts
 pub each_part : (P : ℕ → Type 0) → P 0 → P 1 → P 2 → P 3 → P 4 → P 5 → P 6 → P 7 → P 8 → P 9 → P 10 → P 11 →

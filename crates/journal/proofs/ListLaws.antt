@@ -1,5 +1,5 @@
 -- Laws of a list's reading: how far it reaches, and how long it is. Assumes nothing.
-use mathlib.Core.Path.{◌≡◌, refl, sym, ◌∙◌, ap}
+use mathlib.Core.Path.{◌≡◌}
 use mathlib.Core.Bool.{Bool, false}
 use mathlib.Core.List.{List}
 use Prim.Native.Nat.{ℕ, ◌≤◌}
@@ -7,9 +7,8 @@ use native.Mathlib.Omega.{arith}
 use lib.ListN.{length}
 use Rattle.std.specs.Prelude.{IfOk}
 use Rattle.std.proofs.lemmas.Result.{IfOk-weaker}
-use Rattle.journal.specs.Cursor.{word_after, number_after}
+use Rattle.journal.specs.Cursor.{word_after}
 use Rattle.journal.specs.List.{numbers_after, count_after, list_after}
-use Rattle.journal.specs.declared.cursor.Read.{Read}
 use Rattle.journal.proofs.CursorLaws.{if_then, if_any, reads_keep, reads_length, Past, then_word, then_number, number_most}
 
 -- there are as many numbers as are read

@@ -8,7 +8,7 @@ use native.Mathlib.Decide.{ℕ_discrete}
 use lib.Dec.{leb}
 use borrow.Author.Tests.{leb-true}
 use Rattle.std.specs.Prelude.{None}
-use Rattle.numbers.proofs.BoolLaws.{and_left, and_right}
+use Rattle.numbers.proofs.BoolLaws.{and_left}
 use Rattle.journal.specs.Number.{is_digit, digits_read}
 
 pub digit_least : (byte : ℕ) → is_digit byte ≡ true → 48 ≤ byte

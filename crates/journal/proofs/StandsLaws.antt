@@ -10,15 +10,13 @@ use borrow.Author.Tests.{le-leb}
 use Rattle.std.specs.Prelude.{Result, Ok}
 use Rattle.std.proofs.lemmas.Slice.Eq.{bytes_eq-Decides}
 use Rattle.numbers.specs.Bounded.{list_below}
-use Rattle.numbers.proofs.BoolLaws.{by_last}
-use Rattle.numbers.proofs.ListLaws.{list_length, list_at, list_same}
+use Rattle.numbers.proofs.ListLaws.{list_length, list_at}
 use Rattle.text.specs.Text.{blank, line_end, decimal, signed_decimal, word, word_by, words_by, text_below}
 use Rattle.journal.specs.Token.{token_after}
 use Rattle.journal.specs.Cursor.{read_of, Reading, reads_below, most_word, word_after, number_after}
 use Rattle.journal.specs.List.{numbers_after, count_after, list_after}
 use Rattle.journal.specs.declared.token.Token.{Token}
 use Rattle.journal.specs.declared.cursor.Unreadable.{Unreadable}
-use Rattle.journal.proofs.CursorLaws.{reads_none, reads_more}
 use Rattle.journal.proofs.TextLaws.{blank_gap, line_gap, Ends, gap_ends, Plain, TokenStands, token_next}
 use Rattle.journal.proofs.TextLaws.{token_after_lem, token_bytes}
 use Rattle.journal.proofs.DecimalLaws.{text_token, text_in}

@@ -146,7 +146,6 @@ module _ {text : List ℕ} {from : ℕ} {token tail : List ℕ} (t : TokenStands
 
   -- the token's bytes are those that stand there
   pub token_bytes : bytes_of text (token_after text from) ≡ token
-  unfolding bytes_of
   token_bytes =
       let size : end - start ≡ length token = omega (arith, t.end) in
       rw (size, t.start) (take-append_seam token tail)

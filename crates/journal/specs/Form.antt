@@ -1,6 +1,6 @@
 -- A form: the parts of a command's text in their order (docs/JOURNAL.md, "Input"), what a text holds of them, and the
 -- text that is written of them. Assumes nothing.
-use Rattle.std.specs.Prelude.{Bool, true, false, ◌≡◌, List, [], ◌∷◌, ◌++◌, ℕ, zero, suc, ◌+◌, ◌-◌, ◌≤◌, ◌<◌, length, get_or, take, drop, Ok}
+use Rattle.std.specs.Prelude.{Bool, true, false, ◌≡◌, List, [], ◌∷◌, ◌++◌, ℕ, ◌+◌, ◌-◌, ◌≤◌, ◌<◌, length, get_or, take, drop, Ok}
 use Prim.Native.String.{String}
 use Rattle.numbers.specs.Bounded.{sum_below, list_below}
 use Rattle.text.specs.Text.{bytes, line_end, word, words_by, text_below, name_text}
@@ -94,8 +94,11 @@ unfoldable pub form_after : List Part → List ℕ → ℕ → Reading (List Hel
 form_after form text at = parts_after part_count form text at
 
 -- the number of part k, and where its words start and end in the lent ones
+abbrev pub placed : ℕ → ℕ → ℕ → Placed
+placed number start end = record { number = number; start = start; end = end }
+
 abbrev pub placed_none : Placed
-placed_none = record { number = 0; start = 0; end = 0 }
+placed_none = placed 0 0 0
 
 abbrev pub placed_at : Parts → ℕ → Placed
 placed_at parts k = get_or parts.0 k placed_none

@@ -1,13 +1,15 @@
 // A form: the parts of a command's text in their order, as data. One reader and one writer serve every form.
-ghost use Rattle.std.specs.Prelude.{◌≡◌, ◌<◌, ◌≤◌, length, MatchResult, Err};
+ghost use Rattle.std.specs.Prelude.{◌≡◌, ◌+◌, ◌^◌, ◌<◌, ◌≤◌, length, MatchResult, Err};
 ghost use Rattle.text.specs.Text.{words_by};
 ghost use Rattle.text.specs.Buffer.{written};
-ghost use Rattle.journal.specs.Form.{part_count, held_of, room_of, count_of, place_of, start_of, end_of, words_in};
+ghost use Rattle.journal.specs.Form.{part_count, held_of, room_of, count_of, place_of, placed};
+ghost use Rattle.journal.specs.Form.{number_of, start_of, end_of, words_in};
 ghost use Rattle.journal.specs.Form.{part_after, form_after, PartFollows, FormFollows, FormHeld, parts_in};
 ghost use Rattle.journal.specs.Form.{list_text, part_text, form_text};
 
 use crate::cursor::{Read, Unreadable, next_number};
 use crate::list::{read_count, read_list};
+use numbers::signed::signed_of;
 use text::buffer::Text;
 use text::name::{NAME, write_name};
 use text::number::{write_word, write_words};
@@ -44,11 +46,44 @@ pub struct Placed {
     pub end: usize,
 }
 
+impl Placed {
+    // A number alone.
+    pub fn of_number(number: u64) -> Self
+        ensures { result ≡ placed number 0 0 }
+    {
+        Placed {
+            number,
+            start: 0,
+            end: 0,
+        }
+    }
+
+    // A list of so many words from a place on.
+    pub fn of_list(start: usize, count: usize) -> Self
+        requires { start + count < 2 ^ 64 }
+        ensures { result ≡ placed count start (start + count) }
+    {
+        Placed {
+            number: count as u64,
+            start,
+            end: start + count,
+        }
+    }
+}
+
 // What the parts of a form hold.
 #[derive(Clone, Copy)]
 pub struct Parts(pub [Placed; PARTS]);
 
 impl Parts {
+    // The number of part k.
+    pub fn number_of(&self, k: usize) -> u64
+        requires { k < part_count }
+        ensures { result ≡ number_of self.now k }
+    {
+        self.0[k].number
+    }
+
     // The words of part k.
     pub fn words_of<'a>(&self, words: &'a [u64], k: usize) -> &'a [u64]
         requires part { k < part_count }
@@ -111,12 +146,7 @@ pub fn read_form(
     ensures { MatchResult result (λ read. FormFollows form.now text.now at read words.new)
         (λ broken. form_after form.now text.now at ≡ Err broken) }
 {
-    let none = Placed {
-        number: 0,
-        start: 0,
-        end: 0,
-    };
-    let mut parts = [none; PARTS];
+    let mut parts = [Placed::of_number(0); PARTS];
     let mut next = at;
     let mut start: usize = 0;
     for (k, part) in form.iter().enumerate() {
@@ -142,7 +172,7 @@ fn write_words_by<const SIZE: usize>(text: &mut Text<SIZE>, signed: bool, words:
         return write_words(text, words);
     }
     for word in words {
-        write_word(text, word.cast_signed());
+        write_word(text, signed_of(*word));
     }
 }
 
@@ -190,7 +220,7 @@ pub fn write_form<const SIZE: usize>(
 {
     write_name(text, name);
     for (k, part) in form.iter().enumerate() {
-        part.write(text, parts.0[k].number, parts.words_of(words, k));
+        part.write(text, parts.number_of(k), parts.words_of(words, k));
     }
     text.push(b'\n');
 }

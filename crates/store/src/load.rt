@@ -83,13 +83,13 @@ pub fn load(parts: &Parts, words: &[u64]) -> Ledger
     let balances = load_balances(parts.words_of(words, 10));
     let counts = load_counts(parts.words_of(words, 11));
     Ledger {
-        n: parts.0[0].number as usize,
-        last: parts.0[1].number,
-        fixed: word_truth(parts.0[2].number),
-        month: parts.0[3].number,
-        day: parts.0[4].number,
+        n: parts.number_of(0) as usize,
+        last: parts.number_of(1),
+        fixed: word_truth(parts.number_of(2)),
+        month: parts.number_of(3),
+        day: parts.number_of(4),
         force,
-        has_older: word_truth(parts.0[5].number),
+        has_older: word_truth(parts.number_of(5)),
         older,
         balances,
         counts,

@@ -5,7 +5,7 @@ ghost use Rattle.store.specs.Store.{truth_word, older_from, kept_words, charges_
 ghost use Rattle.store.specs.Store.{ledger_words, word_owner, zero_past, kept_among, Saved};
 
 use fixing::sector::SectorCharges;
-use journal::form::{PARTS, Parts, Placed};
+use journal::form::{Parts, Placed};
 use ledger::ledger::Ledger;
 use numbers::signed::word_of;
 use numbers::sizes::{MOST_DISTRIBUTORS, PLACES, SECTORS};
@@ -24,22 +24,6 @@ const COUNTS: usize = BALANCES + MOST_DISTRIBUTORS;
 
 // How many words there are at most.
 pub const KEPT_WORDS: usize = COUNTS + MOST_DISTRIBUTORS;
-
-// Where the words of each part stand: the numbers have none.
-const STARTS: [usize; PARTS] = [
-    0,
-    0,
-    0,
-    0,
-    0,
-    0,
-    0,
-    PLACES,
-    OLDER,
-    OLDER_CHARGES,
-    BALANCES,
-    COUNTS,
-];
 
 // A truth as a word, 0 or 1.
 fn truth_word(truth: bool) -> u64
@@ -131,6 +115,20 @@ pub fn save(ledger: Ledger, words: &mut [u64]) -> Parts
     ensures { Saved ledger result words.new }
 {
     save_words(ledger, words);
-    let none = Placed { number: 0, start: 0, end: 0 };
-    Parts([none; PARTS])
+    let kept = kept_among(ledger.n, words);
+    let places = kept * SECTORS;
+    Parts([
+        Placed::of_number(ledger.n as u64),
+        Placed::of_number(ledger.last),
+        Placed::of_number(truth_word(ledger.fixed)),
+        Placed::of_number(ledger.month),
+        Placed::of_number(ledger.day),
+        Placed::of_number(truth_word(ledger.has_older)),
+        Placed::of_list(0, places),
+        Placed::of_list(PLACES, places),
+        Placed::of_list(OLDER, places),
+        Placed::of_list(OLDER_CHARGES, places),
+        Placed::of_list(BALANCES, kept),
+        Placed::of_list(COUNTS, kept),
+    ])
 }

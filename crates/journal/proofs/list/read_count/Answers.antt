@@ -1,5 +1,5 @@
 -- The name, then the number.
-use mathlib.Core.Path.{◌≡◌, refl, sym, ◌∙◌}
+use mathlib.Core.Path.{refl, sym, ◌∙◌}
 use Rattle.std.proofs.lemmas.Result.{err_from_is_err_and}
 use Rattle.journal.specs.List.{count_after}
 use Rattle.journal.proofs.list.read_count.Goals as goal

@@ -1,7 +1,7 @@
 -- The name and the count, and as many numbers into the first places.
 use mathlib.Core.Path.{◌≡◌, refl, sym, ◌∙◌}
 use Prim.Native.Nat.{◌≤◌}
-use lib.ListN.{length}
+use lib.ListN.{length, take}
 use lib.Seq.{length-take-le}
 use Rattle.std.proofs.lemmas.Result.{err_from_is_err_and, IfOk-at_ok}
 use Rattle.journal.specs.List.{list_after}
@@ -15,12 +15,15 @@ counted c =
     IfOk-at_ok (λ read. read.value ≤ length c.args.into.now) (sym c.read_count.ensures ∙ c.in_ok-counted.was)
     (count_most _ _ _ _)
 
+room : (c : In_ok-counted) →
+    length (take c.in_ok-counted.counted.value c.args.into.now) ≡ c.in_ok-counted.counted.value
+room c = length-take-le _ _ (counted c)
+
 pub slice_bounds-fill_numbers-end : goal.slice_bounds-fill_numbers-end
 slice_bounds-fill_numbers-end c = counted (goal.at.slice_bounds-fill_numbers-end c).In_ok-counted
 
 pub slice_bounds-fill_numbers-end-2 : goal.slice_bounds-fill_numbers-end-2
-slice_bounds-fill_numbers-end-2 c =
-    sym (length-take-le _ _ (counted (goal.at.slice_bounds-fill_numbers-end-2 c).In_ok-counted))
+slice_bounds-fill_numbers-end-2 c = sym (room (goal.at.slice_bounds-fill_numbers-end-2 c).In_ok-counted)
 
 pub returns-in_err-counted : goal.returns-in_err-counted
 unfolding list_after
@@ -33,15 +36,15 @@ unfolding list_after
 returns-in_err-next c =
     let p = err_from_is_err_and c.from_residual-in_err-next.result c.from_residual-in_err-next.ensures.1 in
     rw (p.1, p.2, sym c.read_count.ensures ∙ c.in_ok-counted.was)
-    (let h = c.in_err-next.ensures in ?)
+    (rw (room (goal.at.returns-in_err-next c).In_ok-counted) at c.in_err-next.ensures)
 
 pub returns : goal.returns
 unfolding list_after
 returns c =
-    let few = counted (goal.at.returns c).In_ok-counted in
+    let numbers = rw (room (goal.at.returns c).In_ok-counted) at c.in_ok-next.ensures in
     record {
       words = c.fill_numbers.new.into;
-      after = rw (sym c.read_count.ensures ∙ c.in_ok-counted.was) (let h = c.in_ok-next.ensures in ?);
-      counted = ?;
+      after = rw (sym c.read_count.ensures ∙ c.in_ok-counted.was) numbers;
+      counted = sym (IfOk-at_ok (λ read. length read.value ≡ c.in_ok-counted.counted.value) numbers (numbers_length _ _ _ _ _));
       lent = refl;
     }

@@ -1,12 +1,11 @@
 -- The invariant: the digits passed are read.
-use mathlib.Core.Path.{◌≡◌, refl, sym, ◌∙◌, ap}
+use mathlib.Core.Path.{◌≡◌, refl, sym, ◌∙◌}
 use Prim.Native.Nat.{◌+◌}
 use native.Mathlib.Omega.{arith}
 use native.Mathlib.Numerals.{add-one}
 use lib.ListN.{length}
-use Rattle.std.specs.Prelude.{None, option_and_then}
-use Rattle.journal.specs.Token.{byte_at}
-use Rattle.journal.specs.Number.{digit_taken, digits_read, number_in}
+use Rattle.std.specs.Prelude.{None}
+use Rattle.journal.specs.Number.{digits_read, number_in}
 use Rattle.journal.proofs.NumberLaws.{digits_none}
 use Rattle.journal.proofs.number.read_number.Goals as goal
 use Rattle.journal.proofs.number.read_number.Goals.{After-take_digit}

@@ -1,9 +1,7 @@
 -- By the sign, the number of the digits after it.
-use mathlib.Core.Path.{◌≡◌, refl, sym, ◌∙◌, ap}
-use mathlib.Core.Bool.{true, false}
-use Rattle.std.specs.Prelude.{Option, option_and_then}
-use Prim.Native.Nat.{ℕ}
-use Rattle.journal.specs.Number.{is_minus, number_in, below_zero, above_zero, signed_in}
+use mathlib.Core.Path.{◌≡◌, ◌∙◌, ap}
+use Rattle.std.specs.Prelude.{option_and_then}
+use Rattle.journal.specs.Number.{is_minus, below_zero, above_zero, signed_in}
 use Rattle.journal.proofs.number.read_signed.Goals as goal
 use Rattle.journal.proofs.number.read_signed.Goals.{After-read_number, After-read_number-2}
 

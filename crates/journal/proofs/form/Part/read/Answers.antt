@@ -4,7 +4,7 @@ use mathlib.Core.Bool.{true, false}
 use mathlib.Core.List.{[]}
 use Rattle.journal.specs.Cursor.{most_word}
 use Rattle.journal.specs.Form.{part_after}
-use Rattle.journal.specs.declared.form.Kind.TheVariants.{Nothing, Number, List as Words, Signed, Length}
+use Rattle.journal.specs.declared.form.Kind.TheVariants.{Number, List as Words, Signed, Length}
 use Rattle.journal.proofs.FormLaws.{follows, follows_list}
 use Rattle.journal.proofs.form.Part.read.Goals as goal
 
@@ -19,12 +19,12 @@ returns-in-Number c =
 pub returns-in-List : goal.returns-in-List
 returns-in-List c =
     follows_list _ _ _ (Words c.in-List.field-0 c.in-List.most) c.in-List.is false c.in-List.most _ _ _
-    (let room = rw c.in-List.is at c.requires in ?) (λ number. refl) c.read_list.ensures
+    (rw (rw c.in-List.is at c.requires) refl) (λ number. refl) c.read_list.ensures
 
 pub returns-in-Signed : goal.returns-in-Signed
 returns-in-Signed c =
     follows_list _ _ _ (Signed c.in-Signed.field-0) c.in-Signed.is true most_word _ _ _
-    (let room = rw c.in-Signed.is at c.requires in ?) (λ number. refl) c.read_list-in-Signed.ensures
+    (rw (rw c.in-Signed.is at c.requires) refl) (λ number. refl) c.read_list-in-Signed.ensures
 
 pub returns-in-Length : goal.returns-in-Length
 returns-in-Length c =
