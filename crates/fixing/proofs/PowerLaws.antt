@@ -34,9 +34,9 @@ module _ (prices : List PowerPrice) (lines : List ℕ) (ok : PowerPricedLines pr
   power_amount_most j p = mul-le-mul (ok.priced j p) (ok.own.checked.facts j p).energy_most
 
   -- what a distributor's lines come to can be divided
-  pub power_within : (i : ℕ) → 1 ≤ supplied_energy lines i →
+  pub power_amount_within : (i : ℕ) → 1 ≤ supplied_energy lines i →
       PowerWithin (lines_amount (power_of prices) lines i) (supplied_energy lines i)
-  power_within i some =
+  power_amount_within i some =
       record {
         some = some;
         most = energy_most_lem lines ok.own i;

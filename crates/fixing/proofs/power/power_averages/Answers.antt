@@ -14,7 +14,7 @@ use Rattle.fixing.specs.Average.{lines_amount, supplied_energy, average_price}
 use Rattle.fixing.specs.Power.{power_of, power_averages}
 use Rattle.fixing.specs.Required.{PowerWithin}
 use Rattle.fixing.proofs.AverageLaws.{energy_at, supplied_some}
-use Rattle.fixing.proofs.PowerLaws.{power_within}
+use Rattle.fixing.proofs.PowerLaws.{power_amount_within}
 use Rattle.fixing.proofs.power.power_averages.Goals as goal
 use Rattle.fixing.proofs.power.power_averages.Invariants.{average_in}
 use Rattle.fixing.proofs.power.power_averages.Goals.{After-power_amounts-amounts}
@@ -35,7 +35,7 @@ module _ (c : After-power_amounts-amounts) (i : ℕ) (p : i < c.args.n) where
   within : PowerWithin (get_or c.power_amounts-amounts.result i 0) (get_or c.args.energies i no_energy).0
   within =
       rw (amount, energy)
-      (power_within c.args.prices c.args.lines.now c.requires.priced i
+      (power_amount_within c.args.prices c.args.lines.now c.requires.priced i
       (supplied_some c.args.n c.args.lines.now c.requires.priced.own c.requires.everyone i p))
 
   -- their average is the definition's
