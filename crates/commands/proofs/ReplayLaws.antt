@@ -6,10 +6,9 @@ use mathlib.Core.List.{List}
 use Prim.Native.Nat.{ℕ, zero, suc, ◌-◌, ◌+◌, ◌<◌, ◌≤◌}
 use native.Mathlib.Omega.{arith}
 use native.Mathlib.Decide.{dec_lt}
-use native.Mathlib.Nat.{lt_trans}
 use lib.ListN.{length}
 use borrow.Author.Tests.{lt-ltb, le-ltb}
-use Rattle.std.specs.Prelude.{Option, Some, None, Result, Ok, Err}
+use Rattle.std.specs.Prelude.{Option, Some, None, Result, Ok, Err, IfOk, IfSome}
 use Rattle.numbers.specs.Checks.{verdict_of}
 use Rattle.numbers.specs.Units.{between}
 use Rattle.journal.specs.Cursor.{read_of, Reading, and_then, unreadable}
@@ -18,8 +17,9 @@ use Rattle.journal.specs.Command.{command_form, command_after}
 use Rattle.journal.specs.declared.command.Command.{Command}
 use Rattle.journal.specs.declared.cursor.Unreadable.{Unreadable}
 use Rattle.journal.specs.declared.cursor.Read.{Read}
-use Rattle.journal.proofs.FormLaws.{form_later}
-use Rattle.journal.proofs.CommandLaws.{command_later}
+use Rattle.journal.proofs.CursorLaws.{Past}
+use Rattle.journal.proofs.FormLaws.{then_form}
+use Rattle.journal.proofs.CommandLaws.{command_past}
 use Rattle.ledger.specs.Ledger.{empty_ledger, opening_checks, opening_verdict, opening_ledger}
 use Rattle.ledger.specs.declared.ledger.Ledger.{Ledger}
 use Rattle.commands.specs.Replay.{command_ledger, ledger_by, ledger_of, ledger_after, read_with, broken_with, go_on}
@@ -28,27 +28,27 @@ use Rattle.commands.specs.declared.run.Step.{Step}
 
 -- a command reads on
 module _ (text : List ℕ) (at : ℕ) (p : at < length text) (ledger : Ledger) where
-  made_later : (command : Read Command) → at < command.next → (form : Reading (List Held)) →
-      form ≡ form_after (command_form command.value) text command.next → (read : Read Ledger) →
+  made_later : (command : Read Command) (form : Reading (List Held)) →
+      IfOk form (λ read. Past text (at + 1) read.next) → (read : Read Ledger) →
       ledger_by command.value ledger form ≡ Ok read → at < read.next
-  made_later command h (Ok parts) e read r =
-      let later : command.next ≤ parts.next = form_later (command_form command.value) text command.next parts (sym e) in
+  made_later command (Ok parts) o read r =
       let same : read_of (command_ledger command.value parts.value ledger) parts.next ≡ read = cc in
-      omega (arith, h, later, ap (λ (q : Read Ledger). q.next) same)
-  made_later command h (Err broken) e read r = absurd (let z : ◌≡◌ {A = ℕ} 0 1 = cc in omega arith)
+      omega (arith, o.later, ap (λ (q : Read Ledger). q.next) same)
+  made_later command (Err broken) o read r = absurd (let z : ◌≡◌ {A = ℕ} 0 1 = cc in omega arith)
 
-  after_later : (found : Result (Option (Read Command)) Unreadable) → found ≡ command_after text at →
-      (read : Read Ledger) → and_then found (ledger_of text ledger) ≡ Ok read → at < read.next
-  after_later (Ok None) e read r =
+  after_later : (found : Result (Option (Read Command)) Unreadable) →
+      IfOk found (λ given. IfSome given (λ command. Past text (at + 1) command.next)) → (read : Read Ledger) →
+      and_then found (ledger_of text ledger) ≡ Ok read → at < read.next
+  after_later (Ok None) o read r =
       let same : read_of ledger (length text) ≡ read = cc in
       omega (arith, p, ap (λ (q : Read Ledger). q.next) same)
-  after_later (Ok (Some command)) e read r =
-      made_later command (command_later text at p command (sym e)) _ refl read r
-  after_later (Err broken) e read r = absurd (let z : ◌≡◌ {A = ℕ} 0 1 = cc in omega arith)
+  after_later (Ok (Some command)) o read r =
+      made_later command _ (then_form o (command_form command.value)) read r
+  after_later (Err broken) o read r = absurd (let z : ◌≡◌ {A = ℕ} 0 1 = cc in omega arith)
 
   pub ledger_later : (read : Read Ledger) → ledger_after text at ledger ≡ Ok read → at < read.next
   unfolding ledger_after
-  ledger_later read r = after_later _ refl read r
+  ledger_later read r = after_later _ (command_past text at p) read r
 
 -- past the text no command is made
 pub replay_none : (left : ℕ) (text : List ℕ) (at : ℕ) (ledger : Ledger) → length text ≤ at →

@@ -72,11 +72,11 @@ fn call_fixing(
         result.ledger prices.new power.new }
 {
     let numbers = FixingNumbers {
-        month: parts.0[0].number,
-        dollar: parts.0[1].number,
-        reference_factor: parts.0[2].number,
-        first_month: parts.0[3].number,
-        day: parts.0[4].number,
+        month: parts.number_of(0),
+        dollar: parts.number_of(1),
+        reference_factor: parts.number_of(2),
+        first_month: parts.number_of(3),
+        day: parts.number_of(4),
     };
     let series = parts.words_of(words, 5);
     let lines = parts.words_of(words, 6);
@@ -105,8 +105,8 @@ pub(crate) fn run_fixing(
 {
     let mut price_room = unwritten(UNWRITTEN);
     let mut power_room = unwritten(UNWRITTEN_WORD);
-    let prices = &mut price_room[..parts.0[9].number as usize];
-    let power = &mut power_room[..parts.0[10].number as usize];
+    let prices = &mut price_room[..parts.number_of(9) as usize];
+    let power = &mut power_room[..parts.number_of(10) as usize];
     let outcome = call_fixing(is_interim, parts, ledger, words, prices, power);
     write_fixed(answer, fixing_name(is_interim), outcome.answer, prices, power);
     outcome.ledger
@@ -127,8 +127,8 @@ pub(crate) fn run_settle(
     let readings = parts.words_of(words, 1);
     let losses = parts.words_of(words, 2);
     let mut room = unwritten(UNWRITTEN);
-    let transfers = &mut room[..parts.0[3].number as usize];
-    let outcome = settle(ledger, parts.0[0].number, readings, losses, transfers);
+    let transfers = &mut room[..parts.number_of(3) as usize];
+    let outcome = settle(ledger, parts.number_of(0), readings, losses, transfers);
     let balances = outcome.ledger.balances;
     write_settled(answer, b"settle", outcome.answer, transfers, &balances);
     outcome.ledger

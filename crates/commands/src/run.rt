@@ -53,7 +53,7 @@ fn make_command(
         (command_answer command (parts_in parts.now words.now) ledger) answer.old }
 {
     match command {
-        Command::Open => run_open(parts.0[0].number as usize, answer),
+        Command::Open => run_open(parts.number_of(0) as usize, answer),
         Command::Save => run_save(ledger, answer),
         Command::Load => run_load(parts, words, answer),
         Command::Fix => run_fixing(false, parts, ledger, words, answer),

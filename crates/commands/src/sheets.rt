@@ -34,8 +34,8 @@ pub(crate) fn run_read_sheet(parts: &Parts, words: &[u64], answer: &mut Text<LON
     let sheet = &mut byte_room[..given.len()];
     narrow(given, sheet);
     let mut room = unwritten(UNWRITTEN_WORD);
-    let readings = &mut room[..parts.0[2].number as usize];
-    let read = read_sheet(parts.0[0].number as usize, sheet, readings);
+    let readings = &mut room[..parts.number_of(2) as usize];
+    let read = read_sheet(parts.number_of(0) as usize, sheet, readings);
     write_sheet_read(answer, b"readsheet", read, readings);
 }
 
@@ -47,7 +47,7 @@ pub(crate) fn run_write_sheet(parts: &Parts, words: &[u64], answer: &mut Text<LO
 {
     let readings = parts.words_of(words, 1);
     let mut room = unwritten(UNWRITTEN_BYTE);
-    let sheet = &mut room[..parts.0[2].number as usize];
-    let used = write_sheet(parts.0[0].number as usize, readings, sheet);
+    let sheet = &mut room[..parts.number_of(2) as usize];
+    let used = write_sheet(parts.number_of(0) as usize, readings, sheet);
     write_sheet_written(answer, b"writesheet", used, sheet);
 }
