@@ -13,7 +13,7 @@ use numbers::sizes::{DISTRIBUTOR_READINGS, MOST_DISTRIBUTORS, MOST_READING};
 use numbers::units::{all_between, is_between};
 
 // The most bytes of a distributor: a map and its readings.
-const DISTRIBUTOR_BYTES: usize = NUMBER_SIZE * (1 + DISTRIBUTOR_READINGS);
+pub const DISTRIBUTOR_BYTES: usize = NUMBER_SIZE * (1 + DISTRIBUTOR_READINGS);
 
 // The bit of a reading.
 fn presence_bit(reading: u64) -> u64
