@@ -13,7 +13,6 @@ use Rattle.numbers.proofs.SignedLaws.{size_fits, is_fits, sum_bits}
 use Rattle.settlement.proofs.AmountLaws.{amount_size}
 use Rattle.settlement.proofs.MonthLaws.{money_none, money_next, position_size}
 use native.Mathlib.Omega.{arith}
-use borrow.Author.Rules.{sfits_of}
 use Rattle.settlement.proofs.month.positions.Goals as goal
 use Rattle.settlement.proofs.month.positions.Goals.{After-collected_amount-amount}
 
