@@ -30,7 +30,8 @@ module _ (c : After-difference-transfer) where
 
   sum : code ≡ balance c.loop-i.i
   sum =
-      sum_bits (money_at c.args.positions c.loop-i.i) _ _ _ (size_fits _ (omega (arith, c.requires.within.within c.loop-i.i (omega arith))))
+      sum_bits (money_at c.args.positions c.loop-i.i) _ _ _
+      (size_fits _ (omega (arith, c.requires.within.within c.loop-i.i (omega arith))))
       (sfits_of c.difference-transfer.type_inv)
       refl c.difference-transfer.ensures
 

@@ -31,7 +31,8 @@ module _ (c : After-collected_amount-amount) where
   sum : code ≡ position c.loop-i.i
   unfolding position_of
   sum =
-      sum_bits (money_at c.args.balances c.loop-i.i) _ _ _ (size_fits _ (omega (arith, c.requires.within.within c.loop-i.i (omega arith))))
+      sum_bits (money_at c.args.balances c.loop-i.i) _ _ _
+      (size_fits _ (omega (arith, c.requires.within.within c.loop-i.i (omega arith))))
       (size_fits _ (omega (
         arith,
         ap (λ (m : Pesos). nat_abs m.0) c.collected_amount-amount.ensures,
