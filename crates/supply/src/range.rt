@@ -70,13 +70,10 @@ fn terms_allowed(line: Line) -> bool
     ensures { result ≡ terms_allowed line }
 {
     let count = line.term_count;
-    let mut k: usize = 0;
-    while k < MOST_TERMS {
-        let term = line.terms[k];
-        if !term_allowed(term, (k as u64) < count) {
+    for k in 0..MOST_TERMS {
+        if !term_allowed(line.terms[k], (k as u64) < count) {
             return false;
         }
-        k += 1;
     }
     true
 }
@@ -87,11 +84,8 @@ fn weight_total(line: Line) -> u64
     ensures { result ≡ weight_total line }
 {
     let mut total: u64 = 0;
-    let mut k: usize = 0;
-    while k < MOST_TERMS {
-        let term = line.terms[k];
-        total += term.weight;
-        k += 1;
+    for k in 0..MOST_TERMS {
+        total += line.terms[k].weight;
     }
     total
 }
@@ -113,13 +107,10 @@ fn line_in_range(n: usize, line: Line) -> bool
 fn lines_in_range(n: usize, lines: &[u64]) -> bool
     ensures { result ≡ lines_in_range n lines.now }
 {
-    let count = line_count(lines);
-    let mut j: usize = 0;
-    while j < count {
+    for j in 0..line_count(lines) {
         if !line_in_range(n, line_at(lines, j)) {
             return false;
         }
-        j += 1;
     }
     true
 }
