@@ -22,6 +22,7 @@ use Rattle.numbers.proofs.TestLaws.{any_none, all_at, all_same}
 use Rattle.numbers.proofs.ListLaws.{list_length, list_at}
 use Rattle.numbers.proofs.SearchLaws.{any_where}
 use Rattle.supply.specs.Line.{line_count, line_of}
+use Rattle.supply.specs.declared.line.Line.{Line}
 use Rattle.fixing.specs.Average.{own_part, own_sum, supplied_energy, lines_amount, has_line, everyone_supplied}
 use Rattle.fixing.specs.Average.{every_energy, energy_list}
 use Rattle.fixing.specs.Required.{OwnLines, PricedLines}
@@ -61,6 +62,11 @@ amount_within price lines most h i =
         cond b (price j * (line_of lines j).energy) 0 ≤ most * cond b (line_of lines j).energy 0
     go true j q = q
     go false j q = omega arith
+
+-- the place of a line's distributor
+pub own_place : {lines : List ℕ} → OwnLines lines → {k : ℕ} → k < line_count lines → {line : Line} →
+    line ≡ line_of lines k → line.distributor < most_distributors
+own_place ok {k} p e = rw (ap (λ (l : Line). l.distributor) e) (ok.distributor k p)
 
 -- a pass over the lines that keeps the sum of each distributor as a value of its own type
 module _ {A : Type 0} (make : ℕ → A) (read : A → ℕ) (made : (x : ℕ) → read (make x) ≡ x)
@@ -108,6 +114,31 @@ module _ {A : Type 0} (make : ℕ → A) (read : A → ℕ) (made : (x : ℕ) �
       where
         sums : ℕ → A
         sums i = make (sum_below (line_count lines) (own_part lines f i))
+
+  -- the line at hand in a pass over lines of which each adds at most so much
+  module _ {lines : List ℕ} (ok : OwnLines lines) {f : ℕ → ℕ} {most : ℕ}
+      (small : (j : ℕ) → j < line_count lines → f j ≤ most) {k : ℕ} (p : k < line_count lines) {line : Line}
+      (e : line ≡ line_of lines k) {out : List A} (h : Held lines f k out) where
+    own : line.distributor ≡ (line_of lines k).distributor
+    own = ap (λ (l : Line). l.distributor) e
+
+    placed : line.distributor < most_distributors
+    placed = own_place ok p e
+
+    pub place_fits : read (get_or out line.distributor (make 0)) + f k ≤ 256 * most
+    place_fits =
+        let few : k + 1 ≤ 256 = omega (arith, ok.checked.few) in
+        omega (
+          arith,
+          h.sums line.distributor placed,
+          parts_most lines f line.distributor k most (λ j q. small j (omega arith)),
+          small k p,
+          mul-le-mul_right most few,
+        )
+
+    pub place_more : (sum : A) → read sum ≡ read (get_or out line.distributor (make 0)) + f k →
+        Held lines f (k + 1) (set out line.distributor sum)
+    place_more sum r = held_more lines f k out line.distributor sum placed own r h
 
 -- energies and amounts as what a pass keeps
 abbrev pub energy_of : List ℕ → ℕ → ℕ

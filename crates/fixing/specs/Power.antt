@@ -1,12 +1,10 @@
--- The average power price of each distributor (W-204 of document 02), and the two parts in which the code keeps what it
--- is worked from: that passes 64 bits. proofs/PowerLaws shows that the parts make up the whole. Assumes nothing.
-use Rattle.std.specs.Prelude.{List, ℕ, ◌/◌, ◌%◌, get_or}
-use Rattle.numbers.specs.Bounded.{list_below, filled_below}
+-- The average power price of each distributor (W-204 of document 02). Assumes nothing.
+use Rattle.std.specs.Prelude.{List, ℕ, get_or}
+use Rattle.numbers.specs.Bounded.{filled_below}
 use Rattle.numbers.specs.Units.{no_power}
 use Rattle.numbers.specs.Sizes.{most_distributors}
 use Rattle.numbers.specs.declared.units.PowerPrice.{PowerPrice}
-use Rattle.fixing.specs.Average.{lines_amount, average_price}
-use Rattle.fixing.specs.declared.power.PowerAmounts.{PowerAmounts}
+use Rattle.fixing.specs.Average.{average_price}
 
 -- the power price of each line
 abbrev pub power_of : List PowerPrice → ℕ → ℕ
@@ -16,14 +14,3 @@ power_of prices j = (get_or prices j no_power).0
 unfoldable pub power_averages : ℕ → List PowerPrice → List ℕ → List PowerPrice
 power_averages n prices lines =
     filled_below most_distributors no_power n (λ i. record { 0 = average_price (power_of prices) lines i })
-
--- the parts of a price: its millions, and the rest
-abbrev pub million : ℕ
-million = 1000000
-
-unfoldable pub power_amounts : List PowerPrice → List ℕ → PowerAmounts
-power_amounts prices lines =
-    record {
-      millions = list_below most_distributors (lines_amount (λ j. power_of prices j / million) lines);
-      rest = list_below most_distributors (lines_amount (λ j. power_of prices j % million) lines);
-    }

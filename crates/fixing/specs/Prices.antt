@@ -7,6 +7,7 @@ use Rattle.numbers.specs.declared.units.PesoPrice.{PesoPrice}
 use Rattle.numbers.specs.declared.units.Energy.{Energy}
 use Rattle.fixing.specs.Limit.{Distributors, sum_inside, sum_outside, limit, rounds, surcharge, residue, final_price}
 use Rattle.fixing.specs.Limit.{charge}
+use Rattle.fixing.specs.declared.prices.PricedDistributors.{PricedDistributors}
 use Rattle.fixing.specs.declared.prices.FixedPrices.{FixedPrices}
 use Rattle.fixing.specs.declared.prices.RoundSums.{RoundSums}
 use Rattle.fixing.specs.declared.prices.LastRound.{LastRound}
@@ -15,6 +16,10 @@ use Rattle.fixing.specs.declared.prices.LastRound.{LastRound}
 abbrev pub distributors : ℕ → List PesoPrice → List Energy → Distributors
 distributors n averages energies =
     record { count = n; average = λ i. (get_or averages i no_price).0; energy = λ i. (get_or energies i no_energy).0 }
+
+-- those of the code
+abbrev pub distributors_of : PricedDistributors → Distributors
+distributors_of d = distributors d.n d.averages d.energies
 
 -- what a round sums of its set: what the set pays at the averages, its energy, and the energy outside it
 abbrev pub round_sums : Distributors → (ℕ → Bool) → RoundSums

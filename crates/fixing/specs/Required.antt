@@ -12,7 +12,6 @@ use Rattle.supply.specs.Line.{most_lines, line_count, line_of}
 use Rattle.supply.specs.Required.{CheckedLines, most_power_in_pesos}
 use Rattle.fixing.specs.Limit.{Distributors, InRange, limit}
 use Rattle.fixing.specs.Average.{everyone_supplied}
-use Rattle.fixing.specs.Power.{million}
 use Rattle.fixing.specs.Sector.{most_factor, factor_at, sectors_allowed}
 use Rattle.fixing.specs.Input.{FixingInput, ranged, supplied}
 
@@ -31,12 +30,11 @@ pub record PowerPricedLines (prices : List PowerPrice) (lines : List ℕ) : Type
   pub own : OwnLines lines
   pub priced : (j : ℕ) → j < line_count lines → (get_or prices j no_power).0 ≤ most_power_in_pesos
 
--- an amount of power in two parts, each at prices of at most so much, and the energy that it is divided by
-pub record PartsWithin (millions rest energy : ℕ) : Type 0 where
+-- an amount of power, at prices of at most so much, and the energy that it is divided by
+pub record PowerWithin (amount energy : ℕ) : Type 0 where
   pub some : 1 ≤ energy
   pub most : energy ≤ 2560000000
-  pub millions_most : millions ≤ 200000 * energy
-  pub rest_most : rest ≤ million * energy
+  pub priced : amount ≤ most_power_in_pesos * energy
 
 -- lines that passed every check: each price within the bounds of a peso price, each distributor with a line
 pub record AcceptedLines (n : ℕ) (prices : List PesoPrice) (lines : List ℕ) : Type 0 where
@@ -52,6 +50,10 @@ pub record Divisible (n : ℕ) (amounts : List UnsignedPesos) (energies : List E
   pub small : (i : ℕ) → i < n → (get_or amounts i no_total).0 < 2 ^ 62
   pub some : (i : ℕ) → i < n → 1 ≤ (get_or energies i no_energy).0
   pub most : (i : ℕ) → i < n → (get_or energies i no_energy).0 < 2 ^ 62
+
+-- prices of n distributors, each of at most so much
+abbrev pub PricesWithin : ℕ → ℕ → List PesoPrice → Type 0
+PricesWithin most n prices = (i : ℕ) → i < n → (get_or prices i no_price).0 ≤ most
 
 -- distributors in range, and their limit
 pub record Limited (d : Distributors) (price : PesoPrice) : Type 0 where

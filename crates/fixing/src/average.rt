@@ -1,5 +1,5 @@
 // Energy and average price of each distributor, from its lines.
-ghost use Rattle.std.specs.Prelude.{◌≡◌, true, ◌≤◌, get_or, replicate};
+ghost use Rattle.std.specs.Prelude.{◌≡◌, true, ◌≤◌, get_or};
 ghost use Rattle.numbers.specs.Bounded.{list_below, filled_below};
 ghost use Rattle.numbers.specs.Rounding.{half_up};
 ghost use Rattle.numbers.specs.Units.{no_price, no_energy, no_total};
@@ -7,33 +7,22 @@ ghost use Rattle.numbers.specs.Sizes.{most_distributors};
 ghost use Rattle.fixing.specs.Average.{lines_amount, everyone_supplied, every_energy, energy_list, average_list};
 ghost use Rattle.fixing.specs.Required.{OwnLines, PricedLines, Divisible};
 
-use crate::prices::no_prices;
 use numbers::rounding::half_up;
 use numbers::sizes::MOST_DISTRIBUTORS;
 use numbers::units::{Energy, PesoPrice, UnsignedPesos};
 use supply::line::{MOST_LINES, line_at, line_count};
 
-fn no_energies() -> [Energy; MOST_DISTRIBUTORS]
-    ensures { result ≡ replicate most_distributors no_energy }
-{
-    let none = Energy(0);
-    [none; MOST_DISTRIBUTORS]
-}
-
-// The energy of each distributor, in one pass over the lines.
+// The energy of each distributor, in one pass over the lines. `amounts` and `power_amounts` pass over them likewise, each
+// with sums of its own unit: of one function with a closure the kit takes no answer to what the closure's calls ask.
 pub(crate) fn energies(lines: &[u64]) -> [Energy; MOST_DISTRIBUTORS]
     requires { OwnLines lines.now }
     ensures { result ≡ energy_list lines.now }
 {
-    let count = line_count(lines);
-    let mut energies = no_energies();
-    let mut j: usize = 0;
-    while j < count {
+    let mut energies = [Energy(0); MOST_DISTRIBUTORS];
+    for j in 0..line_count(lines) {
         let line = line_at(lines, j);
         let i = line.distributor as usize;
-        let before = energies[i].0;
-        energies[i] = Energy(before + line.energy);
-        j += 1;
+        energies[i] = Energy(energies[i].0 + line.energy);
     }
     energies
 }
@@ -43,21 +32,7 @@ pub(crate) fn every_energy(n: usize, energies: [Energy; MOST_DISTRIBUTORS]) -> b
     requires { n ≤ most_distributors }
     ensures { result ≡ every_energy n energies }
 {
-    let mut i: usize = 0;
-    while i < n {
-        if energies[i].0 == 0 {
-            return false;
-        }
-        i += 1;
-    }
-    true
-}
-
-fn no_amounts() -> [UnsignedPesos; MOST_DISTRIBUTORS]
-    ensures { result ≡ replicate most_distributors no_total }
-{
-    let none = UnsignedPesos(0);
-    [none; MOST_DISTRIBUTORS]
+    (0..n).all(|i| energies[i].0 != 0)
 }
 
 // What the lines of each distributor come to at a price for each line, in one pass: one price unit times one MWh is $1.
@@ -66,16 +41,11 @@ fn amounts(prices: [PesoPrice; MOST_LINES], lines: &[u64]) -> [UnsignedPesos; MO
     ensures { result ≡ list_below most_distributors
         (λ i. record { 0 = lines_amount (λ j. (get_or prices j no_price).0) lines.now i }) }
 {
-    let count = line_count(lines);
-    let mut amounts = no_amounts();
-    let mut j: usize = 0;
-    while j < count {
+    let mut amounts = [UnsignedPesos(0); MOST_DISTRIBUTORS];
+    for j in 0..line_count(lines) {
         let line = line_at(lines, j);
         let i = line.distributor as usize;
-        let price = prices[j].0;
-        let before = amounts[i].0;
-        amounts[i] = UnsignedPesos(before + price * line.energy);
-        j += 1;
+        amounts[i] = UnsignedPesos(amounts[i].0 + prices[j].0 * line.energy);
     }
     amounts
 }
@@ -90,13 +60,9 @@ fn divide_amounts(
     ensures { result ≡ filled_below most_distributors no_price n
         (λ i. record { 0 = half_up (get_or amounts i no_total).0 (get_or energies i no_energy).0 }) }
 {
-    let mut averages = no_prices();
-    let mut i: usize = 0;
-    while i < n {
-        let amount = amounts[i].0;
-        let energy = energies[i].0;
-        averages[i] = PesoPrice(half_up(amount, energy));
-        i += 1;
+    let mut averages = [PesoPrice(0); MOST_DISTRIBUTORS];
+    for i in 0..n {
+        averages[i] = PesoPrice(half_up(amounts[i].0, energies[i].0));
     }
     averages
 }
@@ -108,10 +74,10 @@ pub(crate) fn averages(
     lines: &[u64],
     energies: [Energy; MOST_DISTRIBUTORS],
 ) -> [PesoPrice; MOST_DISTRIBUTORS]
-    requires fact_1 { n ≤ most_distributors }
-    requires fact_2 { PricedLines references lines.now }
-    requires fact_3 { energies ≡ energy_list lines.now }
-    requires fact_4 { everyone_supplied n lines.now ≡ true }
+    requires few { n ≤ most_distributors }
+    requires priced { PricedLines references lines.now }
+    requires supplied { energies ≡ energy_list lines.now }
+    requires everyone { everyone_supplied n lines.now ≡ true }
     ensures { result ≡ average_list n references lines.now }
 {
     divide_amounts(n, amounts(references, lines), energies)

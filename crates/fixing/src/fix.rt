@@ -11,7 +11,7 @@ ghost use Rattle.fixing.specs.Required.{AcceptedLines, PowerPricedLines, RightLe
 
 use crate::average::{averages, energies, every_energy};
 use crate::power::power_averages;
-use crate::prices::{FixedPrices, charges, fix_prices};
+use crate::prices::{FixedPrices, PricedDistributors};
 use crate::sector::{SectorCharges, sector_charges, sectors_allowed};
 use numbers::refusal::Refusal;
 use numbers::sizes::MOST_DISTRIBUTORS;
@@ -40,22 +40,24 @@ fn accepted(
     energies: [Energy; MOST_DISTRIBUTORS],
     sectors: &[u64],
 ) -> Fixing
-    requires fact_1 { AcceptedLines n priced.references lines.now }
-    requires fact_2 { PowerPricedLines priced.power lines.now }
-    requires fact_3 { energies ≡ energy_list lines.now }
-    requires fact_4 { length sectors.now ≡ n * sector_count }
-    requires fact_5 { sectors_allowed n sectors.now ≡ true }
+    requires checked { AcceptedLines n priced.references lines.now }
+    requires power_priced { PowerPricedLines priced.power lines.now }
+    requires supplied { energies ≡ energy_list lines.now }
+    requires lent { length sectors.now ≡ n * sector_count }
+    requires allowed { sectors_allowed n sectors.now ≡ true }
     ensures { result ≡ accepted_fixing n (average_list n priced.references lines.now)
         (power_averages n priced.power lines.now)
         (energy_list lines.now) sectors.now }
 {
-    let references = priced.references;
-    let power_prices = priced.power;
-    let averages = averages(n, references, lines, energies);
-    let power = power_averages(n, power_prices, lines, energies);
-    let prices = fix_prices(n, averages, energies);
-    let finals = prices.finals;
-    let charges = charges(n, averages, finals);
+    let averages = averages(n, priced.references, lines, energies);
+    let power = power_averages(n, priced.power, lines, energies);
+    let distributors = PricedDistributors {
+        n,
+        averages,
+        energies,
+    };
+    let prices = distributors.fix_prices();
+    let charges = distributors.charges(prices.finals);
     let sectors = sector_charges(n, charges, sectors);
     Fixing {
         averages,

@@ -1,13 +1,13 @@
 // The call on averages and energies alone: limit, surcharge, rounds, residue and final prices of 1 to 40
 // distributors; and their charges. It has no lines and no ledger in it.
-ghost use Rattle.std.specs.Prelude.{◌≡◌, ℕ, ◌+◌, ◌<◌, ◌≤◌, min, get_or, replicate, pos};
+ghost use Rattle.std.specs.Prelude.{◌≡◌, ◌+◌, ◌≤◌, min, get_or, pos};
 ghost use Rattle.std.proofs.Math.IntN.{sub_ℕ};
-ghost use Rattle.numbers.specs.Bounded.{sum_below, filled_below};
-ghost use Rattle.numbers.specs.Units.{no_price, no_energy, most_price};
+ghost use Rattle.numbers.specs.Bounded.{filled_below};
+ghost use Rattle.numbers.specs.Units.{no_price, most_price};
 ghost use Rattle.numbers.specs.Sizes.{most_distributors};
-ghost use Rattle.fixing.specs.Limit.{InRange, contract_total, above_limit};
-ghost use Rattle.fixing.specs.Prices.{distributors, round_sums, last_round, PricesPromise};
-ghost use Rattle.fixing.specs.Required.{Limited};
+ghost use Rattle.fixing.specs.Limit.{InRange, contract_total, total_energy, above_limit};
+ghost use Rattle.fixing.specs.Prices.{distributors, distributors_of, round_sums, last_round, PricesPromise};
+ghost use Rattle.fixing.specs.Required.{Limited, PricesWithin};
 
 use numbers::rounding::divide_up;
 use numbers::signed::difference;
@@ -22,6 +22,14 @@ pub struct FixedPrices {
     pub rounds: u64,
     pub residue: UnsignedPesos,
     pub finals: [PesoPrice; MOST_DISTRIBUTORS],
+}
+
+// n distributors, which the limit is worked from.
+#[derive(Clone, Copy)]
+pub(crate) struct PricedDistributors {
+    pub n: usize,
+    pub averages: [PesoPrice; MOST_DISTRIBUTORS],
+    pub energies: [Energy; MOST_DISTRIBUTORS],
 }
 
 // What a round sums: what its set pays at the averages, the set's energy and the energy outside the set.
@@ -39,117 +47,10 @@ struct LastRound {
     rounds: u64,
 }
 
-// What prices collect: of the averages the contract total, of the final prices what the residue is taken from.
-fn collects(
-    n: usize,
-    prices: [PesoPrice; MOST_DISTRIBUTORS],
-    energies: [Energy; MOST_DISTRIBUTORS],
-) -> UnsignedPesos
-    requires { InRange (distributors n prices energies) }
-    ensures { result ≡ record { 0 = contract_total (distributors n prices energies) } }
-{
-    let mut total: u64 = 0;
-    let mut i: usize = 0;
-    while i < n {
-        total += prices[i].0 * energies[i].0;
-        i += 1;
-    }
-    UnsignedPesos(total)
-}
-
-// The energy of all distributors.
-fn energy_total(n: usize, energies: [Energy; MOST_DISTRIBUTORS]) -> Energy
-    requires fact_1 { n ≤ most_distributors }
-    requires fact_2 { sum_below n (λ i. (get_or energies i no_energy).0) ≤ 2560000000 }
-    ensures { result ≡ record { 0 = sum_below n (λ i. (get_or energies i no_energy).0) } }
-{
-    let mut total: u64 = 0;
-    let mut i: usize = 0;
-    while i < n {
-        total += energies[i].0;
-        i += 1;
-    }
-    Energy(total)
-}
-
-// The sums of a round, whose set is those whom the surcharge of the round before, `raise`, puts above the limit.
-fn round_sums(
-    n: usize,
-    averages: [PesoPrice; MOST_DISTRIBUTORS],
-    energies: [Energy; MOST_DISTRIBUTORS],
-    limit: PesoPrice,
-    raise: PesoPrice,
-) -> RoundSums
-    requires fact_1 { Limited (distributors n averages energies) limit }
-    requires fact_2 { raise.0 ≤ limit.0 }
-    ensures { result ≡ round_sums (distributors n averages energies)
-        (above_limit (distributors n averages energies) raise.0) }
-{
-    let mut paid: u64 = 0;
-    let mut inside: u64 = 0;
-    let mut outside: u64 = 0;
-    let mut i: usize = 0;
-    while i < n {
-        let average = averages[i].0;
-        let energy = energies[i].0;
-        if limit.0 < average + raise.0 {
-            paid += average * energy;
-            inside += energy;
-        } else {
-            outside += energy;
-        }
-        i += 1;
-    }
-    RoundSums {
-        paid: UnsignedPesos(paid),
-        inside: Energy(inside),
-        outside: Energy(outside),
-    }
-}
-
-// The rounds, until one in which nobody joins. The set before a round is those whom the surcharge of the round before
-// puts above the limit, so that this one number tells it. The set only grows and each energy is at least 1, so that its
-// energy tells whether somebody joined: one pass before the first round and one in each, at most n in all.
-fn last_round(
-    n: usize,
-    averages: [PesoPrice; MOST_DISTRIBUTORS],
-    energies: [Energy; MOST_DISTRIBUTORS],
-    limit: PesoPrice,
-) -> LastRound
-    requires { Limited (distributors n averages energies) limit }
-    ensures { result ≡ last_round (distributors n averages energies) }
-{
-    let mut sums = round_sums(n, averages, energies, limit, PesoPrice(0));
-    if sums.inside.0 == 0 {
-        return LastRound {
-            surcharge: PesoPrice(0),
-            rounds: 0,
-        };
-    }
-    let mut rounds: u64 = 0;
-    loop {
-        let excess = sums.paid.0 - limit.0 * sums.inside.0;
-        let surcharge = PesoPrice(divide_up(excess, sums.outside.0));
-        rounds += 1;
-        let next = round_sums(n, averages, energies, limit, surcharge);
-        if next.inside.0 == sums.inside.0 {
-            return LastRound { surcharge, rounds };
-        }
-        sums = next;
-    }
-}
-
-// An array of empty places, from a function so that no goal of the loop below writes the forty out.
-pub(crate) fn no_prices() -> [PesoPrice; MOST_DISTRIBUTORS]
-    ensures { result ≡ replicate most_distributors no_price }
-{
-    [PesoPrice(0); MOST_DISTRIBUTORS]
-}
-
 // The limit for the capped, whom the surcharge puts above it, and the raised average for others: the lesser of the two.
 fn final_price(average: PesoPrice, limit: PesoPrice, surcharge: PesoPrice) -> PesoPrice
-    requires fact_1 { average.0 ≤ most_price }
-    requires fact_2 { surcharge.0 ≤ 2100000 }
+    requires priced { average.0 ≤ most_price }
+    requires raised { surcharge.0 ≤ 2100000 }
     ensures { result ≡ record { 0 = min limit.0 (average.0 + surcharge.0) } }
 {
     let raised = average.0 + surcharge.0;
@@ -160,82 +61,135 @@ fn final_price(average: PesoPrice, limit: PesoPrice, surcharge: PesoPrice) -> Pe
     }
 }
 
-// The final price of each distributor.
-fn final_prices(
-    n: usize,
-    averages: [PesoPrice; MOST_DISTRIBUTORS],
-    limit: PesoPrice,
-    surcharge: PesoPrice,
-) -> [PesoPrice; MOST_DISTRIBUTORS]
-    requires fact_1 { n ≤ most_distributors }
-    requires fact_2 { surcharge.0 ≤ 2100000 }
-    requires fact_3 { ((i : ℕ) → i < n → (get_or averages i no_price).0 ≤ most_price) }
-    ensures { result ≡ filled_below most_distributors no_price n
-        (λ i. record { 0 = min limit.0 ((get_or averages i no_price).0 + surcharge.0) }) }
-{
-    let mut finals = no_prices();
-    let mut i: usize = 0;
-    while i < n {
-        let average = averages[i];
-        finals[i] = final_price(average, limit, surcharge);
-        i += 1;
+impl PricedDistributors {
+    // What prices collect: of the averages the contract total, of the final prices what the residue is taken from.
+    fn collected(self, prices: [PesoPrice; MOST_DISTRIBUTORS]) -> UnsignedPesos
+        requires { InRange (distributors self.n prices self.energies) }
+        ensures { result ≡ record { 0 = contract_total (distributors self.n prices self.energies) } }
+    {
+        let mut total: u64 = 0;
+        for i in 0..self.n {
+            total += prices[i].0 * self.energies[i].0;
+        }
+        UnsignedPesos(total)
     }
-    finals
-}
 
-// The places of the charges, empty, for the same reason as those of the prices.
-pub(crate) fn no_charge_list() -> [i64; MOST_DISTRIBUTORS]
-    ensures { result ≡ replicate most_distributors (pos 0) }
-{
-    [0i64; MOST_DISTRIBUTORS]
-}
-
-// The charge of each distributor: final price less average, signed, in 0.001 $/kWh.
-pub(crate) fn charges(
-    n: usize,
-    averages: [PesoPrice; MOST_DISTRIBUTORS],
-    finals: [PesoPrice; MOST_DISTRIBUTORS],
-) -> [i64; MOST_DISTRIBUTORS]
-    requires fact_1 { n ≤ most_distributors }
-    requires fact_2 { ((i : ℕ) → i < n → (get_or averages i no_price).0 ≤ most_price) }
-    requires fact_3 { ((i : ℕ) → i < n → (get_or finals i no_price).0 ≤ most_price) }
-    ensures { result ≡ filled_below most_distributors (pos 0) n
-        (λ i. sub_ℕ (get_or finals i no_price).0 (get_or averages i no_price).0) }
-{
-    let mut charges = no_charge_list();
-    let mut i: usize = 0;
-    while i < n {
-        let average = averages[i].0;
-        let price = finals[i].0;
-        charges[i] = difference(price, average);
-        i += 1;
+    // The energy of all distributors.
+    fn energy(self) -> Energy
+        requires { InRange (distributors_of self) }
+        ensures { result ≡ record { 0 = total_energy (distributors_of self) } }
+    {
+        let mut total: u64 = 0;
+        for i in 0..self.n {
+            total += self.energies[i].0;
+        }
+        Energy(total)
     }
-    charges
-}
 
-// The limit and the rounds of document 01.
-pub(crate) fn fix_prices(
-    n: usize,
-    averages: [PesoPrice; MOST_DISTRIBUTORS],
-    energies: [Energy; MOST_DISTRIBUTORS],
-) -> FixedPrices
-    requires { InRange (distributors n averages energies) }
-    ensures { PricesPromise (distributors n averages energies) result }
-{
-    let total = collects(n, averages, energies);
-    let energy = energy_total(n, energies);
-    let floor = 105 * total.0 / (100 * energy.0);
-    let limit = PesoPrice(floor);
-    let last = last_round(n, averages, energies, limit);
-    let surcharge = last.surcharge;
-    let finals = final_prices(n, averages, limit, surcharge);
-    let collected = collects(n, finals, energies);
-    let residue = collected.0 - total.0;
-    FixedPrices {
-        limit,
-        surcharge,
-        rounds: last.rounds,
-        residue: UnsignedPesos(residue),
-        finals,
+    // The sums of a round, whose set is those whom the surcharge of the round before, `raise`, puts above the limit.
+    fn round_sums(self, limit: PesoPrice, raise: PesoPrice) -> RoundSums
+        requires limited { Limited (distributors_of self) limit }
+        requires raised { raise.0 ≤ limit.0 }
+        ensures { result ≡ round_sums (distributors_of self) (above_limit (distributors_of self) raise.0) }
+    {
+        let mut paid: u64 = 0;
+        let mut inside: u64 = 0;
+        let mut outside: u64 = 0;
+        for i in 0..self.n {
+            let average = self.averages[i].0;
+            let energy = self.energies[i].0;
+            if limit.0 < average + raise.0 {
+                paid += average * energy;
+                inside += energy;
+            } else {
+                outside += energy;
+            }
+        }
+        RoundSums {
+            paid: UnsignedPesos(paid),
+            inside: Energy(inside),
+            outside: Energy(outside),
+        }
+    }
+
+    // The rounds, until one in which nobody joins. The set before a round is those whom the surcharge of the round
+    // before puts above the limit, so that this one number tells it. The set only grows and each energy is at least 1,
+    // so that its energy tells whether somebody joined: one pass before the first round and one in each, at most n in
+    // all.
+    fn last_round(self, limit: PesoPrice) -> LastRound
+        requires { Limited (distributors_of self) limit }
+        ensures { result ≡ last_round (distributors_of self) }
+    {
+        let mut sums = self.round_sums(limit, PesoPrice(0));
+        if sums.inside.0 == 0 {
+            return LastRound {
+                surcharge: PesoPrice(0),
+                rounds: 0,
+            };
+        }
+        let mut rounds: u64 = 0;
+        loop {
+            let excess = sums.paid.0 - limit.0 * sums.inside.0;
+            let surcharge = PesoPrice(divide_up(excess, sums.outside.0));
+            rounds += 1;
+            let next = self.round_sums(limit, surcharge);
+            if next.inside.0 == sums.inside.0 {
+                return LastRound { surcharge, rounds };
+            }
+            sums = next;
+        }
+    }
+
+    // The final price of each distributor.
+    fn final_prices(self, limit: PesoPrice, surcharge: PesoPrice) -> [PesoPrice; MOST_DISTRIBUTORS]
+        requires few { self.n ≤ most_distributors }
+        requires raised { surcharge.0 ≤ 2100000 }
+        requires priced { PricesWithin most_price self.n self.averages }
+        ensures { result ≡ filled_below most_distributors no_price self.n
+            (λ i. record { 0 = min limit.0 ((get_or self.averages i no_price).0 + surcharge.0) }) }
+    {
+        let mut finals = [PesoPrice(0); MOST_DISTRIBUTORS];
+        for i in 0..self.n {
+            finals[i] = final_price(self.averages[i], limit, surcharge);
+        }
+        finals
+    }
+
+    // The charge of each distributor: final price less average, signed, in 0.001 $/kWh.
+    pub(crate) fn charges(self, finals: [PesoPrice; MOST_DISTRIBUTORS]) -> [i64; MOST_DISTRIBUTORS]
+        requires few { self.n ≤ most_distributors }
+        requires priced { PricesWithin most_price self.n self.averages }
+        requires final_priced { PricesWithin most_price self.n finals }
+        ensures { result ≡ filled_below most_distributors (pos 0) self.n
+            (λ i. sub_ℕ (get_or finals i no_price).0 (get_or self.averages i no_price).0) }
+    {
+        let mut charges = [0i64; MOST_DISTRIBUTORS];
+        for i in 0..self.n {
+            charges[i] = difference(finals[i].0, self.averages[i].0);
+        }
+        charges
+    }
+
+    // The limit and the rounds of document 01.
+    pub(crate) fn fix_prices(self) -> FixedPrices
+        requires { InRange (distributors_of self) }
+        ensures { PricesPromise (distributors_of self) result }
+    {
+        let total = self.collected(self.averages);
+        let energy = self.energy();
+        let floor = 105 * total.0 / (100 * energy.0);
+        let limit = PesoPrice(floor);
+        let last = self.last_round(limit);
+        let surcharge = last.surcharge;
+        let finals = self.final_prices(limit, surcharge);
+        let collected = self.collected(finals);
+        let residue = collected.0 - total.0;
+        FixedPrices {
+            limit,
+            surcharge,
+            rounds: last.rounds,
+            residue: UnsignedPesos(residue),
+            finals,
+        }
     }
 }

@@ -23,41 +23,27 @@ const MOST_FACTOR: u64 = 50000;
 
 // Whether distributor i has a sector.
 fn has_sector(n: usize, sectors: &[u64], i: usize) -> bool
-    requires fact_1 { n ≤ most_distributors }
-    requires fact_2 { length sectors.now ≡ n * sector_count }
-    requires fact_3 { i < n }
+    requires few { n ≤ most_distributors }
+    requires lent { length sectors.now ≡ n * sector_count }
+    requires below { i < n }
     ensures { result ≡ has_sector sectors.now i }
 {
-    let mut s: usize = 0;
-    while s < SECTORS {
-        if sectors[i * SECTORS + s] != 0 {
-            return true;
-        }
-        s += 1;
-    }
-    false
+    (0..SECTORS).any(|s| sectors[i * SECTORS + s] != 0)
 }
 
 // Whether every distributor has a sector.
 fn all_have_sectors(n: usize, sectors: &[u64]) -> bool
-    requires fact_1 { n ≤ most_distributors }
-    requires fact_2 { length sectors.now ≡ n * sector_count }
+    requires few { n ≤ most_distributors }
+    requires lent { length sectors.now ≡ n * sector_count }
     ensures { result ≡ all_below n (has_sector sectors.now) }
 {
-    let mut i: usize = 0;
-    while i < n {
-        if !has_sector(n, sectors, i) {
-            return false;
-        }
-        i += 1;
-    }
-    true
+    (0..n).all(|i| has_sector(n, sectors, i))
 }
 
 // Whether no sector factor is too large and every distributor has a sector.
 pub(crate) fn sectors_allowed(n: usize, sectors: &[u64]) -> bool
-    requires fact_1 { n ≤ most_distributors }
-    requires fact_2 { length sectors.now ≡ n * sector_count }
+    requires few { n ≤ most_distributors }
+    requires lent { length sectors.now ≡ n * sector_count }
     ensures { result ≡ sectors_allowed n sectors.now }
 {
     all_between(0, MOST_FACTOR, sectors) && all_have_sectors(n, sectors)
@@ -65,8 +51,8 @@ pub(crate) fn sectors_allowed(n: usize, sectors: &[u64]) -> bool
 
 // The charge of a sector: the distributor's charge times the factor, in ten-thousandths.
 fn sector_charge(charge: i64, factor: u64) -> i64
-    requires fact_1 { nat_abs charge ≤ most_price }
-    requires fact_2 { factor ≤ most_factor }
+    requires charge { nat_abs charge ≤ most_price }
+    requires factor { factor ≤ most_factor }
     ensures { result ≡ sector_charge charge factor }
 {
     half_away(charge * difference(factor, 0), 10000)
@@ -92,14 +78,10 @@ pub(crate) fn sector_charges(
     ensures { result ≡ sector_charges n (λ i. get_or charges i (pos 0)) sectors.now }
 {
     let mut force = no_charges();
-    let mut k: usize = 0;
-    while k < sectors.len() {
-        let i = k / SECTORS;
-        let charge = charges[i];
+    for k in 0..sectors.len() {
         let factor = sectors[k];
         force.present[k] = factor != 0;
-        force.charges[k] = sector_charge(charge, factor);
-        k += 1;
+        force.charges[k] = sector_charge(charges[k / SECTORS], factor);
     }
     force
 }

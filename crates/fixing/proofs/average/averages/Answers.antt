@@ -19,7 +19,7 @@ use Rattle.fixing.proofs.average.averages.Goals.{After-amounts}
 module _ (c : After-amounts) (i : ℕ) where
   module _ (p : i < c.args.n) where
     few : i < most_distributors
-    few = omega (arith, c.requires.fact_1)
+    few = omega (arith, c.requires.few)
 
     -- what the lines of distributor i come to
     amount : (get_or c.amounts.result i no_total).0 ≡ lines_amount (λ j. (get_or c.args.references j no_price).0)
@@ -32,20 +32,20 @@ module _ (c : After-amounts) (i : ℕ) where
         }) most_distributors no_total i few)
 
     energy : (get_or c.args.energies i no_energy).0 ≡ supplied_energy c.args.lines.now i
-    energy = ap (λ (xs : List Energy). (get_or xs i no_energy).0) c.requires.fact_3 ∙ energy_at c.args.lines.now i few
+    energy = ap (λ (xs : List Energy). (get_or xs i no_energy).0) c.requires.supplied ∙ energy_at c.args.lines.now i few
 
 pub divide_amounts-requires : goal.divide_amounts-requires
 divide_amounts-requires c =
-    let own = c.requires.fact_2.own in
+    let own = c.requires.priced.own in
     record {
-      few = c.requires.fact_1;
+      few = c.requires.few;
       small =
-          λ i p. omega (arith, amount c i p, amount_most c.args.references c.args.lines.now c.requires.fact_2 i);
+          λ i p. omega (arith, amount c i p, amount_most c.args.references c.args.lines.now c.requires.priced i);
       some =
           λ i p. omega (
             arith,
             energy c i p,
-            supplied_some c.args.n c.args.lines.now own c.requires.fact_4 i
+            supplied_some c.args.n c.args.lines.now own c.requires.everyone i
                 p,
           );
       most = λ i p. omega (arith, energy c i p, energy_most_lem c.args.lines.now own i);

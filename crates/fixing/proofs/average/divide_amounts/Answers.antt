@@ -1,5 +1,5 @@
 -- The invariant: the averages passed are filled in.
-use mathlib.Core.Path.{◌≡◌, ◌∙◌, ap}
+use mathlib.Core.Path.{◌≡◌, ap}
 use native.Mathlib.Omega.{arith}
 use Rattle.numbers.specs.Sizes.{most_distributors}
 use Rattle.numbers.specs.Units.{no_price}
@@ -11,8 +11,7 @@ use Rattle.fixing.proofs.average.divide_amounts.Invariants.{average_in}
 pub loop-i-init : goal.loop-i-init
 loop-i-init c = (
   omega arith,
-  c.no_prices-averages.ensures ∙ filled_none most_distributors no_price
-      (average_in c.args.amounts c.args.energies),
+  filled_none most_distributors no_price (average_in c.args.amounts c.args.energies),
 )
 
 pub half_up-requires : goal.half_up-requires

@@ -1,7 +1,7 @@
 -- The invariant: the averages passed are filled in.
 use mathlib.Core.Path.{◌≡◌}
 use mathlib.Core.List.{List}
-use Prim.Native.Nat.{ℕ, ◌-◌, ◌≤◌}
+use Prim.Native.Nat.{ℕ, ◌≤◌}
 use lib.ListN.{get_or}
 use Rattle.numbers.specs.Sizes.{most_distributors}
 use Rattle.numbers.specs.Bounded.{filled_below}
@@ -18,6 +18,3 @@ average_in amounts energies i = record { 0 = half_up (get_or amounts i no_total)
 abbrev pub invariant-loop-i : goal.invariant-loop-i
 invariant-loop-i l =
     (l.i ≤ l.n) × (l.averages ≡ filled_below most_distributors no_price l.i (average_in l.amounts l.energies))
-
-abbrev pub decreases-loop-i : goal.decreases-loop-i
-decreases-loop-i l = l.n - l.i

@@ -1,11 +1,6 @@
 -- The invariant: each place holds what the lines passed add up to for its distributor.
-use Prim.Native.Nat.{◌-◌, ◌≤◌}
-use Rattle.supply.specs.Line.{line_count}
 use Rattle.fixing.proofs.AverageLaws.{EnergiesHeld}
 use Rattle.fixing.proofs.average.energies.Given as goal
 
 abbrev pub invariant-loop-j : goal.invariant-loop-j
-invariant-loop-j l = (l.j ≤ line_count l.lines) × EnergiesHeld l.lines l.j l.energies
-
-abbrev pub decreases-loop-j : goal.decreases-loop-j
-decreases-loop-j l = l.count - l.j
+invariant-loop-j l = EnergiesHeld l.lines l.j l.energies

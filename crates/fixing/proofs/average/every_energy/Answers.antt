@@ -1,22 +1,21 @@
--- The invariant: each energy passed is above 0.
+-- The chain's answer is the definition's, distributor by distributor.
+use mathlib.Core.Path.{◌∙◌}
 use mathlib.Core.Bool.{not}
 use native.Mathlib.Omega.{arith}
-use borrow.Author.Tests.{eq-eqb, ne_eqb}
-use mathlib.Core.Path.{ap}
-use Rattle.numbers.proofs.TestLaws.{tested_none, tested_more, tested_fails, tested_all}
+use lib.Dec.{eqb}
+use lib.ListN.{get_or}
+use Rattle.std.proofs.Common.{rules}
+use borrow.Author.Tests.{tests}
+use Rattle.std.proofs.lemmas.Iterator.{YieldsList-from_range}
+use Rattle.std.proofs.lemmas.Iterator.Search.{all_from_yields_List}
+use Rattle.numbers.specs.Units.{no_energy}
+use Rattle.numbers.proofs.ChainLaws.{all_ranged}
 use Rattle.fixing.specs.Average.{every_energy}
 use Rattle.fixing.proofs.average.every_energy.Goals as goal
 
-pub loop-i-init : goal.loop-i-init
-loop-i-init c = tested_none _ _
-
-pub returns-then-energies-i-eq0 : goal.returns-then-energies-i-eq0
-unfolding every_energy
-returns-then-energies-i-eq0 c = tested_fails c.loop-i.invariant (omega arith) (ap not (eq-eqb _ _ c.if-energies-i-eq0.true))
-
-pub loop-i-preserved : goal.loop-i-preserved
-loop-i-preserved c = tested_more c.loop-i.invariant (omega arith) (ap not (ne_eqb _ _ c.if-energies-i-eq0.false))
-
 pub returns : goal.returns
 unfolding every_energy
-returns c = tested_all c.loop-i.invariant (omega arith)
+returns c =
+    all_from_yields_List (λ i. not (eqb (get_or c.args.energies i no_energy).0 0)) _ _ _ c.all.ensures.ran (YieldsList-from_range 0 c.args.n c.args.n (cc) (omega arith))
+    (λ x b q k. search (rules, tests))
+    ∙ all_ranged c.args.n _

@@ -9,25 +9,25 @@ use Rattle.fixing.proofs.fix.accepted.Goals.{After-averages-averages}
 module _ (c : After-averages-averages) where
   range : InRange (distributors c.args.n c.averages-averages.result c.args.energies)
   range =
-      listed_range c.args.n c.args.priced.references c.args.lines.now c.requires.fact_1 _ _
-      c.averages-averages.ensures c.requires.fact_3
+      listed_range c.args.n c.args.priced.references c.args.lines.now c.requires.checked _ _
+      c.averages-averages.ensures c.requires.supplied
 
 pub averages-averages-requires : goal.averages-averages-requires
 averages-averages-requires c =
     record {
-      fact_1 = c.requires.fact_1.few;
-      fact_2 = c.requires.fact_1.priced;
-      fact_3 = c.requires.fact_3;
-      fact_4 = c.requires.fact_1.supplied;
+      few = c.requires.checked.few;
+      priced = c.requires.checked.priced;
+      supplied = c.requires.supplied;
+      everyone = c.requires.checked.supplied;
     }
 
 pub power_averages-power-requires : goal.power_averages-power-requires
 power_averages-power-requires c =
     record {
-      fact_1 = c.requires.fact_1.few;
-      fact_2 = c.requires.fact_2;
-      fact_3 = c.requires.fact_3;
-      fact_4 = c.requires.fact_1.supplied;
+      few = c.requires.checked.few;
+      priced = c.requires.power_priced;
+      supplied = c.requires.supplied;
+      everyone = c.requires.checked.supplied;
     }
 
 pub fix_prices-prices-requires : goal.fix_prices-prices-requires
@@ -37,20 +37,20 @@ pub charges-charges-requires : goal.charges-charges-requires
 charges-charges-requires c =
     let r = range (goal.at.charges-charges-requires c).After-averages-averages in
     record {
-      fact_1 = r.few;
-      fact_2 = r.most;
-      fact_3 = finals_most c.args.n c.averages-averages.result c.args.energies r _ c.fix_prices-prices.ensures.answered;
+      few = r.few;
+      priced = r.most;
+      final_priced = finals_most c.args.n c.averages-averages.result c.args.energies r _ c.fix_prices-prices.ensures.answered;
     }
 
 pub sector_charges-sectors-requires : goal.sector_charges-sectors-requires
 sector_charges-sectors-requires c =
     fixing_charged c.args.n c.averages-averages.result c.args.energies (range (goal.at.sector_charges-sectors-requires c).After-averages-averages) _
     c.fix_prices-prices.ensures.answered _ c.charges-charges.ensures
-    c.args.sectors.now c.requires.fact_4 c.requires.fact_5
+    c.args.sectors.now c.requires.lent c.requires.allowed
 
 pub returns : goal.returns
 returns c =
-    rw (← c.averages-averages.ensures, ← c.power_averages-power.ensures, ← c.requires.fact_3)
+    rw (← c.averages-averages.ensures, ← c.power_averages-power.ensures, ← c.requires.supplied)
     (fixing_is c.args.n c.averages-averages.result c.args.energies (range (goal.at.returns c).After-averages-averages) _ c.fix_prices-prices.ensures.answered _
     c.charges-charges.ensures
     c.power_averages-power.result c.args.sectors.now _ c.sector_charges-sectors.ensures)

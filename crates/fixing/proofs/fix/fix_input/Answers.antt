@@ -1,9 +1,8 @@
 -- Each test is the check of its cause, made where those before it are passed; what passes all four is priced.
-use mathlib.Core.Path.{◌≡◌, refl, ◌∙◌, ap}
+use mathlib.Core.Path.{◌≡◌, refl, sym, ◌∙◌, ap}
 use mathlib.Core.Bool.{true}
 use Rattle.std.proofs.lemmas.Result.{err_from_is_err_and}
 use Rattle.numbers.specs.declared.refusal.Refusal.TheVariants.{OutOfRange, ValueTooLarge, WrongSector, NoLine}
-use Rattle.numbers.proofs.BoolLaws.{told_true, told_false}
 use Rattle.numbers.proofs.CheckLaws.{FirstPass, passes, refused_unless}
 use Rattle.series.specs.Series.{values_in_range}
 use Rattle.fixing.specs.Average.{every_energy}
@@ -26,14 +25,14 @@ input s =
 
 -- what is known where a check is passed
 passed_six : (c : Else-not-input_in_range) → ranged c.args.n (input (goal.at.values_in_range-requires c).Start) ≡ true
-passed_six c = told_true c.input_in_range.ensures c.if-not-input_in_range.false-raw
+passed_six c = sym c.input_in_range.ensures ∙ c.if-not-input_in_range.false
 
 passed_seven : (c : Else-not-values_in_range) → values_in_range c.args.series.now ≡ true
-passed_seven c = told_true c.values_in_range.ensures c.if-not-values_in_range.false-raw
+passed_seven c = sym c.values_in_range.ensures ∙ c.if-not-values_in_range.false
 
 module _ (c : Else-not-sectors_allowed) where
   passed_eight : sectors_allowed c.args.n c.args.sectors.now ≡ true
-  passed_eight = told_true c.sectors_allowed.ensures c.if-not-sectors_allowed.false-raw
+  passed_eight = sym c.sectors_allowed.ensures ∙ c.if-not-sectors_allowed.false
 
   own : OwnLines c.args.lines.now
   own = ranged_own _ (input (goal.at.energies-energies-requires c).Start) c.requires (passed_six (goal.at.energies-energies-requires c).Else-not-input_in_range)
@@ -55,7 +54,7 @@ passed_nine c =
       ranges = passed_six (goal.at.fill-requires c).Else-not-input_in_range;
       small = passed_seven (goal.at.fill-requires c).Else-not-values_in_range;
       sectored = passed_eight (goal.at.fill-requires c).Else-not-sectors_allowed;
-      everyone = told_true (everyone (goal.at.fill-requires c).After-every_energy (own (goal.at.fill-requires c).Else-not-sectors_allowed)) c.if-not-every_energy.false-raw;
+      everyone = sym (everyone (goal.at.fill-requires c).After-every_energy (own (goal.at.fill-requires c).Else-not-sectors_allowed)) ∙ c.if-not-every_energy.false;
     }
 
 pub returns-then-not-input_in_range : goal.returns-then-not-input_in_range
@@ -63,7 +62,7 @@ unfolding input_checks FirstPass
 returns-then-not-input_in_range c =
     input_refused c.args.n (input (goal.at.returns-then-not-input_in_range c).Start) OutOfRange
     (refused_unless 0 (input_checks c.args.n (input (goal.at.returns-then-not-input_in_range c).Start)) 6 _ OutOfRange _ tt refl
-    (told_false c.input_in_range.ensures c.if-not-input_in_range.true-raw))
+    (sym c.input_in_range.ensures ∙ c.if-not-input_in_range.true))
 
 pub returns-then-not-values_in_range : goal.returns-then-not-values_in_range
 unfolding input_checks FirstPass
@@ -71,7 +70,7 @@ returns-then-not-values_in_range c =
     input_refused c.args.n (input (goal.at.returns-then-not-values_in_range c).Start) ValueTooLarge
     (refused_unless 1 (input_checks c.args.n (input (goal.at.returns-then-not-values_in_range c).Start)) 7 _ ValueTooLarge _ (passes OutOfRange (passed_six (goal.at.returns-then-not-values_in_range c).Else-not-input_in_range), tt)
     refl
-    (told_false c.values_in_range.ensures c.if-not-values_in_range.true-raw))
+    (sym c.values_in_range.ensures ∙ c.if-not-values_in_range.true))
 
 pub returns-then-not-sectors_allowed : goal.returns-then-not-sectors_allowed
 unfolding input_checks FirstPass
@@ -79,7 +78,7 @@ returns-then-not-sectors_allowed c =
     input_refused c.args.n (input (goal.at.returns-then-not-sectors_allowed c).Start) WrongSector
     (refused_unless 2 (input_checks c.args.n (input (goal.at.returns-then-not-sectors_allowed c).Start)) 8 _ WrongSector _
     (passes OutOfRange (passed_six (goal.at.returns-then-not-sectors_allowed c).Else-not-input_in_range), (passes ValueTooLarge (passed_seven (goal.at.returns-then-not-sectors_allowed c).Else-not-values_in_range), tt)) refl
-    (told_false c.sectors_allowed.ensures c.if-not-sectors_allowed.true-raw))
+    (sym c.sectors_allowed.ensures ∙ c.if-not-sectors_allowed.true))
 
 pub energies-energies-requires : goal.energies-energies-requires
 energies-energies-requires c = own c
@@ -88,7 +87,7 @@ pub returns-then-not-every_energy : goal.returns-then-not-every_energy
 returns-then-not-every_energy c =
     input_refused c.args.n (input (goal.at.returns-then-not-every_energy c).Start) NoLine
     (no_line c.args.n (input (goal.at.returns-then-not-every_energy c).Start) (passed_six (goal.at.returns-then-not-every_energy c).Else-not-input_in_range) (passed_seven (goal.at.returns-then-not-every_energy c).Else-not-values_in_range) (passed_eight (goal.at.returns-then-not-every_energy c).Else-not-sectors_allowed)
-    (told_false (everyone (goal.at.returns-then-not-every_energy c).After-every_energy (own (goal.at.returns-then-not-every_energy c).Else-not-sectors_allowed)) c.if-not-every_energy.true-raw))
+    (sym (everyone (goal.at.returns-then-not-every_energy c).After-every_energy (own (goal.at.returns-then-not-every_energy c).Else-not-sectors_allowed)) ∙ c.if-not-every_energy.true))
 
 pub price_lines-requires : goal.price_lines-requires
 price_lines-requires c =
@@ -112,11 +111,11 @@ pub accepted-requires : goal.accepted-requires
 accepted-requires c =
     let ok = passed_nine (goal.at.accepted-requires c).Else-not-every_energy in
     record {
-      fact_1 = priced_accepted _ (input (goal.at.accepted-requires c).Start) ok _ c.fill.ensures _ c.in_ok-priced.ensures;
-      fact_2 = priced_power _ (input (goal.at.accepted-requires c).Start) ok _ c.fill.ensures _ c.in_ok-priced.ensures;
-      fact_3 = c.energies-energies.ensures;
-      fact_4 = ok.lengths.factors;
-      fact_5 = ok.sectored;
+      checked = priced_accepted _ (input (goal.at.accepted-requires c).Start) ok _ c.fill.ensures _ c.in_ok-priced.ensures;
+      power_priced = priced_power _ (input (goal.at.accepted-requires c).Start) ok _ c.fill.ensures _ c.in_ok-priced.ensures;
+      supplied = c.energies-energies.ensures;
+      lent = ok.lengths.factors;
+      allowed = ok.sectored;
     }
 
 pub returns : goal.returns

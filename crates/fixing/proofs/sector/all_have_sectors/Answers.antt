@@ -1,29 +1,16 @@
--- The invariant: each distributor passed has a sector.
+-- The chain's answer is the definition's, distributor by distributor.
+use mathlib.Core.Path.{◌∙◌}
 use native.Mathlib.Omega.{arith}
-use Rattle.numbers.proofs.BoolLaws.{told_true, told_false}
-use Rattle.numbers.proofs.TestLaws.{tested_none, tested_more, tested_fails, tested_all}
+use Rattle.std.proofs.Common.{rules}
+use borrow.Author.Tests.{tests}
+use Rattle.std.proofs.lemmas.Iterator.{YieldsList-from_range}
+use Rattle.std.proofs.lemmas.Iterator.Search.{all_from_yields_List}
+use Rattle.numbers.proofs.ChainLaws.{all_ranged}
+use Rattle.fixing.specs.Sector.{has_sector}
 use Rattle.fixing.proofs.sector.all_have_sectors.Goals as goal
 
-pub loop-i-init : goal.loop-i-init
-loop-i-init c = tested_none _ _
-
-pub has_sector-requires : goal.has_sector-requires
-has_sector-requires c =
-    record {
-      fact_1 = c.requires.fact_1;
-      fact_2 = c.requires.fact_2;
-      fact_3 = omega arith;
-    }
-
-pub returns-then-not-has_sector : goal.returns-then-not-has_sector
-returns-then-not-has_sector c =
-    tested_fails c.loop-i.invariant (omega arith)
-    (told_false c.has_sector.ensures c.if-not-has_sector.true-raw)
-
-pub loop-i-preserved : goal.loop-i-preserved
-loop-i-preserved c =
-    tested_more c.loop-i.invariant (omega arith)
-    (told_true c.has_sector.ensures c.if-not-has_sector.false-raw)
-
 pub returns : goal.returns
-returns c = tested_all c.loop-i.invariant (omega arith)
+returns c =
+    all_from_yields_List (has_sector c.args.sectors.now) _ _ _ c.all.ensures.ran (YieldsList-from_range 0 c.args.n c.args.n (cc) (omega arith))
+    (λ x b q k. search (rules, tests))
+    ∙ all_ranged c.args.n (has_sector c.args.sectors.now)

@@ -23,13 +23,13 @@ module _ (c : After-difference) where
       ∙ ap (λ z. c.args.charge *ℤ z) (c.difference.ensures ∙ pos_sub_zero c.args.factor)
 
   product_size : nat_abs (c.args.charge *ℤ pos c.args.factor) ≤ 100000000000
-  product_size = rw (size_mul c.args.charge (pos c.args.factor)) (mul-le-mul c.requires.fact_1 c.requires.fact_2)
+  product_size = rw (size_mul c.args.charge (pos c.args.factor)) (mul-le-mul c.requires.charge c.requires.factor)
 
   product_fits : SFits w64 (c.args.charge *ℤ pos c.args.factor)
   product_fits = size_fits (c.args.charge *ℤ pos c.args.factor) (omega (arith, product_size))
 
 pub difference-requires : goal.difference-requires
-difference-requires c = omega (arith, c.requires.fact_2)
+difference-requires c = omega (arith, c.requires.factor)
 
 pub overflow_mul-charge : goal.overflow_mul-charge
 overflow_mul-charge c = rw (product c) (product_fits c)

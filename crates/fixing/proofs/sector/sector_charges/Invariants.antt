@@ -1,7 +1,7 @@
 -- The invariant: the places passed are filled in.
 use mathlib.Core.Path.{◌≡◌}
 use mathlib.Core.List.{List}
-use Prim.Native.Nat.{ℕ, ◌≤◌, ◌-◌}
+use Prim.Native.Nat.{ℕ, ◌≤◌}
 use lib.ListN.{length, get_or}
 use lib.IntN.{ℤ, pos}
 use Rattle.fixing.specs.Sector.{sector_present, filled_places, place_charge}
@@ -14,6 +14,3 @@ charge_in charges i = get_or charges i (pos 0)
 abbrev pub invariant-loop-k : goal.invariant-loop-k
 invariant-loop-k l =
     (l.k ≤ length l.sectors) × (l.force ≡ filled_places l.k (sector_present l.sectors) (place_charge (charge_in l.charges) l.sectors))
-
-abbrev pub decreases-loop-k : goal.decreases-loop-k
-decreases-loop-k l = length l.sectors - l.k

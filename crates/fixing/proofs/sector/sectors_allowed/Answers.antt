@@ -13,7 +13,7 @@ small : (c : After-all_between) →
     c.all_between.result ≡ all_below (c.args.n * sector_count)
     (λ k. leb (factor_at c.args.sectors.now k) most_factor)
 small c =
-    c.all_between.ensures ∙ between_zero most_factor c.args.sectors.now _ c.requires.fact_2
+    c.all_between.ensures ∙ between_zero most_factor c.args.sectors.now _ c.requires.lent
 
 pub returns-then-all_between : goal.returns-then-all_between
 unfolding sectors_allowed

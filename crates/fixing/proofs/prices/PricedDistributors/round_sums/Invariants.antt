@@ -1,13 +1,13 @@
 -- The invariant: the three sums of the distributors passed.
 use mathlib.Core.Bool.{Bool}
 use mathlib.Core.List.{List}
-use Prim.Native.Nat.{ℕ, ◌≤◌, ◌-◌, ◌+◌}
+use Prim.Native.Nat.{ℕ, ◌+◌}
 use lib.ListN.{get_or}
 use lib.Dec.{ltb}
 use Rattle.numbers.specs.Units.{no_price, no_energy}
 use Rattle.numbers.specs.declared.units.PesoPrice.{PesoPrice}
 use Rattle.fixing.proofs.PassLaws.{Sums}
-use Rattle.fixing.proofs.prices.round_sums.Given as goal
+use Rattle.fixing.proofs.prices.PricedDistributors.round_sums.Given as goal
 
 -- whether distributor j is in the set
 abbrev pub above : List PesoPrice → ℕ → ℕ → ℕ → Bool
@@ -15,8 +15,5 @@ above averages limit raise j = ltb limit ((get_or averages j no_price).0 + raise
 
 abbrev pub invariant-loop-i : goal.invariant-loop-i
 invariant-loop-i l =
-    (l.i ≤ l.n) × Sums (above l.averages l.limit.0 l.raise.0) (λ j. (get_or l.averages j no_price).0)
-    (λ j. (get_or l.energies j no_energy).0) l.i l.paid l.inside l.outside
-
-abbrev pub decreases-loop-i : goal.decreases-loop-i
-decreases-loop-i l = l.n - l.i
+    Sums (above l.self.averages l.limit.0 l.raise.0) (λ j. (get_or l.self.averages j no_price).0)
+    (λ j. (get_or l.self.energies j no_energy).0) l.i l.paid l.inside l.outside

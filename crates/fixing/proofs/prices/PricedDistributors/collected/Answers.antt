@@ -9,21 +9,21 @@ use Rattle.fixing.specs.Limit.{contract_total}
 use Rattle.fixing.specs.Prices.{distributors}
 use Rattle.fixing.proofs.PassLaws.{paid_most}
 use native.Mathlib.Omega.{arith}
-use Rattle.fixing.proofs.prices.collects.Goals as goal
-use Rattle.fixing.proofs.prices.collects.Goals.{After-loop-i, In-loop-i}
+use Rattle.fixing.proofs.prices.PricedDistributors.collected.Goals as goal
+use Rattle.fixing.proofs.prices.PricedDistributors.collected.Goals.{After-loop-i, In-loop-i}
 
 pub loop-i-init : goal.loop-i-init
 unfolding sum_below
-loop-i-init c = (omega arith, refl)
+loop-i-init c = refl
 
 -- what is paid so far, with the distributor at hand
 module _ (c : In-loop-i) where
-  paid : c.loop-i.total + (get_or c.args.prices c.loop-i.i no_price).0 * (get_or c.args.energies c.loop-i.i
+  paid : c.loop-i.total + (get_or c.args.prices c.loop-i.i no_price).0 * (get_or c.args.self.energies c.loop-i.i
       no_energy).0 ≤ 5120000000000000
   paid =
       omega (
         arith,
-        paid_most (distributors c.args.n c.args.prices c.args.energies) c.requires c.loop-i.i
+        paid_most (distributors c.args.self.n c.args.prices c.args.self.energies) c.requires c.loop-i.i
             (omega arith),
       )
 
@@ -34,16 +34,16 @@ pub overflow_add-total : goal.overflow_add-total
 overflow_add-total c = omega (arith, paid c)
 
 pub loop-i-preserved : goal.loop-i-preserved
-loop-i-preserved c = (omega arith, rw sum_step (omega arith))
+loop-i-preserved c = rw sum_step (omega arith)
 
 -- all distributors are passed
 whole : (c : After-loop-i) →
     c.loop-i.total ≡ contract_total
-    (distributors c.args.n c.args.prices c.args.energies)
+    (distributors c.args.self.n c.args.prices c.args.self.energies)
 unfolding contract_total
 whole c =
-    let e : c.loop-i.i ≡ c.args.n = omega arith in
-    rw (← e) c.loop-i.invariant.1
+    let e : c.loop-i.i ≡ c.args.self.n = omega arith in
+    rw (← e) c.loop-i.invariant
 
 pub returns : goal.returns
 returns c = ap (λ (x : ℕ). record { 0 = x }) (whole c)

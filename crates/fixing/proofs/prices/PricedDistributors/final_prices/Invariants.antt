@@ -1,13 +1,13 @@
 -- The invariant: the first places hold the final prices, the others are empty.
 use mathlib.Core.Path.{◌≡◌}
 use mathlib.Core.List.{List}
-use Prim.Native.Nat.{ℕ, ◌≤◌, ◌-◌, ◌+◌, min}
+use Prim.Native.Nat.{ℕ, ◌+◌, min}
 use lib.ListN.{get_or}
 use Rattle.numbers.specs.Sizes.{most_distributors}
 use Rattle.numbers.specs.Bounded.{filled_below}
 use Rattle.numbers.specs.Units.{no_price}
 use Rattle.numbers.specs.declared.units.PesoPrice.{PesoPrice}
-use Rattle.fixing.proofs.prices.final_prices.Given as goal
+use Rattle.fixing.proofs.prices.PricedDistributors.final_prices.Given as goal
 
 -- the final price of distributor j
 abbrev pub final : List PesoPrice → ℕ → ℕ → ℕ → PesoPrice
@@ -15,7 +15,4 @@ final averages limit surcharge j = record { 0 = min limit ((get_or averages j no
 
 abbrev pub invariant-loop-i : goal.invariant-loop-i
 invariant-loop-i l =
-    (l.i ≤ l.n) × (l.finals ≡ filled_below most_distributors no_price l.i (final l.averages l.limit.0 l.surcharge.0))
-
-abbrev pub decreases-loop-i : goal.decreases-loop-i
-decreases-loop-i l = l.n - l.i
+    (l.finals ≡ filled_below most_distributors no_price l.i (final l.self.averages l.limit.0 l.surcharge.0))

@@ -6,14 +6,14 @@ use Rattle.numbers.specs.Rounding.{divide_up}
 use Rattle.fixing.proofs.LoopLaws.{none_above, round_first, made_few, pays_more, pays_most, outside_least}
 use Rattle.fixing.proofs.LoopLaws.{outside_most, raise_most, round_more, round_last}
 use native.Mathlib.Omega.{arith}
-use Rattle.fixing.proofs.prices.last_round.Goals as goal
-use Rattle.fixing.proofs.prices.last_round.Goals.{After-divide_up}
+use Rattle.fixing.proofs.prices.PricedDistributors.last_round.Goals as goal
+use Rattle.fixing.proofs.prices.PricedDistributors.last_round.Goals.{After-divide_up}
 
 pub round_sums-sums-requires : goal.round_sums-sums-requires
 round_sums-sums-requires c =
     record {
-      fact_1 = c.requires;
-      fact_2 = omega arith;
+      limited = c.requires;
+      raised = omega arith;
     }
 
 pub returns-then-sums-eq0 : goal.returns-then-sums-eq0
@@ -48,8 +48,8 @@ pub round_sums-next-requires : goal.round_sums-next-requires
 round_sums-next-requires c =
     let at = c.loop-sums.invariant in
     record {
-      fact_1 = record { range = at.range; limited = at.topped };
-      fact_2 = raise_most at (worked c);
+      limited = record { range = at.range; limited = at.topped };
+      raised = raise_most at (worked c);
     }
 
 pub returns-then-next-sums : goal.returns-then-next-sums
