@@ -28,12 +28,11 @@ use Rattle.ledger.specs.Calendar.{day_allowed}
 use Rattle.ledger.specs.Ledger.{any_settled, next_month, older_stands}
 use Rattle.ledger.specs.Billed.{billed_under}
 use Rattle.ledger.specs.Sound.{sound}
-use Rattle.ledger.specs.Turn.{fixing_turn}
+use Rattle.ledger.specs.Turn.{fixing_turn, settlement_turn}
 use Rattle.ledger.specs.Fix.{FixingCall, lines_whole, fixing_lengths, in_force_length, call_lengths, fixing_checks}
 use Rattle.ledger.specs.Fix.{fixing_verdict}
-use Rattle.ledger.specs.Settle.{SettlementCall, settlement_checks, settlement_verdict, positions_of}
+use Rattle.ledger.specs.Settle.{SettlementCall, billing_lengths, settlement_checks, settlement_verdict, positions_of}
 use Rattle.ledger.specs.Join.{join_checks, join_verdict}
-use Rattle.ledger.specs.Required.{Due}
 use Rattle.ledger.specs.declared.ledger.Ledger.{Ledger}
 
 -- a fixing
@@ -103,7 +102,10 @@ passed_range n call p q h v = input_range n call.input v (right_lengths n call p
 
 -- a settlement
 pub record SettlementPassed (ledger : Ledger) (call : SettlementCall) : Type 0 where
-  pub due : Due ledger call
+  pub whole : sound ledger ≡ true
+  pub lengths : billing_lengths ledger.n call ≡ true
+  pub turn : settlement_turn (any_settled ledger) (next_month ledger) ledger.fixed ledger.month call.month ≡ true
+  pub in_force : ledger.fixed ≡ true
   pub billed : billing_in_range ledger.n (billed_under ledger call.month).present call.readings call.losses
       ≡ true
   pub within : positions_in_range ledger.n (money_at (positions_of ledger call)) ≡ true
@@ -115,13 +117,10 @@ settlement_passed ledger call h =
     let all = all_passed (settlement_checks ledger call) (is_passed_lem (settlement_verdict ledger call) h) in
     let later = all.1.1.1 in
     record {
-      due =
-          record {
-            whole = passed_test Unsound _ all.0;
-            lengths = passed_test WrongLength _ all.1.0;
-            turn = passed_test OutOfTurn _ all.1.1.0;
-            in_force = passed_test NoFixing _ later.0;
-          };
+      whole = passed_test Unsound _ all.0;
+      lengths = passed_test WrongLength _ all.1.0;
+      turn = passed_test OutOfTurn _ all.1.1.0;
+      in_force = passed_test NoFixing _ later.0;
       billed = passed_test WrongReading _ later.1.0;
       within = passed_test PositionBeyond _ later.1.1.0;
     }

@@ -6,7 +6,7 @@ use Rattle.settlement.proofs.Computed.{settlement_computed}
 use Rattle.ledger.specs.Example.{plain_line, plain_series, plain_numbers, plain_call, print_call, print_ledger}
 use Rattle.ledger.specs.Example.{first_billing, second_billing, first_ledger}
 use Rattle.ledger.specs.Fix.{lines_whole, fixing_lengths, in_force_length, fixing_checks, fixing_verdict}
-use Rattle.ledger.specs.Fix.{accepted_answer, fixing_answer, fixing_ledger, price_word, price_list, fixing_list}
+use Rattle.ledger.specs.Fix.{accepted_values, fixing_answer, fixing_ledger, price_word, price_list, fixing_list}
 use Rattle.ledger.specs.Calendar.{is_leap_year, days_of, day_allowed}
 use Rattle.ledger.specs.Billed.{split_charge, either_present, split_charges, is_split, charges_for, billed_under}
 use Rattle.ledger.specs.Ledger.{no_balances, unfixed_ledger, empty_ledger, any_settled, next_month, makes_older}
@@ -24,7 +24,7 @@ use Rattle.ledger.specs.Turn.{fixing_turn, settlement_turn}
 unfoldable pub ledger_computed : ℕ
 unfolding fixing_computed settlement_computed plain_line plain_series plain_numbers plain_call print_call print_ledger
     first_billing second_billing first_ledger lines_whole fixing_lengths in_force_length fixing_checks fixing_verdict
-    accepted_answer fixing_answer fixing_ledger price_word price_list fixing_list is_leap_year days_of day_allowed split_charge
+    accepted_values fixing_answer fixing_ledger price_word price_list fixing_list is_leap_year days_of day_allowed split_charge
     either_present split_charges is_split charges_for billed_under no_balances unfixed_ledger empty_ledger any_settled
     next_month makes_older stays_older older_stands older_beside fixed_ledger raised_counts settled_ledger joined_ledger
     opening_checks opening_verdict opening_ledger settlement_lengths positions_of settlement_checks settlement_verdict

@@ -9,36 +9,35 @@ use lib.IntN.{ℤ, pos}
 use lib.Dec.{eqb}
 use borrow.Author.Tests.{eqb-true, eq-eqb, lt-ltb}
 use Rattle.numbers.specs.Bounded.{list_below}
-use Rattle.numbers.specs.Refusal.{Answered, verdict_answered, is_passed}
-use Rattle.numbers.specs.Checks.{verdict_of, answered_by}
+use Rattle.numbers.specs.Refusal.{Answered, Verdict, answer_by, verdict_answered, is_passed}
 use Rattle.numbers.specs.declared.refusal.Refusal.{Refusal}
 use Rattle.numbers.specs.declared.refusal.Refusal.TheVariants.{Unsound, WrongLength, OutOfTurn, WrongDay}
-use Rattle.numbers.specs.Refusal.{Verdict}
 use Rattle.std.specs.Prelude.{Ok, Err}
 use Rattle.numbers.specs.Units.{no_price}
 use Rattle.numbers.specs.declared.units.PesoPrice.{PesoPrice}
 use Rattle.numbers.proofs.ListLaws.{list_at}
-use Rattle.numbers.proofs.CheckLaws.{FirstPass, AllTold, check_told, verdict_told, verdict_from, passed_number}
-use Rattle.numbers.proofs.CheckLaws.{is_passed_lem}
-use Rattle.fixing.specs.Input.{input_verdict, input_distributors}
+use Rattle.numbers.proofs.CheckLaws.{AllTold, check_told, verdict_told, passed_number, is_passed_lem}
+use Rattle.supply.proofs.LinePriceLaws.{answer_passed, answer_refused}
+use Rattle.fixing.specs.Input.{input_distributors}
 use Rattle.fixing.specs.Required.{RightLengths}
 use Rattle.fixing.specs.Prices.{fixed_prices, returned_values}
 use Rattle.fixing.specs.Fixing.{accepted_fixing, fixing_of}
 use Rattle.fixing.specs.declared.fix.Fixing.{Fixing}
 use Rattle.fixing.proofs.LimitLaws.{rounds_few}
-use Rattle.fixing.proofs.VerdictLaws.{verdict_is, input_told, passed_fixing, input_range}
+use Rattle.fixing.proofs.VerdictLaws.{input_told}
 use Rattle.ledger.specs.Calendar.{day_allowed}
 use Rattle.ledger.specs.Ledger.{any_settled, next_month, older_stands, fixed_ledger}
 use Rattle.ledger.specs.Sound.{sound}
 use Rattle.ledger.specs.Turn.{fixing_turn}
-use Rattle.ledger.specs.Fix.{FixingCall, call_lengths, fixing_checks, fixing_verdict, accepted_answer, answer_by}
-use Rattle.ledger.specs.Fix.{fixing_answer, fixing_answered, rounds_below, fixing_ledger, price_list, fixing_list}
-use Rattle.ledger.specs.Fix.{price_part, price_word, average_power_list, fixing_power_list, FixingPromise}
-use Rattle.ledger.specs.Fix.{HandedBack, HandsBack, IsAccepted}
+use Rattle.ledger.specs.Required.{PricesSmall}
+use Rattle.ledger.specs.Fix.{FixingCall, call_lengths, fixing_checks, fixing_verdict, worked_answer, accepted_values}
+use Rattle.ledger.specs.Fix.{FixingAnswer, fixing_answer, fixing_answered, rounds_below, fixing_ledger, price_list}
+use Rattle.ledger.specs.Fix.{fixing_list, price_part, price_word, average_power_list, fixing_power_list}
+use Rattle.ledger.specs.Fix.{FixingPromise, HandedBack, HandsBack, IsAccepted}
 use Rattle.ledger.specs.declared.ledger.Ledger.{Ledger}
-use Rattle.ledger.specs.declared.fix.FixingAnswer.TheVariants as answer
-use Rattle.ledger.specs.declared.fix.FixingOutcome.{FixingOutcome}
-use Rattle.ledger.proofs.CallLaws.{fixing_passed, length_parts}
+use Rattle.ledger.proofs.SoundLaws.{sound_some, sound_few}
+use Rattle.ledger.proofs.PassedLaws.{prices_small}
+use Rattle.ledger.proofs.CallLaws.{FixingPassed, fixing_passed, length_parts, right_lengths, passed_range}
 
 -- the three words of distributor i
 module _ (n : ℕ) (averages finals : List PesoPrice) (charges : List ℤ) (i : ℕ) (p : i < n) where
@@ -79,24 +78,14 @@ module _ (ledger : Ledger) (call : FixingCall) where
 
   pub answer_told : fixing_answered (fixing_answer ledger call) ≡ verdict_answered
       (returned_values (input_distributors ledger.n call.input)) (fixing_verdict ledger call)
-  unfolding fixing_answer accepted_answer accepted_fixing fixed_prices returned_values input_distributors
-  answer_told = go (fixing_verdict ledger call) refl
+  unfolding fixing_answer accepted_values fixing_of accepted_fixing fixed_prices returned_values input_distributors
+  answer_told = go (fixing_verdict ledger call)
     where
-      values : List ℕ
-      values = returned_values (input_distributors ledger.n call.input)
-
-      go : (v : Verdict) → fixing_verdict ledger call ≡ v →
-          fixing_answered (answer_by v (accepted_answer (fixing_of ledger.n call.input).prices)) ≡ verdict_answered
-          values v
-      go (Ok _) e =
-          ap (λ (f : Fixing). fixing_answered (accepted_answer f.prices))
-          (passed_fixing ledger.n call.input (fixing_passed ledger call (ap is_passed e)).passed)
-      go (Err refusal) e = refl
-
-  numbered_by : fixing_answered (fixing_answer ledger call) ≡ answered_by (fixing_checks ledger call)
-      (returned_values (input_distributors ledger.n call.input))
-  unfolding fixing_verdict
-  numbered_by = answer_told ∙ verdict_told (fixing_checks ledger call) _ fixing_told
+      go : (v : Verdict) →
+          fixing_answered (answer_by v (accepted_values (fixing_of ledger.n call.input).prices)) ≡ verdict_answered
+          (returned_values (input_distributors ledger.n call.input)) v
+      go (Ok _) = refl
+      go (Err refusal) = refl
 
   -- what is handed back with number 0 passed every check
   pub accepted_passed : (given : HandedBack) → HandsBack ledger call given → IsAccepted given →
@@ -107,64 +96,65 @@ module _ (ledger : Ledger) (call : FixingCall) where
       ∙ ap (λ (x : Answered). eqb x.number 0) (sym (ap fixing_answered promise.answered ∙ answer_told))
       ∙ eq-eqb _ 0 number)
 
-  -- what is promised of a refusal: ledger and lists as they were
-  pub fixed_refused : (refusal : Refusal) → verdict_of (fixing_checks ledger call) ≡ Err refusal →
-      (r : FixingOutcome) → r ≡ record { answer = answer.Refused refusal; ledger = ledger } →
-      FixingPromise ledger call r.answer r.ledger call.prices call.power
-  unfolding fixing_ledger fixing_list fixing_power_list fixing_answer fixing_verdict
-  fixed_refused refusal v r e =
-      let given : r.answer ≡ answer.Refused refusal = ap (λ (o : FixingOutcome). o.answer) e in
-      let told : r.answer ≡ fixing_answer ledger call = given ∙ rw v in
+  -- what is promised of the answer, of the ledger handed back and of both lists
+  fixing_promised : (answer : FixingAnswer) (next : Ledger) (list : List ℤ) (power : List ℕ) →
+      answer ≡ fixing_answer ledger call → rounds_below ledger.n answer ≡ true → next ≡ fixing_ledger ledger call →
+      list ≡ fixing_list ledger call → power ≡ fixing_power_list ledger call →
+      FixingPromise ledger call answer next list power
+  unfolding fixing_verdict
+  fixing_promised answer next list power told few e l p =
       record {
         answered = told;
-        numbered = ap fixing_answered told ∙ numbered_by;
-        few = ap (rounds_below ledger.n) given;
-        booked = ap (λ (o : FixingOutcome). o.ledger) e ∙ rw v;
-        listed = rw v;
-        power_listed = rw v;
+        numbered = ap fixing_answered told ∙ answer_told ∙ verdict_told (fixing_checks ledger call) _ fixing_told;
+        few = few;
+        booked = e;
+        listed = l;
+        power_listed = p;
       }
 
-  module _ (first : FirstPass 4 (fixing_checks ledger call)) (fixing : Fixing)
-      (e : fixing ≡ fixing_of ledger.n call.input) where
-    -- where the ledger's checks are passed, the input's verdict is the call's
-    pub verdict_left : verdict_of (fixing_checks ledger call) ≡ fixing.verdict
-    unfolding fixing_checks input_verdict
-    verdict_left =
-        verdict_from 4 (fixing_checks ledger call) first
-        ∙ sym (ap (λ (f : Fixing). f.verdict) e ∙ verdict_is ledger.n call.input)
+  -- of a refusal: ledger and lists as they were
+  pub fixed_refused : (refusal : Refusal) → Err refusal ≡ worked_answer ledger call →
+      FixingPromise ledger call (Err refusal) ledger call.prices call.power
+  unfolding fixing_ledger fixing_list fixing_power_list fixing_answer worked_answer
+  fixed_refused refusal h =
+      let v = answer_refused (fixing_of ledger.n call.input) refusal (fixing_verdict ledger call) (sym h) in
+      fixing_promised (Err refusal) ledger call.prices call.power (rw v) refl (rw v) (rw v) (rw v)
 
-    pub input_passes : fixing.verdict ≡ Ok tt → input_verdict ledger.n call.input ≡ Ok tt
-    input_passes h = sym (verdict_is ledger.n call.input) ∙ ap (λ (f : Fixing). f.verdict) (sym e) ∙ h
+  module _ (fixing : Fixing) (h : Ok fixing ≡ worked_answer ledger call) where
+    worked : (fixing_verdict ledger call ≡ Ok tt) × (fixing ≡ fixing_of ledger.n call.input)
+    unfolding worked_answer
+    worked = answer_passed (fixing_of ledger.n call.input) fixing (fixing_verdict ledger call) (sym h)
+
+    pub made_passed : FixingPassed ledger call
+    made_passed = fixing_passed ledger call (ap is_passed worked.0)
+
+    right : RightLengths ledger.n call.input
+    right =
+        right_lengths ledger.n call (sound_some ledger made_passed.whole) (sound_few ledger made_passed.whole)
+        made_passed.lengths
+
+    -- its prices fit their words
+    pub made_small : PricesSmall fixing.averages fixing.prices.finals
+    made_small = prices_small ledger.n call.input right made_passed.passed fixing worked.1
+
+    few : fixing.prices.rounds < ledger.n
+    unfolding fixing_of accepted_fixing fixed_prices input_distributors
+    few =
+        rw worked.1
+        (rounds_few (input_distributors ledger.n call.input) (passed_range ledger.n call
+        (sound_some ledger made_passed.whole) (sound_few ledger made_passed.whole) made_passed.lengths
+        made_passed.passed))
 
     -- what is promised of an accepted fixing
-    pub fixed_accepted : RightLengths ledger.n call.input → fixing.verdict ≡ Ok tt →
-        (r : FixingOutcome) (list : List ℤ) (power : List ℕ) → r ≡ record {
-          answer = accepted_answer fixing.prices;
-          ledger = fixed_ledger ledger call.input.numbers fixing.sectors;
-        } →
-        list ≡ price_list ledger.n fixing → power ≡ average_power_list ledger.n fixing →
-        FixingPromise ledger call r.answer r.ledger list power
-    unfolding fixing_ledger fixing_list fixing_power_list fixing_answer fixing_verdict accepted_answer accepted_fixing
-        fixed_prices
-        returned_values input_distributors
-    fixed_accepted right h r list power o l w =
-        let p : r.answer ≡ accepted_answer fixing.prices = ap (λ (x : FixingOutcome). x.answer) o in
-        let v = verdict_left ∙ h in
-        let passed = input_passes h in
-        let d = input_distributors ledger.n call.input in
-        let prices : fixing.prices ≡ fixed_prices d = ap (λ (f : Fixing). f.prices)
-        (e ∙ passed_fixing ledger.n call.input passed) in
-        let told : r.answer ≡ fixing_answer ledger call = p ∙ ap (λ (f : Fixing). accepted_answer f.prices) e
-        ∙ rw v in
-        record {
-          answered = told;
-          numbered = ap fixing_answered told ∙ numbered_by;
-          few =
-              ap (rounds_below ledger.n) (p ∙ ap accepted_answer prices) ∙ lt-ltb _ _
-              (rounds_few d (input_range ledger.n call.input passed right));
-          booked =
-              ap (λ (x : FixingOutcome). x.ledger) o
-              ∙ ap (λ (f : Fixing). fixed_ledger ledger call.input.numbers f.sectors) e ∙ rw v;
-          listed = l ∙ ap (price_list ledger.n) e ∙ rw v;
-          power_listed = w ∙ ap (average_power_list ledger.n) e ∙ rw v;
-        }
+    pub fixed_accepted : (next : Ledger) (list : List ℤ) (power : List ℕ) →
+        next ≡ fixed_ledger ledger call.input.numbers fixing.sectors → list ≡ price_list ledger.n fixing →
+        power ≡ average_power_list ledger.n fixing →
+        FixingPromise ledger call (Ok (accepted_values fixing.prices)) next list power
+    unfolding fixing_ledger fixing_list fixing_power_list fixing_answer accepted_values
+    fixed_accepted next list power e l p =
+        fixing_promised (Ok (accepted_values fixing.prices)) next list power
+        (ap (λ (f : Fixing). Ok (accepted_values f.prices)) worked.1 ∙ rw worked.0)
+        (lt-ltb _ _ few)
+        (e ∙ ap (λ (f : Fixing). fixed_ledger ledger call.input.numbers f.sectors) worked.1 ∙ rw worked.0)
+        (l ∙ ap (price_list ledger.n) worked.1 ∙ rw worked.0)
+        (p ∙ ap (average_power_list ledger.n) worked.1 ∙ rw worked.0)

@@ -181,7 +181,7 @@ fixing_keeps ledger call h = go (is_passed (fixing_verdict ledger call)) refl
         let r : InRange d = passed_range ledger.n call g.some g.few f.lengths f.passed in
         let e : (fixing_of ledger.n call.input).sectors ≡ sector_charges ledger.n (charge d)
         call.input.sectors =
-        ap (λ (x : Fixing). x.sectors) (passed_fixing ledger.n call.input f.passed) in
+        ap (λ (x : Fixing). x.sectors) (passed_fixing ledger.n call.input) in
         rw e
         (sound_test (booked (sector_charges ledger.n (charge d) call.input.sectors))
         (record {
@@ -278,11 +278,11 @@ settlement_keeps ledger call h = go (is_passed (settlement_verdict ledger call))
         let small = balances_within ledger.n (positions_of ledger call)
         (positions_within ledger.n (positions_of ledger call) g.few f.within) in
         let most = turn_most (any_settled ledger) (next_month ledger) ledger.fixed ledger.month call.month
-        f.due.turn in
+        f.turn in
         let later = turn_later (any_settled ledger) (next_month ledger) ledger.fixed ledger.month call.month
-        f.due.turn in
+        f.turn in
         let first = turn_first (any_settled ledger) (next_month ledger) ledger.fixed ledger.month call.month
-        f.due.turn in
+        f.turn in
         -- the first settled month is the fixing's own, a later one the month after the last
         let next : (b : Bool) → any_settled ledger ≡ b →
         ((i : ℕ) → i < most_distributors → count_at ledger.counts i ≤ call.month) ×
@@ -290,7 +290,7 @@ settlement_keeps ledger call h = go (is_passed (settlement_verdict ledger call))
         elim [
           | true ↦ λ e. (λ i p. omega (arith, later e, (g.count i p).few), omega (arith, later e, g.month.due e))
           | false ↦
-              λ e. (λ i p. omega (arith, none_settled ledger e i p), omega (arith, first e f.due.in_force))
+              λ e. (λ i p. omega (arith, none_settled ledger e i p), omega (arith, first e f.in_force))
         ] in
         let raised : ℕ → ℕ = count_at (raised_counts ledger.n ledger.counts) in
         let counted : (i : ℕ) → i < most_distributors → Dec (i < ledger.n) →

@@ -61,4 +61,4 @@ module _ (n : ℕ) (input : FixingInput) (right : RightLengths n input) (passed 
   pub prices_small : (fixing : Fixing) → fixing ≡ fixing_of n input →
       PricesSmall fixing.averages fixing.prices.finals
   unfolding accepted_fixing
-  prices_small fixing e = rw (e, passed_fixing n input passed) accepted_small
+  prices_small fixing e = rw (e, passed_fixing n input) accepted_small

@@ -11,7 +11,7 @@ use lib.IntN.{ℤ, pos}
 use borrow.Author.Tests.{eqb-true}
 use Rattle.numbers.specs.Bounded.{list_below}
 use Rattle.numbers.specs.Checks.{verdict_of}
-use Rattle.numbers.specs.Refusal.{is_passed}
+use Rattle.numbers.specs.Refusal.{Verdict, is_passed}
 use Rattle.numbers.specs.Sizes.{most_distributors}
 use Rattle.numbers.specs.declared.refusal.Refusal.{Refusal}
 use Rattle.numbers.specs.declared.refusal.Refusal.TheVariants.{Unsound, WrongLength, OutOfTurn, NoFixing, WrongReading}
@@ -20,8 +20,8 @@ use Rattle.std.specs.Prelude.{Ok, Err}
 use Rattle.numbers.specs.declared.units.Pesos.{Pesos}
 use Rattle.numbers.proofs.BoolLaws.{and_three}
 use Rattle.numbers.proofs.ListLaws.{list_at}
-use Rattle.numbers.proofs.CheckLaws.{FirstPass, AllTold, passes, check_told, verdict_from, verdict_passed}
-use Rattle.numbers.proofs.CheckLaws.{refused_unless, judged}
+use Rattle.numbers.proofs.CheckLaws.{AllTold, check_told, judged}
+use Rattle.supply.proofs.LinePriceLaws.{answer_passed, answer_refused}
 use Rattle.fixing.specs.declared.sector.SectorCharges.{SectorCharges}
 use Rattle.settlement.specs.Amount.{billing_in_range}
 use Rattle.settlement.specs.Required.{BillingLists, Billed}
@@ -35,12 +35,11 @@ use Rattle.ledger.specs.Billed.{billed_under}
 use Rattle.ledger.specs.Sound.{sound}
 use Rattle.ledger.specs.Turn.{settlement_turn}
 use Rattle.ledger.specs.Settle.{SettlementCall, settlement_lengths, billing_lengths, positions_of, settlement_checks}
-use Rattle.ledger.specs.Settle.{settlement_verdict, settlement_ledger, settlement_list, SettlementPromise}
-use Rattle.ledger.specs.Required.{Due}
+use Rattle.ledger.specs.Settle.{settlement_verdict, settled_answer, settlement_ledger, settlement_list}
+use Rattle.ledger.specs.Settle.{SettlementPromise}
 use Rattle.ledger.specs.declared.ledger.Ledger.{Ledger}
-use Rattle.ledger.specs.declared.ledger.Outcome.{Outcome}
 use Rattle.ledger.proofs.SoundLaws.{sound_few}
-use Rattle.ledger.proofs.CallLaws.{settlement_passed}
+use Rattle.ledger.proofs.CallLaws.{SettlementPassed, settlement_passed}
 use Rattle.ledger.proofs.BilledLaws.{sound_charges}
 
 module _ (ledger : Ledger) (call : SettlementCall) where
@@ -66,104 +65,78 @@ module _ (ledger : Ledger) (call : SettlementCall) where
     ),
   )
 
-  -- what is promised of a refusal: ledger and list as they were
-  pub month_refused : (refusal : Refusal) → verdict_of (settlement_checks ledger call) ≡ Err refusal →
-      (r : Outcome) → r ≡ record { verdict = Err refusal; ledger = ledger } →
-      SettlementPromise ledger call r.verdict r.ledger call.transfers
-  unfolding settlement_ledger settlement_list settlement_verdict
-  month_refused refusal v r e =
+  -- what is promised of the verdict, of the ledger handed back and of the list
+  settlement_promised : (verdict : Verdict) (next : Ledger) (list : List ℤ) → verdict ≡ settlement_verdict ledger call →
+      next ≡ settlement_ledger ledger call → list ≡ settlement_list ledger call →
+      SettlementPromise ledger call verdict next list
+  unfolding settlement_verdict
+  settlement_promised verdict next list v e l =
       record {
-        judged =
-            judged (settlement_checks ledger call) settlement_told r.verdict
-            (ap (λ (o : Outcome). o.verdict) e ∙ sym v);
-        booked = ap (λ (o : Outcome). o.ledger) e ∙ rw v;
-        listed = rw v;
+        judged = judged (settlement_checks ledger call) settlement_told verdict v;
+        booked = e;
+        listed = l;
       }
 
-  -- a month that is due
-  module _ (due : Due ledger call) where
-    lengths_due : (eqb (length call.readings) (ledger.n * 32) ≡ true) ×
-        (eqb (length call.losses) (ledger.n * 2) ≡ true)
+  pub month_refused : (refusal : Refusal) → Err refusal ≡ settled_answer ledger call →
+      SettlementPromise ledger call (Err refusal) ledger call.transfers
+  unfolding settlement_ledger settlement_list settled_answer
+  month_refused refusal h =
+      let v = answer_refused (settled_month ledger.n (positions_of ledger call)) refusal
+      (settlement_verdict ledger call) (sym h) in
+      settlement_promised (Err refusal) ledger call.transfers (sym v) (rw v) (rw v)
+
+  module _ (settled : SettledMonth) (h : Ok settled ≡ settled_answer ledger call) where
+    worked : (settlement_verdict ledger call ≡ Ok tt) × (settled ≡ settled_month ledger.n (positions_of ledger call))
+    unfolding settled_answer
+    worked =
+        answer_passed (settled_month ledger.n (positions_of ledger call)) settled (settlement_verdict ledger call)
+        (sym h)
+
+    pub month_passed : SettlementPassed ledger call
+    month_passed = settlement_passed ledger call (ap is_passed worked.0)
+
+    pub month_settled : (next : Ledger) (list : List ℤ) → next ≡ settled_ledger ledger call.month settled.balances →
+        list ≡ list_below ledger.n (money_at settled.transfers) → SettlementPromise ledger call (Ok tt) next list
+    unfolding settlement_ledger settlement_list
+    month_settled next list e l =
+        settlement_promised (Ok tt) next list (sym worked.0)
+        (e ∙ ap (λ (s : SettledMonth). settled_ledger ledger call.month s.balances) worked.1 ∙ rw worked.0)
+        (l ∙ ap (λ (s : SettledMonth). list_below ledger.n (money_at s.transfers)) worked.1 ∙ rw worked.0)
+
+  -- the lists of a call that passed its first two checks
+  module _ (whole : sound ledger ≡ true) (lengths : billing_lengths ledger.n call ≡ true) where
+    right_lengths : (eqb (length call.readings) (ledger.n * 32) ≡ true) × (eqb (length call.losses) (ledger.n * 2) ≡ true)
         × (eqb (length call.transfers) ledger.n ≡ true)
     unfolding settlement_lengths
-    lengths_due =
+    right_lengths =
         and_three (eqb (length call.readings) (ledger.n * 32)) (eqb (length call.losses) (ledger.n * 2))
-        (eqb (length call.transfers) ledger.n) due.lengths
+        (eqb (length call.transfers) ledger.n) lengths
 
-    pub lists_due : BillingLists ledger.n call.readings call.losses
-    lists_due =
+    pub right_lists : BillingLists ledger.n call.readings call.losses
+    right_lists =
         record {
-          few = sound_few ledger due.whole;
-          read = eqb-true _ _ lengths_due.0;
-          lost = eqb-true _ _ lengths_due.1;
+          few = sound_few ledger whole;
+          read = eqb-true _ _ right_lengths.0;
+          lost = eqb-true _ _ right_lengths.1;
         }
 
     pub transfers_length : length call.transfers ≡ ledger.n
-    transfers_length = eqb-true _ _ lengths_due.2
-
-    -- the checks that a month which is due has passed
-    pub first_due : FirstPass 4 (settlement_checks ledger call)
-    unfolding FirstPass settlement_checks
-    first_due = (
-      passes Unsound due.whole,
-      (passes WrongLength due.lengths, (passes OutOfTurn due.turn, (passes NoFixing due.in_force, tt))),
-    )
+    transfers_length = eqb-true _ _ right_lengths.2
 
     abbrev under : SectorCharges
     under = billed_under ledger call.month
 
-    module _ (billed : billing_in_range ledger.n under.present call.readings call.losses ≡ true)
-      where
-        pub billed_due : Billed ledger.n under.charges call.readings call.losses
-        billed_due =
-            record {
-              billed =
-                  record {
-                    lists = lists_due;
-                    facts =
-                        billing_facts ledger.n under.present call.readings call.losses billed;
-                  };
-              bounded = sound_charges ledger due.whole call.month;
-            }
-
-        pub first_billed : FirstPass 5 (settlement_checks ledger call)
-        unfolding FirstPass settlement_checks
-        first_billed = (
-          passes Unsound due.whole,
-          (
-            passes WrongLength due.lengths,
-            (passes OutOfTurn due.turn, (passes NoFixing due.in_force, (passes WrongReading billed, tt))),
-          ),
-        )
-
-        module _ (positions : List Pesos) (e : positions ≡ positions_of ledger call) where
-          pub position_beyond : positions_in_range ledger.n (money_at positions) ≡ false →
-              verdict_of (settlement_checks ledger call) ≡ Err PositionBeyond
-          unfolding FirstPass settlement_checks
-          position_beyond f =
-              refused_unless 5 (settlement_checks ledger call) 13 _ PositionBeyond [] first_billed refl
-              (ap (λ (l : List Pesos). positions_in_range ledger.n (money_at l)) (sym e) ∙ f)
-
-          -- what is promised of a settled month
-          pub month_settled : positions_in_range ledger.n (money_at positions) ≡ true →
-              (settled : SettledMonth) (next : Ledger) (list : List ℤ) → settled ≡ settled_month ledger.n positions →
-              next ≡ settled_ledger ledger call.month settled.balances →
-              list ≡ list_below ledger.n (money_at settled.transfers) → SettlementPromise ledger call (Ok tt) next
-              list
-          unfolding settlement_ledger settlement_list settlement_verdict settlement_checks FirstPass
-          month_settled f settled next list g q r =
-              let within = ap (λ (l : List Pesos). positions_in_range ledger.n (money_at l)) (sym e) ∙ f in
-              let last : verdict_of (drop 5 (settlement_checks ledger call)) ≡ Ok tt =
-              verdict_passed (drop 5 (settlement_checks ledger call)) (passes PositionBeyond within, tt) in
-              let v = verdict_from 5 (settlement_checks ledger call) first_billed ∙ last in
-              let month : settled ≡ settled_month ledger.n (positions_of ledger call) = g
-              ∙ ap (settled_month ledger.n)
-              e in
+    pub billed_lists : billing_in_range ledger.n under.present call.readings call.losses ≡ true →
+        Billed ledger.n under.charges call.readings call.losses
+    billed_lists billed =
+        record {
+          billed =
               record {
-                judged = judged (settlement_checks ledger call) settlement_told (Ok tt) (sym v);
-                booked = q ∙ ap (λ (s : SettledMonth). settled_ledger ledger call.month s.balances) month ∙ rw v;
-                listed = r ∙ ap (λ (s : SettledMonth). list_below ledger.n (money_at s.transfers)) month ∙ rw v;
-              }
+                lists = right_lists;
+                facts = billing_facts ledger.n under.present call.readings call.losses billed;
+              };
+          bounded = sound_charges ledger whole call.month;
+        }
 
 -- what an accepted settlement hands back for distributor i: the balance and the transfer that the definitions settle
 module _ (ledger next : Ledger) (call : SettlementCall) (list : List ℤ)
@@ -177,7 +150,7 @@ module _ (ledger next : Ledger) (call : SettlementCall) (list : List ℤ)
 
   inside : i < most_distributors
   inside =
-      let few = sound_few ledger (settlement_passed ledger call (ap is_passed passed)).due.whole in
+      let few = sound_few ledger (settlement_passed ledger call (ap is_passed passed)).whole in
       omega (arith, few)
 
   pub settled_balance : money_at next.balances i ≡ new_balance ledger.n (money_at (positions_of ledger call)) i

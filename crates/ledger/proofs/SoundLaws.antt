@@ -1,17 +1,20 @@
 -- Laws of the names that speak of settled months, and what the code uses of a sound ledger. Assumes nothing.
-use mathlib.Core.Path.{◌≡◌, ap}
+use mathlib.Core.Path.{◌≡◌, ◌∙◌, ap}
 use mathlib.Core.Bool.{Bool, true, false, not, ◌||◌}
 use mathlib.Core.List.{List}
 use Prim.Native.Nat.{ℕ, ◌+◌, ◌*◌, ◌≤◌, ◌<◌}
 use native.Mathlib.Omega.{arith}
 use lib.Dec.{eqb}
-use lib.ListN.{set, get_or-replicate}
+use lib.ListN.{length, get_or, set, get_or-replicate}
 use lib.IntN.{nat_abs, pos}
 use borrow.Author.Tests.{eqb-true, ne_eqb, not-false}
+use Rattle.std.specs.List.{list_any}
+use Rattle.numbers.specs.Bounded.{any_below}
 use Rattle.numbers.specs.Sizes.{most_distributors, sector_count}
 use Rattle.numbers.specs.Units.{between, no_money}
 use Rattle.numbers.specs.declared.units.Pesos.{Pesos}
 use Rattle.numbers.proofs.BoolLaws.{and_left}
+use Rattle.numbers.proofs.ChainLaws.{any_listed}
 use Rattle.numbers.proofs.TestLaws.{any_none, any_never, any_holds}
 use Rattle.numbers.proofs.UnitLaws.{between_high}
 use Rattle.numbers.proofs.ListLaws.{set_held, filled_at, filled_past}
@@ -26,6 +29,12 @@ use Rattle.ledger.specs.Required.{CountsWithin}
 use Rattle.ledger.specs.Sound.{day_sound, sound}
 use Rattle.ledger.specs.declared.ledger.Ledger.{Ledger}
 use Rattle.ledger.proofs.SoundFacts.{sound_facts}
+
+-- `any` of an array of n
+pub any_of : {A : Type 0} (test : A → Bool) (list : List A) (empty : A) (n : ℕ) → length list ≡ n →
+    list_any test list ≡ any_below n (λ i. test (get_or list i empty))
+any_of test list empty n e =
+    any_listed test list empty ∙ ap (λ k. any_below k (λ i. test (get_or list i empty))) e
 
 -- raised counts
 module _ (n : ℕ) (counts : List ℕ) (i : ℕ) (p : i < most_distributors) where

@@ -6,7 +6,7 @@ use Rattle.numbers.specs.Refusal.{Answered, Verdict, answer_by, result_answered,
 use Rattle.numbers.specs.Checks.{Check, check, verdict_of, answered_by}
 use Rattle.numbers.specs.declared.refusal.Refusal.TheVariants.{Unsound, WrongLength, OutOfTurn, WrongDay}
 use Rattle.numbers.specs.declared.refusal.Refusal.{Refusal}
-use Rattle.std.specs.Prelude.{Result, Ok, Err}
+use Rattle.std.specs.Prelude.{Option, is_some, unwrap_or, Result, Ok, Err}
 use Rattle.numbers.specs.Units.{between, no_price, no_power}
 use Rattle.numbers.specs.Sizes.{sector_count}
 use Rattle.numbers.specs.declared.units.PesoPrice.{PesoPrice}
@@ -42,6 +42,11 @@ fixing_call_of is_interim numbers series lines sectors in_force prices power =
       prices = prices;
       power = power;
     }
+
+-- a call from its parts, with the prices in force of an interim fixing
+abbrev pub lent_call : FixingNumbers → List ℕ → List ℕ → List ℕ → Option (List ℕ) → List ℤ → List ℕ → FixingCall
+lent_call numbers series lines sectors in_force prices power =
+    fixing_call_of (is_some in_force) numbers series lines sectors (unwrap_or in_force []) prices power
 
 -- "a lent list of wrong length or line count": whole lines, 1 to 256 of them
 unfoldable pub lines_whole : List ℕ → Bool
@@ -80,6 +85,10 @@ fixing_checks ledger call =
 
 unfoldable pub fixing_verdict : Ledger → FixingCall → Verdict
 fixing_verdict ledger call = verdict_of (fixing_checks ledger call)
+
+-- the fixing, or why it is refused
+unfoldable pub worked_answer : Ledger → FixingCall → Result Fixing Refusal
+worked_answer ledger call = answer_by (fixing_verdict ledger call) (fixing_of ledger.n call.input)
 
 -- an accepted fixing "returns L, r (0 if none), rounds, residue"
 unfoldable pub accepted_values : FixedPrices → FixingValues

@@ -1,16 +1,12 @@
 -- What the functions of this crate require, as plain facts. Assumes nothing.
-use Rattle.std.specs.Prelude.{◌≡◌, true, List, ℕ, ◌+◌, ◌*◌, ◌^◌, ◌≤◌, ◌<◌, get_or, nat_abs}
+use Rattle.std.specs.Prelude.{List, ℕ, ◌+◌, ◌*◌, ◌^◌, ◌≤◌, ◌<◌, get_or, nat_abs}
 use Rattle.numbers.specs.Sizes.{most_distributors, sector_count}
 use Rattle.numbers.specs.Units.{no_price}
 use Rattle.numbers.specs.declared.units.PesoPrice.{PesoPrice}
 use Rattle.series.specs.Series.{last_month}
 use Rattle.fixing.specs.declared.sector.SectorCharges.{SectorCharges}
 use Rattle.settlement.specs.Amount.{most_charge}
-use Rattle.ledger.specs.Ledger.{charge_in, count_at, any_settled, next_month}
-use Rattle.ledger.specs.Sound.{sound}
-use Rattle.ledger.specs.Turn.{settlement_turn}
-use Rattle.ledger.specs.Settle.{SettlementCall, billing_lengths}
-use Rattle.ledger.specs.declared.ledger.Ledger.{Ledger}
+use Rattle.ledger.specs.Ledger.{charge_in, count_at}
 
 -- prices whose words are written: each fits a signed word
 pub record PricesSmall (averages finals : List PesoPrice) : Type 0 where
@@ -33,10 +29,3 @@ pub record Divided (n days before : ℕ) (old new : SectorCharges) : Type 0 wher
 pub record CountsWithin (n : ℕ) (counts : List ℕ) : Type 0 where
   pub few : n ≤ most_distributors
   pub within : (i : ℕ) → i < n → count_at counts i ≤ last_month + 1
-
--- a settlement that passed its first four checks
-pub record Due (ledger : Ledger) (call : SettlementCall) : Type 0 where
-  pub whole : sound ledger ≡ true
-  pub lengths : billing_lengths ledger.n call ≡ true
-  pub turn : settlement_turn (any_settled ledger) (next_month ledger) ledger.fixed ledger.month call.month ≡ true
-  pub in_force : ledger.fixed ≡ true

@@ -1,16 +1,17 @@
 -- The open call of settlement: its checks in their order, its answer, the ledger handed back and the transfers written;
 -- and the side that clears (W-203 of document 02). Assumes nothing.
-use Rattle.std.specs.Prelude.{◌≡◌, Bool, cond, ◌&&◌, List, [], ◌∷◌, ℕ, ◌*◌, eqb, length, get_or, ℤ, pos, neg_ℤ}
+use Rattle.std.specs.Prelude.{◌≡◌, Result, Bool, cond, ◌&&◌, List, [], ◌∷◌, ℕ, ◌*◌, eqb, length, get_or, ℤ, pos, neg_ℤ}
 use Rattle.numbers.specs.Bounded.{list_below}
-use Rattle.numbers.specs.Refusal.{is_passed}
+use Rattle.numbers.specs.Refusal.{Verdict, answer_by, is_passed}
 use Rattle.numbers.specs.Checks.{Check, check, verdict_of, Judged}
 use Rattle.numbers.specs.declared.refusal.Refusal.TheVariants.{Unsound, WrongLength, OutOfTurn, NoFixing, WrongReading}
 use Rattle.numbers.specs.declared.refusal.Refusal.TheVariants.{PositionBeyond}
-use Rattle.numbers.specs.Refusal.{Verdict}
+use Rattle.numbers.specs.declared.refusal.Refusal.{Refusal}
 use Rattle.numbers.specs.declared.units.Pesos.{Pesos}
 use Rattle.settlement.specs.Amount.{billing_in_range}
 use Rattle.settlement.specs.Settlement.{positions_in_range}
 use Rattle.settlement.specs.Month.{money_at, position_list, settled_month}
+use Rattle.settlement.specs.declared.month.SettledMonth.{SettledMonth}
 use Rattle.ledger.specs.Ledger.{any_settled, next_month, settled_ledger}
 use Rattle.ledger.specs.Billed.{billed_under}
 use Rattle.ledger.specs.Sound.{sound}
@@ -61,6 +62,11 @@ settlement_checks ledger call =
 
 unfoldable pub settlement_verdict : Ledger → SettlementCall → Verdict
 settlement_verdict ledger call = verdict_of (settlement_checks ledger call)
+
+-- the month settled, or why it is refused
+unfoldable pub settled_answer : Ledger → SettlementCall → Result SettledMonth Refusal
+settled_answer ledger call =
+    answer_by (settlement_verdict ledger call) (settled_month ledger.n (positions_of ledger call))
 
 -- the ledger handed back: a refused one unchanged
 unfoldable pub settlement_ledger : Ledger → SettlementCall → Ledger

@@ -15,10 +15,10 @@ use numbers::sizes::SECTORS;
 
 // The charge of a sector, by the days before and those that remain.
 fn split_charge(days: u64, before: u64, old: i64, new: i64) -> i64
-    requires fact_1 { days ≤ most_days }
-    requires fact_2 { before < days }
-    requires fact_3 { nat_abs old ≤ most_charge }
-    requires fact_4 { nat_abs new ≤ most_charge }
+    requires short { days ≤ most_days }
+    requires some { before < days }
+    requires old_within { nat_abs old ≤ most_charge }
+    requires new_within { nat_abs new ≤ most_charge }
     ensures { result ≡ split_charge days before old new }
 {
     let weighed = old * difference(before, 0) + new * difference(days - before, 0);
@@ -37,12 +37,9 @@ fn split_charges(
     ensures { result ≡ split_charges n days before old new }
 {
     let mut force = no_charges();
-    let mut k: usize = 0;
-    while k < n * SECTORS {
-        let charge = split_charge(days, before, old.charges[k], new.charges[k]);
+    for k in 0..n * SECTORS {
         force.present[k] = old.present[k] | new.present[k];
-        force.charges[k] = charge;
-        k += 1;
+        force.charges[k] = split_charge(days, before, old.charges[k], new.charges[k]);
     }
     force
 }

@@ -1,14 +1,15 @@
 // The open calls of fixing, regular and interim: no requires. Both make the same fixing, an interim one with a price in
 // force for each line. Causes 2, 3, 4 and 16 are the ledger's, the others the fixing's; the prices and the power prices
 // are written only when all of them are passed.
-ghost use Rattle.std.specs.Prelude.{◌≡◌, Ok, true, false, [], ◌*◌, ◌≤◌, ◌<◌, ◌^◌, length, get_or};
+ghost use Rattle.std.specs.Prelude.{◌≡◌, true, false, [], ◌*◌, ◌≤◌, ◌<◌, ◌^◌, length, get_or, is_some, unwrap_or, option_copied};
 ghost use Rattle.numbers.specs.Bounded.{list_below};
 ghost use Rattle.numbers.specs.Units.{no_power};
-ghost use Rattle.ledger.specs.Ledger.{fixed_ledger};
+ghost use Rattle.series.specs.Series.{last_month};
+ghost use Rattle.ledger.specs.Ledger.{any_settled, next_month, fixed_ledger};
 ghost use Rattle.ledger.specs.Turn.{fixing_turn};
 ghost use Rattle.numbers.specs.Sizes.{most_distributors};
-ghost use Rattle.ledger.specs.Fix.{fixing_call_of, lines_whole, fixing_lengths, in_force_length};
-ghost use Rattle.ledger.specs.Fix.{price_part, price_word, price_list, average_power_list};
+ghost use Rattle.ledger.specs.Fix.{fixing_call_of, lent_call, lines_whole, in_force_length, call_lengths, worked_answer};
+ghost use Rattle.ledger.specs.Fix.{price_part, price_word};
 ghost use Rattle.ledger.specs.Fix.{accepted_values, FixingPromise};
 ghost use Rattle.ledger.specs.Fix.{FixingCall, HandedBack, FixingAccepted, SameButPowerList};
 ghost use Rattle.ledger.specs.declared.ledger.Ledger.{Ledger};
@@ -38,11 +39,15 @@ pub struct FixingValues {
     pub residue: UnsignedPesos,
 }
 
-// The numbers of a fixing, and whether it is an interim one.
+// What a fixing is worked from: its numbers, the lists lent for it, and for an interim one a price in force for each
+// line. The lists have one lifetime, the shortest, as the open calls take them: the borrow checker asks it of a struct.
 #[derive(Clone, Copy)]
-struct Request {
+struct Input<'a> {
     numbers: FixingNumbers,
-    is_interim: bool,
+    series: &'a [u64],
+    lines: &'a [u64],
+    sectors: &'a [u64],
+    in_force: Option<&'a [u64]>,
 }
 
 impl Ledger {
@@ -50,11 +55,10 @@ impl Ledger {
     fn book_fixing(mut self, numbers: FixingNumbers, force: SectorCharges) -> Self
         ensures { result ≡ fixed_ledger self numbers force }
     {
-        let month = numbers.month;
-        let stands = self.older_stands(month);
-        let older = self.older_beside(month);
+        let stands = self.older_stands(numbers.month);
+        let older = self.older_beside(numbers.month);
         self.fixed = true;
-        self.month = month;
+        self.month = numbers.month;
         self.day = numbers.day;
         self.force = force;
         self.has_older = stands;
@@ -70,48 +74,44 @@ fn lines_whole(lines: &[u64]) -> bool
     (lines.len() % LINE_WORDS == 0) & is_between(1, MOST_LINES as u64, line_count(lines) as u64)
 }
 
-// Whether every lent list has its length.
-fn lengths_right(
-    n: usize,
-    series: &[u64],
-    lines: &[u64],
-    sectors: &[u64],
-    prices: &[i64],
-    power: &[u64],
-) -> bool
-    requires { n ≤ most_distributors }
-    ensures { result ≡ fixing_lengths n series.now lines.now sectors.now
-        prices.now power.now }
+// Whether the prices in force of an interim fixing are one for each line.
+fn in_force_right(lines: &[u64], in_force: Option<&[u64]>) -> bool
+    ensures { result ≡ in_force_length (is_some (option_copied in_force.entry)) lines.now
+        (unwrap_or (option_copied in_force.entry) []) }
 {
-    (series.len() == WORDS)
-        & lines_whole(lines)
-        & (sectors.len() == n * SECTORS)
-        & (prices.len() == n * 3)
-        & (power.len() == n)
+    match in_force {
+        Some(prices) => prices.len() == line_count(lines),
+        None => true,
+    }
 }
 
-// Whether as many prices in force are lent as the fixing takes: one for each line, or none.
-fn in_force_right(is_interim: bool, lines: &[u64], in_force: &[u64]) -> bool
-    ensures { result ≡ in_force_length is_interim lines.now in_force.now }
+// Whether every lent list has its length.
+fn lengths_right(n: usize, input: Input, prices: &[i64], power: &[u64]) -> bool
+    requires { n ≤ most_distributors }
+    ensures { result ≡ call_lengths n (lent_call input.entry.numbers input.entry.series.now input.entry.lines.now
+        input.entry.sectors.now (option_copied input.entry.in_force) prices.now power.now) }
 {
-    if is_interim {
-        return in_force.len() == line_count(lines);
-    }
-    in_force.len() == 0
+    (input.series.len() == WORDS)
+        & lines_whole(input.lines)
+        & (input.sectors.len() == n * SECTORS)
+        & (prices.len() == n * 3)
+        & (power.len() == n)
+        & in_force_right(input.lines, input.in_force)
 }
 
 // Whether the fixing's month is due.
-fn in_turn(settled: bool, next: u64, month: u64) -> bool
-    ensures { result ≡ fixing_turn settled next month }
+fn in_turn(ledger: Ledger, month: u64) -> bool
+    requires { ledger.last ≤ last_month }
+    ensures { result ≡ fixing_turn (any_settled ledger) (next_month ledger) month }
 {
-    (month <= LAST_MONTH) & (!settled | (month == next))
+    (month <= LAST_MONTH) & (!ledger.any_settled() | (month == ledger.next_month()))
 }
 
 // A distributor's word of the price list: average, final price or charge.
 fn price_part(average: PesoPrice, last: PesoPrice, charge: i64, part: usize) -> i64
-    requires fact_1 { average.0 < 2 ^ 62 }
-    requires fact_2 { last.0 < 2 ^ 62 }
-    requires fact_3 { part < 3 }
+    requires average_small { average.0 < 2 ^ 62 }
+    requires last_small { last.0 < 2 ^ 62 }
+    requires part_below { part < 3 }
     ensures { result ≡ price_part average.0 last.0 charge part }
 {
     match part {
@@ -123,25 +123,18 @@ fn price_part(average: PesoPrice, last: PesoPrice, charge: i64, part: usize) -> 
 
 // The whole price list, distributor by distributor, in one loop that cannot fail.
 fn write_prices(
-    n: usize,
     averages: [PesoPrice; MOST_DISTRIBUTORS],
     finals: [PesoPrice; MOST_DISTRIBUTORS],
     charges: [i64; MOST_DISTRIBUTORS],
     prices: &mut [i64],
 )
-    requires fact_1 { n ≤ most_distributors }
-    requires fact_2 { length prices.old ≡ n * 3 }
-    requires fact_3 { PricesSmall averages finals }
-    ensures { prices.new ≡ list_below (n * 3) (price_word averages finals charges) }
+    requires few { length prices.old ≤ most_distributors * 3 }
+    requires small { PricesSmall averages finals }
+    ensures { prices.new ≡ list_below (length prices.old) (price_word averages finals charges) }
 {
-    let mut k: usize = 0;
-    while k < prices.len() {
+    for (k, price) in prices.iter_mut().enumerate() {
         let i = k / 3;
-        let average = averages[i];
-        let last = finals[i];
-        let charge = charges[i];
-        prices[k] = price_part(average, last, charge, k % 3);
-        k += 1;
+        *price = price_part(averages[i], finals[i], charges[i], k % 3);
     }
 }
 
@@ -151,10 +144,8 @@ fn write_power(averages: [PowerPrice; MOST_DISTRIBUTORS], power: &mut [u64])
     ensures { power.new ≡ list_below (length power.old)
         (λ i. (get_or averages i no_power).0) }
 {
-    let mut i: usize = 0;
-    while i < power.len() {
-        power[i] = averages[i].0;
-        i += 1;
+    for (i, price) in power.iter_mut().enumerate() {
+        *price = averages[i].0;
     }
 }
 
@@ -170,73 +161,64 @@ fn accepted(fixed: FixedPrices) -> FixingValues
     }
 }
 
-// A fixing that passed every check is written, and it is in force in the ledger.
-fn accept(
+// The fixing: the checks in their order, and nothing written yet.
+fn worked_fixing(
     ledger: Ledger,
-    numbers: FixingNumbers,
-    fixing: Fixing,
-    prices: &mut [i64],
-    power: &mut [u64],
-) -> Outcome<FixingValues>
-    requires fact_1 { ledger.n ≤ most_distributors }
-    requires fact_2 { length prices.old ≡ ledger.n * 3 }
-    requires fact_3 { length power.old ≡ ledger.n }
-    requires fact_4 { PricesSmall fixing.averages fixing.prices.finals }
-    ensures fact_1 { result ≡ record {
-      answer = Ok (accepted_values fixing.prices);
-      ledger = fixed_ledger ledger numbers fixing.sectors;
-    } }
-    ensures fact_2 { prices.new ≡ price_list ledger.n fixing }
-    ensures fact_3 { power.new ≡ average_power_list ledger.n fixing }
+    input: Input,
+    prices: &[i64],
+    power: &[u64],
+) -> Result<Fixing, Refusal>
+    ensures { result ≡ worked_answer ledger (lent_call input.entry.numbers input.entry.series.now
+        input.entry.lines.now input.entry.sectors.now (option_copied input.entry.in_force) prices.now power.now) }
 {
+    if !is_sound(ledger) {
+        return Err(Refusal::Unsound);
+    }
     let n = ledger.n;
-    let fixed = fixing.prices;
-    let averages = fixing.averages;
-    let finals = fixed.finals;
-    let charges = fixing.charges;
-    let force = fixing.sectors;
-    let power_averages = fixing.power;
-    write_prices(n, averages, finals, charges, prices);
-    write_power(power_averages, power);
-    let answer = Ok(accepted(fixed));
-    let ledger = ledger.book_fixing(numbers, force);
-    Outcome { answer, ledger }
+    if !lengths_right(n, input, prices, power) {
+        return Err(Refusal::WrongLength);
+    }
+    let numbers = input.numbers;
+    if !in_turn(ledger, numbers.month) {
+        return Err(Refusal::OutOfTurn);
+    }
+    let stands = ledger.older_stands(numbers.month);
+    if !day_allowed(numbers.month, numbers.day, stands) {
+        return Err(Refusal::WrongDay);
+    }
+    let in_force = input.in_force.unwrap_or(&[]);
+    fix_input(
+        n,
+        numbers,
+        input.series,
+        input.lines,
+        input.sectors,
+        in_force,
+    )
 }
 
-// A fixing, regular or interim.
+// A fixing, regular or interim. What is accepted is written, and it is in force in the ledger.
 fn make_fixing(
     ledger: Ledger,
-    request: Request,
-    series: &[u64],
-    lines: &[u64],
-    sectors: &[u64],
-    in_force: &[u64],
+    input: Input,
     prices: &mut [i64],
     power: &mut [u64],
 ) -> Outcome<FixingValues>
     ensures { FixingPromise ledger
-        (fixing_call_of request.is_interim request.numbers series.now lines.now
-        sectors.now in_force.now prices.old power.old)
+        (lent_call input.entry.numbers input.entry.series.now input.entry.lines.now
+        input.entry.sectors.now (option_copied input.entry.in_force) prices.old power.old)
         result.answer result.ledger prices.new power.new }
 {
-    if !is_sound(ledger) {
-        return refused(Refusal::Unsound, ledger);
-    }
-    let n = ledger.n;
-    let lent = in_force_right(request.is_interim, lines, in_force);
-    if !(lengths_right(n, series, lines, sectors, prices, power) & lent) {
-        return refused(Refusal::WrongLength, ledger);
-    }
-    let numbers = request.numbers;
-    let month = numbers.month;
-    if !in_turn(ledger.any_settled(), ledger.next_month(), month) {
-        return refused(Refusal::OutOfTurn, ledger);
-    }
-    if !day_allowed(month, numbers.day, ledger.older_stands(month)) {
-        return refused(Refusal::WrongDay, ledger);
-    }
-    match fix_input(n, numbers, series, lines, sectors, in_force) {
-        Ok(fixing) => accept(ledger, numbers, fixing, prices, power),
+    match worked_fixing(ledger, input, prices, power) {
+        Ok(fixing) => {
+            let fixed = fixing.prices;
+            write_prices(fixing.averages, fixed.finals, fixing.charges, prices);
+            write_power(fixing.power, power);
+            Outcome {
+                answer: Ok(accepted(fixed)),
+                ledger: ledger.book_fixing(input.numbers, fixing.sectors),
+            }
+        }
         Err(refusal) => refused(refusal, ledger),
     }
 }
@@ -245,12 +227,12 @@ fn make_fixing(
 // factor, the index series with its first month, the supply lines and the sector factors. Where it is accepted the
 // price list and the power list are written and the fixing is in force in the ledger handed back; where it is refused
 // all three are as they were.
-pub fn fix(
+pub fn fix<'a>(
     ledger: Ledger,
     numbers: FixingNumbers,
-    series: &[u64],
-    lines: &[u64],
-    sectors: &[u64],
+    series: &'a [u64],
+    lines: &'a [u64],
+    sectors: &'a [u64],
     prices: &mut [i64],
     power: &mut [u64],
 ) -> Outcome<FixingValues>
@@ -259,25 +241,25 @@ pub fn fix(
         prices.old power.old)
         result.answer result.ledger prices.new power.new }
 {
-    let request = Request {
+    let input = Input {
         numbers,
-        is_interim: false,
+        series,
+        lines,
+        sectors,
+        in_force: None,
     };
-    let none = [0u64; 0];
-    make_fixing(
-        ledger, request, series, lines, sectors, &none, prices, power,
-    )
+    make_fixing(ledger, input, prices, power)
 }
 
 // An interim fixing: a fixing in which a line takes its new indexed price only if that moved by more than 10% from the
 // one in force, which is lent for each line. Power is worked afresh.
-pub fn interim(
+pub fn interim<'a>(
     ledger: Ledger,
     numbers: FixingNumbers,
-    series: &[u64],
-    lines: &[u64],
-    sectors: &[u64],
-    in_force: &[u64],
+    series: &'a [u64],
+    lines: &'a [u64],
+    sectors: &'a [u64],
+    in_force: &'a [u64],
     prices: &mut [i64],
     power: &mut [u64],
 ) -> Outcome<FixingValues>
@@ -286,13 +268,14 @@ pub fn interim(
         in_force.now prices.old power.old)
         result.answer result.ledger prices.new power.new }
 {
-    let request = Request {
+    let input = Input {
         numbers,
-        is_interim: true,
+        series,
+        lines,
+        sectors,
+        in_force: Some(in_force),
     };
-    make_fixing(
-        ledger, request, series, lines, sectors, in_force, prices, power,
-    )
+    make_fixing(ledger, input, prices, power)
 }
 
 // "Prices, charges and ledger are untouched by any power input that passes" (document 02), of whatever `fix` and

@@ -15,7 +15,8 @@ pub struct Ledger {
     pub n: usize,
     // The last settled month.
     pub last: u64,
-    // Whether a fixing is in force, its month, its first day, and what it put in force.
+    // Whether a fixing is in force, its month, its first day, and what it put in force. No Option, here and below: an
+    // unsound ledger may hold the one without the other, and `sound` judges each field.
     pub fixed: bool,
     pub month: u64,
     pub day: u64,
@@ -51,14 +52,7 @@ impl Ledger {
     pub(crate) fn any_settled(self) -> bool
         ensures { result ≡ any_settled self }
     {
-        let mut i: usize = 0;
-        while i < MOST_DISTRIBUTORS {
-            if self.counts[i] != 0 {
-                return true;
-            }
-            i += 1;
-        }
-        false
+        self.counts.iter().any(|count| *count != 0)
     }
 
     // The month after the last settled one.

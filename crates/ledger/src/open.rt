@@ -33,12 +33,10 @@ pub fn open(n: usize) -> Outcome<()>
     ensures { OpeningPromise n result.answer result.ledger }
 {
     if is_between(1, MOST_DISTRIBUTORS as u64, n as u64) {
-        let ledger = empty(n);
         return Outcome {
             answer: Ok(()),
-            ledger,
+            ledger: empty(n),
         };
     }
-    let ledger = empty(0);
-    refused(Refusal::WrongCount, ledger)
+    refused(Refusal::WrongCount, empty(0))
 }

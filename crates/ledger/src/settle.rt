@@ -3,14 +3,15 @@
 ghost use Rattle.std.specs.Prelude.{Ok, true, List, ◌≡◌, ℕ, ◌≤◌, ◌<◌, ℤ, pos, length, get_or};
 ghost use Rattle.numbers.specs.Bounded.{list_below};
 ghost use Rattle.numbers.specs.Sizes.{most_distributors};
+ghost use Rattle.series.specs.Series.{last_month};
 ghost use Rattle.settlement.specs.Month.{money_at};
 ghost use Rattle.settlement.specs.Settlement.{on_smaller_side, NoSignTurned};
-ghost use Rattle.ledger.specs.Ledger.{raised_counts, settled_ledger};
+ghost use Rattle.ledger.specs.Ledger.{any_settled, next_month, raised_counts, settled_ledger};
 ghost use Rattle.ledger.specs.Turn.{settlement_turn};
 ghost use Rattle.ledger.specs.Settle.{SettlementCall, settlement_call_of, settlement_lengths, positions_of};
-ghost use Rattle.ledger.specs.Settle.{SettlementPromise, SettledInFull};
+ghost use Rattle.ledger.specs.Settle.{settled_answer, SettlementPromise, SettledInFull};
 ghost use Rattle.ledger.specs.declared.ledger.Ledger.{Ledger};
-ghost use Rattle.ledger.specs.Required.{CountsWithin, Due};
+ghost use Rattle.ledger.specs.Required.{CountsWithin};
 
 use crate::ledger::{Ledger, Outcome, refused};
 use crate::sound::is_sound;
@@ -19,7 +20,7 @@ use numbers::sizes::MOST_DISTRIBUTORS;
 use numbers::units::Pesos;
 use series::table::LAST_MONTH;
 use settlement::amount::billing_in_range;
-use settlement::month::{positions, positions_in_range, settle_positions};
+use settlement::month::{SettledMonth, positions, positions_in_range, settle_positions};
 
 // The counts of n distributors, each raised by one.
 fn raise_counts(n: usize, counts: [u64; MOST_DISTRIBUTORS]) -> [u64; MOST_DISTRIBUTORS]
@@ -27,10 +28,8 @@ fn raise_counts(n: usize, counts: [u64; MOST_DISTRIBUTORS]) -> [u64; MOST_DISTRI
     ensures { result ≡ raised_counts n counts }
 {
     let mut raised = [0u64; MOST_DISTRIBUTORS];
-    let mut i: usize = 0;
-    while i < n {
+    for i in 0..n {
         raised[i] = counts[i] + 1;
-        i += 1;
     }
     raised
 }
@@ -41,11 +40,9 @@ impl Ledger {
         requires { CountsWithin self.n self.counts }
         ensures { result ≡ settled_ledger self month balances }
     {
-        let counts = self.counts;
-        let raised = raise_counts(self.n, counts);
         self.last = month;
         self.balances = balances;
-        self.counts = raised;
+        self.counts = raise_counts(self.n, self.counts);
         self
     }
 }
@@ -59,65 +56,62 @@ fn lengths_right(n: usize, readings: &[u64], losses: &[u64], transfers: &[i64]) 
 }
 
 // Whether the month is due.
-fn in_turn(settled: bool, next: u64, fixed: bool, fixing_month: u64, month: u64) -> bool
-    ensures { result ≡ settlement_turn settled next fixed fixing_month month }
+fn in_turn(ledger: Ledger, month: u64) -> bool
+    requires { ledger.last ≤ last_month }
+    ensures { result ≡ settlement_turn (any_settled ledger) (next_month ledger)
+        ledger.fixed ledger.month month }
 {
-    if settled {
-        (month <= LAST_MONTH) & (month == next)
+    let due = if ledger.any_settled() {
+        month == ledger.next_month()
     } else {
-        (month <= LAST_MONTH) & (!fixed | (month == fixing_month))
-    }
+        !ledger.fixed | (month == ledger.month)
+    };
+    (month <= LAST_MONTH) & due
 }
 
 // The transfers, in one loop that cannot fail.
-fn write_transfers(n: usize, amounts: [Pesos; MOST_DISTRIBUTORS], transfers: &mut [i64])
-    requires fact_1 { n ≤ most_distributors }
-    requires fact_2 { length transfers.old ≡ n }
-    ensures { transfers.new ≡ list_below n (money_at amounts) }
+fn write_transfers(amounts: [Pesos; MOST_DISTRIBUTORS], transfers: &mut [i64])
+    requires { length transfers.old ≤ most_distributors }
+    ensures { transfers.new ≡ list_below (length transfers.old) (money_at amounts) }
 {
-    let mut i: usize = 0;
-    while i < transfers.len() {
-        let amount = amounts[i];
-        let word = amount.0;
-        transfers[i] = word;
-        i += 1;
+    for (i, transfer) in transfers.iter_mut().enumerate() {
+        *transfer = amounts[i].0;
     }
 }
 
-// The settlement of a sound ledger with a fixing in force, in a month that is due: causes 12 and 13, then the month.
-fn settle_month(
+// The month settled: the checks in their order, and nothing written yet.
+fn settled(
     ledger: Ledger,
     month: u64,
     readings: &[u64],
     losses: &[u64],
-    transfers: &mut [i64],
-) -> Outcome<()>
-    requires { Due ledger (settlement_call_of month readings.now losses.now transfers.old) }
-    ensures { SettlementPromise ledger
-        (settlement_call_of month readings.now losses.now transfers.old) result.answer
-        result.ledger transfers.new }
+    transfers: &[i64],
+) -> Result<SettledMonth, Refusal>
+    ensures { result ≡ settled_answer ledger
+        (settlement_call_of month readings.now losses.now transfers.now) }
 {
+    if !is_sound(ledger) {
+        return Err(Refusal::Unsound);
+    }
     let n = ledger.n;
+    if !lengths_right(n, readings, losses, transfers) {
+        return Err(Refusal::WrongLength);
+    }
+    if !in_turn(ledger, month) {
+        return Err(Refusal::OutOfTurn);
+    }
+    if !ledger.fixed {
+        return Err(Refusal::NoFixing);
+    }
     let force = ledger.billed_under(month);
-    let present = force.present;
-    let charges = force.charges;
-    if !billing_in_range(n, &present, readings, losses) {
-        return refused(Refusal::WrongReading, ledger);
+    if !billing_in_range(n, &force.present, readings, losses) {
+        return Err(Refusal::WrongReading);
     }
-    let old = ledger.balances;
-    let positions = positions(n, old, &charges, readings, losses);
+    let positions = positions(n, ledger.balances, &force.charges, readings, losses);
     if !positions_in_range(n, positions) {
-        return refused(Refusal::PositionBeyond, ledger);
+        return Err(Refusal::PositionBeyond);
     }
-    let settled = settle_positions(n, positions);
-    let amounts = settled.transfers;
-    let balances = settled.balances;
-    write_transfers(n, amounts, transfers);
-    let ledger = ledger.book_month(month, balances);
-    Outcome {
-        answer: Ok(()),
-        ledger,
-    }
+    Ok(settle_positions(n, positions))
 }
 
 // A month's settlement from readings and loss factors. Where it is accepted the transfers are written and the balances
@@ -133,22 +127,16 @@ pub fn settle(
         (settlement_call_of month readings.now losses.now transfers.old) result.answer
         result.ledger transfers.new }
 {
-    if !is_sound(ledger) {
-        return refused(Refusal::Unsound, ledger);
+    match settled(ledger, month, readings, losses, transfers) {
+        Ok(settled) => {
+            write_transfers(settled.transfers, transfers);
+            Outcome {
+                answer: Ok(()),
+                ledger: ledger.book_month(month, settled.balances),
+            }
+        }
+        Err(refusal) => refused(refusal, ledger),
     }
-    let n = ledger.n;
-    if !lengths_right(n, readings, losses, transfers) {
-        return refused(Refusal::WrongLength, ledger);
-    }
-    let settled = ledger.any_settled();
-    let fixed = ledger.fixed;
-    if !in_turn(settled, ledger.next_month(), fixed, ledger.month, month) {
-        return refused(Refusal::OutOfTurn, ledger);
-    }
-    if !fixed {
-        return refused(Refusal::NoFixing, ledger);
-    }
-    settle_month(ledger, month, readings, losses, transfers)
 }
 
 // "In every settlement the side with the smaller total, both if equal, pays or receives in full" (document 02), of

@@ -43,16 +43,7 @@ fn place_sound(held: usize, present: bool, charge: i64, k: usize) -> bool
 fn force_sound(held: usize, force: SectorCharges) -> bool
     ensures { result ≡ force_sound held force }
 {
-    let mut k: usize = 0;
-    while k < PLACES {
-        let present = force.present[k];
-        let charge = force.charges[k];
-        if !place_sound(held, present, charge, k) {
-            return false;
-        }
-        k += 1;
-    }
-    true
+    (0..PLACES).all(|k| place_sound(held, force.present[k], force.charges[k], k))
 }
 
 // An older fixing: sound by itself, and beside one in force.
@@ -110,14 +101,7 @@ fn counts_sound(n: usize, last: u64, counts: [u64; MOST_DISTRIBUTORS]) -> bool
     requires { last ≤ last_month }
     ensures { result ≡ counts_sound n last counts }
 {
-    let mut i: usize = 0;
-    while i < MOST_DISTRIBUTORS {
-        if counts[i] > bound_where(i < n, last + 1) {
-            return false;
-        }
-        i += 1;
-    }
-    true
+    (0..MOST_DISTRIBUTORS).all(|i| counts[i] <= bound_where(i < n, last + 1))
 }
 
 // One balance: none where no month is counted.
@@ -134,31 +118,15 @@ fn each_balance_sound(
 ) -> bool
     ensures { result ≡ each_balance counts balances }
 {
-    let mut i: usize = 0;
-    while i < MOST_DISTRIBUTORS {
-        let count = counts[i];
-        let balance = balances[i];
-        if !balance_sound(count, balance) {
-            return false;
-        }
-        i += 1;
-    }
-    true
+    (0..MOST_DISTRIBUTORS).all(|i| balance_sound(counts[i], balances[i]))
 }
 
 // Whether not both a balance above zero and one below is among them.
 fn one_sign(balances: [Pesos; MOST_DISTRIBUTORS]) -> bool
     ensures { result ≡ one_sign most_distributors (money_at balances) }
 {
-    let mut above = false;
-    let mut below = false;
-    let mut i: usize = 0;
-    while i < MOST_DISTRIBUTORS {
-        let balance = balances[i];
-        above = above | (0 < balance.0);
-        below = below | (balance.0 < 0);
-        i += 1;
-    }
+    let above = balances.iter().any(|balance| 0 < balance.0);
+    let below = balances.iter().any(|balance| balance.0 < 0);
     !(above & below)
 }
 

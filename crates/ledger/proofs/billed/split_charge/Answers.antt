@@ -33,10 +33,10 @@ module _ (c : After-difference) where
       (c.difference.ensures ∙ pos_sub_zero c.args.before)
 
   old_size : nat_abs old_part ≤ most_charge * c.args.before
-  old_size = size_mul_le c.args.old (pos c.args.before) c.requires.fact_3 (omega arith)
+  old_size = size_mul_le c.args.old (pos c.args.before) c.requires.old_within (omega arith)
 
   old_fits : SFits w64 old_code
-  old_fits = is_fits old_code old_part old (omega (arith, old_size, c.requires.fact_1, c.requires.fact_2))
+  old_fits = is_fits old_code old_part old (omega (arith, old_size, c.requires.short, c.requires.some))
 
 -- the new charge by the days that remain, and the two added up
 module _ (c : After-difference-2) where
@@ -52,10 +52,10 @@ module _ (c : After-difference-2) where
       (c.difference-2.ensures ∙ pos_sub_zero (c.args.days - c.args.before))
 
   new_size : nat_abs new_part ≤ most_charge * (c.args.days - c.args.before)
-  new_size = size_mul_le c.args.new (pos (c.args.days - c.args.before)) c.requires.fact_4 (omega arith)
+  new_size = size_mul_le c.args.new (pos (c.args.days - c.args.before)) c.requires.new_within (omega arith)
 
   new_fits : SFits w64 new_code
-  new_fits = is_fits new_code new_part new (omega (arith, new_size, c.requires.fact_1))
+  new_fits = is_fits new_code new_part new (omega (arith, new_size, c.requires.short))
 
   abbrev sum_code : ℤ
   sum_code = back (old_code (goal.at.overflow_mul-weighed-2 c).After-difference) +ℤ back new_code
@@ -65,20 +65,20 @@ module _ (c : After-difference-2) where
 
   size : nat_abs (old_part (goal.at.overflow_mul-weighed-2 c).After-difference +ℤ new_part) ≤ most_charge * c.args.days
   size =
-      weighed_size c.args.days c.args.before c.args.old c.args.new c.requires.fact_2 c.requires.fact_3
-      c.requires.fact_4
+      weighed_size c.args.days c.args.before c.args.old c.args.new c.requires.some c.requires.old_within
+      c.requires.new_within
 
   fits : SFits w64 sum_code
-  fits = is_fits sum_code (old_part (goal.at.overflow_mul-weighed-2 c).After-difference +ℤ new_part) sum (omega (arith, size, c.requires.fact_1))
+  fits = is_fits sum_code (old_part (goal.at.overflow_mul-weighed-2 c).After-difference +ℤ new_part) sum (omega (arith, size, c.requires.short))
 
   weighed : back sum_code ≡ old_part (goal.at.overflow_mul-weighed-2 c).After-difference +ℤ new_part
   weighed = to_z-of_z {w = w64} fits ∙ sum
 
 pub difference-requires : goal.difference-requires
-difference-requires c = omega (arith, c.requires.fact_1, c.requires.fact_2)
+difference-requires c = omega (arith, c.requires.short, c.requires.some)
 
 pub difference-requires-2 : goal.difference-requires-2
-difference-requires-2 c = omega (arith, c.requires.fact_1)
+difference-requires-2 c = omega (arith, c.requires.short)
 
 pub overflow_mul-weighed : goal.overflow_mul-weighed
 overflow_mul-weighed c = old_fits c
@@ -91,7 +91,7 @@ overflow_add-weighed c = fits c
 
 pub half_away-requires : goal.half_away-requires
 half_away-requires c =
-    omega (arith, ap nat_abs (weighed c), size c, c.requires.fact_1, c.requires.fact_2)
+    omega (arith, ap nat_abs (weighed c), size c, c.requires.short, c.requires.some)
 
 pub returns : goal.returns
 unfolding split_charge

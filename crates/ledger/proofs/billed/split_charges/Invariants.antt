@@ -1,8 +1,7 @@
 -- The invariant: the places passed are filled in.
 use mathlib.Core.Path.{◌≡◌}
-use Prim.Native.Nat.{ℕ, ◌-◌, ◌*◌, ◌≤◌}
+use Prim.Native.Nat.{ℕ}
 use lib.IntN.{ℤ}
-use Rattle.numbers.specs.Sizes.{sector_count}
 use Rattle.fixing.specs.Sector.{filled_places}
 use Rattle.fixing.specs.declared.sector.SectorCharges.{SectorCharges}
 use Rattle.ledger.specs.Ledger.{charge_in}
@@ -15,7 +14,4 @@ divided days before old new k = split_charge days before (charge_in old k) (char
 
 abbrev pub invariant-loop-k : goal.invariant-loop-k
 invariant-loop-k l =
-    (l.k ≤ l.n * sector_count) × (l.force ≡ filled_places l.k (either_present l.old l.new) (divided l.days l.before l.old l.new))
-
-abbrev pub decreases-loop-k : goal.decreases-loop-k
-decreases-loop-k l = l.n * sector_count - l.k
+    l.force ≡ filled_places l.k (either_present l.old l.new) (divided l.days l.before l.old l.new)

@@ -2,10 +2,10 @@
 use Rattle.ledger.specs.Fix.{in_force_length}
 use Rattle.ledger.proofs.fix.in_force_right.Goals as goal
 
-pub returns-then-is_interim : goal.returns-then-is_interim
+pub returns-in-Some : goal.returns-in-Some
 unfolding in_force_length
-returns-then-is_interim c = rw (c.if-is_interim.true, c.line_count.ensures)
+returns-in-Some c = rw (c.in-Some.is, c.line_count.ensures)
 
-pub returns : goal.returns
+pub returns-in-None : goal.returns-in-None
 unfolding in_force_length
-returns c = rw c.if-is_interim.false
+returns-in-None c = rw c.in-None.is

@@ -1,8 +1,8 @@
 -- The code is the definition.
-use mathlib.Core.Path.{refl}
+use Rattle.ledger.specs.Ledger.{next_month}
 use Rattle.ledger.specs.Turn.{fixing_turn}
 use Rattle.ledger.proofs.fix.in_turn.Goals as goal
 
 pub returns : goal.returns
 unfolding fixing_turn
-returns c = refl
+returns c = rw (c.any_settled.ensures, c.next_month.ensures)

@@ -1,14 +1,12 @@
 -- What each call hands back is worked from the parts of its fixing that are worked from energy.
 use mathlib.Core.Path.{◌≡◌, sym, ◌∙◌, ap, ap₂}
-use Rattle.numbers.specs.Refusal.{is_passed}
 use Rattle.std.specs.Prelude.{Ok, Err}
 use Rattle.fixing.specs.Fixing.{fixing_of}
 use Rattle.fixing.proofs.IndependenceLaws.{fixing_same}
 use Rattle.ledger.specs.Ledger.{fixed_ledger}
-use Rattle.ledger.specs.Fix.{FixingCall, fixing_verdict, accepted_answer, fixing_answer}
+use Rattle.ledger.specs.Fix.{FixingCall, fixing_verdict, accepted_values, fixing_answer}
 use Rattle.ledger.specs.Fix.{fixing_ledger, price_list, fixing_list, HandedBack, FixingAccepted}
 use Rattle.ledger.specs.declared.ledger.Ledger.{Ledger}
-use Rattle.ledger.proofs.CallLaws.{fixing_passed}
 use Rattle.ledger.proofs.FixLaws.{accepted_passed}
 use Rattle.ledger.proofs.fix.prices_independent_of_power.Goals as goal
 
@@ -17,7 +15,7 @@ module _ (ledger : Ledger) (call : FixingCall) (given : HandedBack) (h : FixingA
   verdict : fixing_verdict ledger call ≡ Ok tt
   verdict = accepted_passed ledger call given h.promise h.number
 
-  answered : given.answer ≡ accepted_answer (fixing_of ledger.n call.input).prices
+  answered : given.answer ≡ Ok (accepted_values (fixing_of ledger.n call.input).prices)
   unfolding fixing_answer
   answered = rw verdict at h.promise.answered
 
@@ -32,12 +30,9 @@ module _ (ledger : Ledger) (call : FixingCall) (given : HandedBack) (h : FixingA
 pub returns : goal.returns
 unfolding price_list
 returns c ledger one other same first second p q =
-    let alike =
-    fixing_same ledger.n one.input other.input same
-    (fixing_passed ledger one (ap is_passed (verdict ledger one first p))).passed
-    (fixing_passed ledger other (ap is_passed (verdict ledger other second q))).passed in
+    let alike = fixing_same ledger.n one.input other.input same in
     record {
-      answer = answered ledger one first p ∙ ap accepted_answer alike.prices ∙ sym (answered ledger other second q);
+      answer = answered ledger one first p ∙ ap (λ p. Ok (accepted_values p)) alike.prices ∙ sym (answered ledger other second q);
       ledger =
           booked ledger one first p
           ∙ ap₂ (fixed_ledger ledger) same.numbers alike.sectors

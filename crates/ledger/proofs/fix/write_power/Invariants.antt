@@ -1,5 +1,4 @@
 -- The invariant: the first i words are the averages.
-use Prim.Native.Nat.{◌-◌}
 use lib.ListN.{get_or, length}
 use Rattle.numbers.specs.Units.{no_power}
 use Rattle.numbers.proofs.ListLaws.{Written}
@@ -7,6 +6,3 @@ use Rattle.ledger.proofs.fix.write_power.Given as goal
 
 abbrev pub invariant-loop-i : goal.invariant-loop-i
 invariant-loop-i l = Written (λ k. (get_or l.averages k no_power).0) (length l.initial.power) l.power l.i
-
-abbrev pub decreases-loop-i : goal.decreases-loop-i
-decreases-loop-i l = length l.initial.power - l.i

@@ -1,5 +1,5 @@
 -- The invariant: the first k words are the definition's.
-use mathlib.Core.Path.{◌≡◌, ◌∙◌, ap}
+use mathlib.Core.Path.{refl, ◌≡◌, ◌∙◌, ap}
 use Prim.Native.Nat.{◌/◌, ◌%◌}
 use native.Mathlib.Omega.{arith}
 use lib.ListN.{get_or}
@@ -7,22 +7,22 @@ use lib.IntN.{ℤ, pos}
 use mir.Syntax.{w64}
 use mir.Val.{to_z, of_z}
 use mir.Facts.{to_z-of_z}
-use borrow.Author.Rules.{sfits_of}
+use borrow.Author.Rules.{rules, sfits_of}
 use Rattle.numbers.specs.Units.{no_price}
 use Rattle.numbers.proofs.ListLaws.{written_none, written_more, written_all}
 use Rattle.ledger.specs.Fix.{price_part, price_word}
 use Rattle.ledger.proofs.fix.write_prices.Goals as goal
 
 pub loop-k-init : goal.loop-k-init
-loop-k-init c = written_none _ _ _ c.requires.fact_2
+loop-k-init c = written_none _ _ _ refl
 
 pub price_part-requires : goal.price_part-requires
 price_part-requires c =
-    let small = c.requires.fact_3 in
+    let small = c.requires.small in
     record {
-      fact_1 = small.average (c.loop-k.k / 3);
-      fact_2 = small.final (c.loop-k.k / 3);
-      fact_3 = omega arith;
+      average_small = small.average (c.loop-k.k / 3);
+      last_small = small.final (c.loop-k.k / 3);
+      part_below = omega arith;
     }
 
 pub loop-k-preserved : goal.loop-k-preserved
@@ -31,7 +31,7 @@ loop-k-preserved c =
     let a = c.args in
     let i = c.loop-k.k / 3 in
     let unread : to_z w64 (of_z w64 (get_or a.charges i (pos 0))) ≡ get_or a.charges i (pos 0) = to_z-of_z {w = w64}
-    (sfits_of c.charge-1.given) in
+    (search rules) in
     written_more c.loop-k.invariant (omega arith)
     (to_z-of_z {w = w64} (sfits_of c.price_part.type_inv) ∙ c.price_part.ensures
     ∙ ap (λ (z : ℤ). price_part (get_or a.averages i no_price).0 (get_or a.finals i no_price).0 z (c.loop-k.k % 3)) unread)

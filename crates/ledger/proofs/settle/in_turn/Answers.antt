@@ -1,11 +1,12 @@
 -- Whether a month is settled picks the month that is due, as in the definition.
 use Rattle.ledger.specs.Turn.{settlement_turn}
 use Rattle.ledger.proofs.settle.in_turn.Goals as goal
+use Rattle.ledger.proofs.settle.in_turn.Goals.{then-any_settled, else-any_settled}
 
-pub returns-then-settled : goal.returns-then-settled
+pub returns : goal.returns
 unfolding settlement_turn
-returns-then-settled c = rw c.if-settled.true
-
-pub returns-else-settled : goal.returns-else-settled
-unfolding settlement_turn
-returns-else-settled c = rw c.if-settled.false
+returns c =
+    elim c.if-any_settled.branch [
+      | then-any_settled w ↦ rw (w.due-is, ← w.if-any_settled.ensures, w.next_month.ensures)
+      | else-any_settled w ↦ rw (w.due-is, ← w.if-any_settled.ensures)
+    ]

@@ -1,17 +1,17 @@
 -- The invariant: the first i words are the transfers.
+use mathlib.Core.Path.{refl}
 use native.Mathlib.Omega.{arith}
 use mir.Facts.{to_z-of_z}
-use borrow.Author.Rules.{sfits_of}
+use borrow.Author.Rules.{rules}
 use Rattle.numbers.proofs.ListLaws.{written_none, written_more, written_all}
 use mir.Syntax.{w64}
 use Rattle.ledger.proofs.settle.write_transfers.Goals as goal
 
 pub loop-i-init : goal.loop-i-init
-loop-i-init c = written_none _ _ _ c.requires.fact_2
+loop-i-init c = written_none _ _ _ refl
 
 pub loop-i-preserved : goal.loop-i-preserved
-loop-i-preserved c =
-    written_more c.loop-i.invariant (omega arith) (to_z-of_z {w = w64} (sfits_of c.struct_told-1.given.0.1))
+loop-i-preserved c = written_more c.loop-i.invariant (omega arith) (to_z-of_z {w = w64} (search rules))
 
 pub returns : goal.returns
 returns c = written_all c.loop-i.invariant (omega arith)

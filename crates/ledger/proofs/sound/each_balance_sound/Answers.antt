@@ -1,25 +1,19 @@
--- The invariant: the balances passed are sound.
-use native.Mathlib.Omega.{arith}
-use Rattle.numbers.proofs.BoolLaws.{told_true, told_false}
-use Rattle.numbers.proofs.TestLaws.{tested_none, tested_more, tested_fails, tested_all}
+-- The chain's answer is the definition's, distributor by distributor.
+use Rattle.std.proofs.Common.{rules}
+use borrow.Author.Tests.{tests}
+use mathlib.Core.Path.{refl, ◌∙◌}
+use Rattle.numbers.specs.Sizes.{most_distributors}
+use Rattle.std.proofs.lemmas.Iterator.{YieldsList-from_range}
+use Rattle.std.proofs.lemmas.Iterator.Search.{all_from_yields_List}
+use Rattle.numbers.proofs.ChainLaws.{all_ranged}
+use Rattle.ledger.specs.Ledger.{count_at}
 use Rattle.ledger.specs.Sound.{balance_sound, each_balance}
 use Rattle.ledger.proofs.sound.each_balance_sound.Goals as goal
 
-pub loop-i-init : goal.loop-i-init
-loop-i-init c = tested_none _ _
-
-pub returns-then-not-balance_sound : goal.returns-then-not-balance_sound
-unfolding each_balance balance_sound
-returns-then-not-balance_sound c =
-    tested_fails c.loop-i.invariant (omega arith)
-    (told_false c.balance_sound.ensures c.if-not-balance_sound.true-raw)
-
-pub loop-i-preserved : goal.loop-i-preserved
-unfolding balance_sound
-loop-i-preserved c =
-    tested_more c.loop-i.invariant (omega arith)
-    (told_true c.balance_sound.ensures c.if-not-balance_sound.false-raw)
-
 pub returns : goal.returns
-unfolding each_balance
-returns c = tested_all c.loop-i.invariant (omega arith)
+unfolding each_balance balance_sound
+returns c =
+    all_from_yields_List (balance_sound c.args.counts c.args.balances) _ _ _ c.all.ensures.ran
+    (YieldsList-from_range 0 most_distributors most_distributors (cc) refl)
+    (λ x b q k. search (rules, tests))
+    ∙ all_ranged most_distributors (balance_sound c.args.counts c.args.balances)

@@ -1,41 +1,37 @@
--- The invariant: the two flags tell whether a balance passed is above zero, and whether one is below.
-use mathlib.Core.Path.{◌≡◌, refl, sym, ◌∙◌, ap, ap₂}
-use mathlib.Core.Bool.{not, ◌&&◌, ◌||◌}
+-- The chains' answers are the definition's, distributor by distributor.
+use Rattle.std.proofs.Common.{rules}
+use borrow.Author.Tests.{tests}
+use mathlib.Core.Path.{◌≡◌, ◌∙◌, ap, ap₂}
+use mathlib.Core.Bool.{Bool, not, ◌&&◌}
 use native.Mathlib.Omega.{arith}
-use lib.IntN.{ℤ, pos}
+use lib.IntN.{pos}
 use lib.Signed.{lt_z}
-use mir.Syntax.{w64}
-use mir.Val.{to_z, of_z}
-use mir.Facts.{to_z-of_z}
-use borrow.Author.Rules.{sfits_of}
+use Rattle.std.proofs.lemmas.Iterator.{YieldsList-from_slice}
+use Rattle.std.proofs.lemmas.Iterator.Search.{any_from_yields_List}
 use Rattle.numbers.specs.Sizes.{most_distributors}
-use Rattle.numbers.specs.Bounded.{any_below}
+use Rattle.numbers.specs.Units.{no_money}
+use Rattle.numbers.specs.declared.units.Pesos.{Pesos}
 use Rattle.numbers.proofs.SignedLaws.{negative_is}
-use Rattle.numbers.proofs.TestLaws.{any_step}
-use Rattle.settlement.specs.Settlement.{one_sign}
+use Rattle.numbers.proofs.TestLaws.{any_same}
 use Rattle.settlement.specs.Month.{money_at}
+use Rattle.settlement.specs.Settlement.{one_sign}
+use Rattle.ledger.proofs.SoundLaws.{any_of}
 use Rattle.ledger.proofs.sound.one_sign.Goals as goal
-use Rattle.ledger.proofs.sound.one_sign.Invariants.{is_below}
-use Rattle.ledger.proofs.sound.one_sign.Invariants.{is_above}
 
-pub loop-i-init : goal.loop-i-init
-unfolding any_below
-loop-i-init c = (omega arith, refl, refl)
+is_above : Pesos → Bool
+is_above balance = lt_z (pos 0) balance.0
 
-pub loop-i-preserved : goal.loop-i-preserved
-loop-i-preserved c =
-    let balances = c.args.balances in
-    let i = c.loop-i.i in
-    let unread : to_z w64 (of_z w64 (money_at balances i)) ≡ money_at balances i = to_z-of_z {w = w64}
-    (sfits_of c.struct_told-in-loop-i-1.given.0.1) in (
-      omega arith,
-      ap₂ ◌||◌ c.loop-i.invariant.1 (ap (lt_z (pos 0)) unread) ∙ sym (any_step i (is_above balances)),
-      ap₂ ◌||◌ c.loop-i.invariant.2 (ap (λ (z : ℤ). lt_z z (pos 0)) unread ∙ negative_is _) ∙ sym
-          (any_step i (is_below balances)),
-    )
+is_below : Pesos → Bool
+is_below balance = lt_z balance.0 (pos 0)
 
 pub returns : goal.returns
-unfolding one_sign
+unfolding one_sign is_above is_below
 returns c =
-    let e : c.loop-i.i ≡ most_distributors = omega arith in
-    ap not (ap₂ ◌&&◌ (rw e at c.loop-i.invariant.1) (rw e at c.loop-i.invariant.2))
+    ap not (ap₂ ◌&&◌
+    (any_from_yields_List is_above _ _ _ c.any-above.ensures.ran (YieldsList-from_slice c.args.balances cc)
+    (λ x b q k. search (rules, tests))
+    ∙ any_of is_above c.args.balances no_money most_distributors (omega arith))
+    (any_from_yields_List is_below _ _ _ c.any-below.ensures.ran (YieldsList-from_slice c.args.balances cc)
+    (λ x b q k. search (rules, tests))
+    ∙ any_of is_below c.args.balances no_money most_distributors (omega arith)
+    ∙ any_same most_distributors _ _ (λ i p. negative_is (money_at c.args.balances i))))

@@ -1,22 +1,20 @@
--- The invariant: the counts passed are zero.
-use mathlib.Core.Path.{ap}
+-- The chain's answer is the definition's, index by index.
+use Rattle.std.proofs.Common.{rules}
+use borrow.Author.Tests.{tests}
 use mathlib.Core.Bool.{not}
+use mathlib.Core.Path.{◌∙◌}
 use native.Mathlib.Omega.{arith}
-use borrow.Author.Tests.{eq-eqb, ne_eqb}
-use Rattle.numbers.proofs.TestLaws.{searched_none, searched_more, searched_found, searched_all}
+use lib.Dec.{eqb}
+use Rattle.std.proofs.lemmas.Iterator.{YieldsList-from_slice}
+use Rattle.std.proofs.lemmas.Iterator.Search.{any_from_yields_List}
+use Rattle.numbers.specs.Sizes.{most_distributors}
+use Rattle.ledger.proofs.SoundLaws.{any_of}
 use Rattle.ledger.specs.Ledger.{any_settled}
 use Rattle.ledger.proofs.ledger.Ledger.any_settled.Goals as goal
 
-pub loop-i-init : goal.loop-i-init
-loop-i-init c = searched_none _ _
-
-pub returns-then-self-i-ne0 : goal.returns-then-self-i-ne0
-unfolding any_settled
-returns-then-self-i-ne0 c = searched_found c.loop-i.invariant (omega arith) (ap not (ne_eqb _ 0 c.if-self-i-ne0.true))
-
-pub loop-i-preserved : goal.loop-i-preserved
-loop-i-preserved c = searched_more c.loop-i.invariant (omega arith) (ap not (eq-eqb _ 0 c.if-self-i-ne0.false))
-
 pub returns : goal.returns
 unfolding any_settled
-returns c = searched_all c.loop-i.invariant (omega arith)
+returns c =
+    any_from_yields_List (λ x. not (eqb x 0)) _ _ _ c.any.ensures.ran (YieldsList-from_slice c.args.self.counts cc)
+    (λ x b q k. search (rules, tests))
+    ∙ any_of (λ x. not (eqb x 0)) c.args.self.counts 0 most_distributors (omega arith)

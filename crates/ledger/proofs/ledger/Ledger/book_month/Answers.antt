@@ -4,4 +4,4 @@ use Rattle.ledger.proofs.ledger.Ledger.book_month.Goals as goal
 
 pub returns : goal.returns
 unfolding settled_ledger
-returns c = rw c.raise_counts-raised.ensures
+returns c = rw c.raise_counts-self.ensures
