@@ -15,8 +15,8 @@ placed c =
     let f = c.requires in
     rw c.mean_place-place.ensures (place_below _ _ _ f.series f.lag f.lag_most f.window)
 
-pub mean_place-place-requires-clause-fact_4 : goal.mean_place-place-requires-clause-fact_4
-mean_place-place-requires-clause-fact_4 c = (window_size _ c.requires.window).1
+pub mean_place-place-requires-clause-narrow : goal.mean_place-place-requires-clause-narrow
+mean_place-place-requires-clause-narrow c = (window_size _ c.requires.window).1
 
 pub offset_bounds-self-place : goal.offset_bounds-self-place
 offset_bounds-self-place c = omega (arith, placed c)
