@@ -46,7 +46,8 @@ row_copied words s e h =
     ext_get_or 0 _ _
     (omega (arith, long, list_length (λ k. get_or words (s * month_count + k) 0) month_count))
     (λ k p. let q : k < month_count = omega (arith, long) in
-    get_or-between words (s * month_count) _ k 0 (omega arith) ∙ sym (list_at (λ i. get_or words (s * month_count + i) 0) month_count 0 k q))
+    get_or-between words (s * month_count) _ k 0 (omega arith)
+    ∙ sym (list_at (λ i. get_or words (s * month_count + i) 0) month_count 0 k q))
 
 pick_most : (b : Bool) (x m : ℕ) → x ≤ m → cond b x 0 ≤ m
 pick_most true x m h = h

@@ -37,8 +37,8 @@ pub fn mean_place(series: u64, lag: u64, window: u64) -> usize
 }
 
 // The mean of a window of a series' row, in millionths, or 0 where a month of it is missing: the window lies whole in
-// the table, and no value of it is zero. The 0 stays: it is what 01 has for a missing month, no mean of published values
-// is 0, and the list of all means would hold 180 options.
+// the table, and no value of it is zero. The 0 stays: it is the definition's (mean_or_zero), no mean of published
+// values is 0 (mean_least), and callers get 180 means in one list of words.
 fn mean(row: &[u64; MONTHS], first: u64, month: u64, lag: u64, window: u64) -> u64
     requires small { ValuesWithin most_value row.now }
     requires window { WindowInRange first lag window }

@@ -1,12 +1,11 @@
 -- Class example 9 passes cause 12; and bounds of everything on the way to a collected amount, where readings and loss
 -- factors pass their test and each charge is within ±10,500,000. Assumes nothing.
-use mathlib.Core.Path.{◌≡◌, refl, ap}
+use mathlib.Core.Path.{◌≡◌, refl}
 use mathlib.Core.Bool.{Bool, true, false, ◌&&◌}
 use mathlib.Core.List.{List}
-use Prim.Native.Nat.{ℕ, ◌+◌, ◌*◌, ◌≤◌, ◌<◌}
+use Prim.Native.Nat.{ℕ, ◌*◌, ◌≤◌, ◌<◌}
 use native.Mathlib.Omega.{arith}
 use native.Mathlib.Nat.{mul-le-mul, mul-le-mul_right}
-use lib.ListN.{get_or}
 use lib.IntN.{ℤ, pos, sub_ℕ, nat_abs, ◌+ℤ◌, ◌*ℤ◌}
 use borrow.Author.Tests.{leb-true}
 use Rattle.numbers.specs.Rounding.{half_up}

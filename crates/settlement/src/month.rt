@@ -52,7 +52,9 @@ pub fn positions_in_range(n: usize, positions: [Pesos; MOST_DISTRIBUTORS]) -> bo
     requires { n ≤ most_distributors }
     ensures { result ≡ positions_in_range n (money_at positions) }
 {
-    positions[..n].iter().all(|position| within_size(position.0, MOST_POSITION))
+    positions[..n]
+        .iter()
+        .all(|position| within_size(position.0, MOST_POSITION))
 }
 
 // The sizes of one side: of those who are owed, with a position below zero, or of those who owe.

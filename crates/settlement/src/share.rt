@@ -47,10 +47,7 @@ fn divide_side(
         divisions[i] = division;
         left -= division.quotient;
     }
-    DividedSide {
-        divisions,
-        left,
-    }
+    DividedSide { divisions, left }
 }
 
 // How many come before i: those with a larger remainder, and the lower ones with the same.

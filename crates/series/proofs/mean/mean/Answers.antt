@@ -57,7 +57,8 @@ returns-then-value-eq0 c =
     let a = c.args in
     sym
     (mean_missing a.row.now _ _ _ _
-    (any_holds a.window (λ j. eqb (term_value a.row.now a.first a.month a.lag j) 0) (k (goal.at.returns-then-value-eq0 c).In-loop-k) (omega arith)
+    (any_holds a.window (λ j. eqb (term_value a.row.now a.first a.month a.lag j) 0)
+    (k (goal.at.returns-then-value-eq0 c).In-loop-k) (omega arith)
     (eq-eqb _ _ (sym (taken (goal.at.returns-then-value-eq0 c).In-loop-k) ∙ c.if-value-eq0.true))))
 
 pub overflow_add-sum : goal.overflow_add-sum
@@ -74,7 +75,8 @@ overflow_add-sum c =
 pub loop-k-preserved : goal.loop-k-preserved
 loop-k-preserved c =
     let a = c.args in (
-      any_more (k (goal.at.loop-k-preserved c).In-loop-k) (λ j. eqb (term_value a.row.now a.first a.month a.lag j) 0) c.loop-k.invariant.0
+      any_more (k (goal.at.loop-k-preserved c).In-loop-k) (λ j. eqb (term_value a.row.now a.first a.month a.lag j) 0)
+          c.loop-k.invariant.0
           (ne_eqb _ _ (λ e. c.if-value-eq0.false (taken (goal.at.loop-k-preserved c).In-loop-k ∙ e))),
       rw sum_step (omega (arith, taken (goal.at.loop-k-preserved c).In-loop-k)),
     )

@@ -22,7 +22,8 @@ loop-turn-preserved c =
     (c.mean.ensures ∙ worked 0 _ (omega arith) (omega arith)) in
     let two = rw second at
     (written_more one (omega arith) (c.mean-in-loop-turn.ensures ∙ worked 1 _ (omega arith) (omega arith))) in
-    rw third at (written_more two (omega arith) (c.mean-in-loop-turn-2.ensures ∙ worked 2 _ (omega arith) (omega arith)))
+    rw third at
+    (written_more two (omega arith) (c.mean-in-loop-turn-2.ensures ∙ worked 2 _ (omega arith) (omega arith)))
 
 pub returns : goal.returns
 unfolding mean_list

@@ -1,8 +1,5 @@
 -- The invariant: the readings and loss factors of each distributor passed are allowed.
-use mathlib.Core.Path.{ap₂}
-use mathlib.Core.Bool.{◌&&◌}
 use native.Mathlib.Omega.{arith}
-use Rattle.numbers.proofs.BoolLaws.{told_true, told_false}
 use Rattle.numbers.proofs.TestLaws.{tested_none, tested_more, tested_fails, tested_all}
 use Rattle.settlement.specs.Amount.{billing_in_range}
 use Rattle.settlement.proofs.amount.billing_in_range.Goals as goal
@@ -14,12 +11,12 @@ pub returns-then-not-allowed : goal.returns-then-not-allowed
 unfolding billing_in_range
 returns-then-not-allowed c =
     tested_fails c.loop-i.invariant (omega arith)
-    (told_false (ap₂ ◌&&◌ c.readings_allowed.ensures c.losses_allowed.ensures) c.if-not-allowed.true-raw)
+    (cc)
 
 pub loop-i-preserved : goal.loop-i-preserved
 loop-i-preserved c =
     tested_more c.loop-i.invariant (omega arith)
-    (told_true (ap₂ ◌&&◌ c.readings_allowed.ensures c.losses_allowed.ensures) c.if-not-allowed.false-raw)
+    (cc)
 
 pub returns : goal.returns
 unfolding billing_in_range

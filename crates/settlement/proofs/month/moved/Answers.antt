@@ -30,7 +30,8 @@ module _ (c : After-difference-transfer) where
 
   sum : code ≡ balance c.loop-i.i
   sum =
-      sum_bits (money_at c.args.positions c.loop-i.i) _ _ _ (size_fits _ (omega (arith, c.requires.within.within c.loop-i.i (omega arith))))
+      sum_bits (money_at c.args.positions c.loop-i.i) _ _ _
+      (size_fits _ (omega (arith, c.requires.within.within c.loop-i.i (omega arith))))
       (sfits_of c.difference-transfer.type_inv)
       refl c.difference-transfer.ensures
 
@@ -46,21 +47,14 @@ module _ (c : After-difference-transfer) where
 pub loop-i-init : goal.loop-i-init
 loop-i-init c = (money_none _, money_none _)
 
-pub difference-transfer-requires : goal.difference-transfer-requires
-difference-transfer-requires c =
-    omega (arith, c.requires.paid.within c.loop-i.i (omega arith), c.requires.received.within c.loop-i.i (omega arith))
-
-pub overflow_add-balances : goal.overflow_add-balances
-overflow_add-balances c = fits (goal.at.overflow_add-balances c).After-difference-transfer
-
 pub loop-i-preserved : goal.loop-i-preserved
 loop-i-preserved c =
     let d = (goal.at.loop-i-preserved c).After-difference-transfer in (
-  money_next (balance d) c.loop-i.i c.loop-i.balances _ (omega arith) c.loop-i.invariant.0
-      (to_z-of_z (fits d) ∙ sum d),
-  money_next (transfer d) c.loop-i.i c.loop-i.transfers _ (omega arith) c.loop-i.invariant.1
-      (to_z-of_z {w = w64} (sfits_of c.difference-transfer.type_inv) ∙ c.difference-transfer.ensures),
-)
+      money_next (balance d) c.loop-i.i c.loop-i.balances _ (omega arith) c.loop-i.invariant.0
+          (to_z-of_z (fits d) ∙ sum d),
+      money_next (transfer d) c.loop-i.i c.loop-i.transfers _ (omega arith) c.loop-i.invariant.1
+          (to_z-of_z {w = w64} (sfits_of c.difference-transfer.type_inv) ∙ c.difference-transfer.ensures),
+    )
 
 pub returns : goal.returns
 unfolding moved_month

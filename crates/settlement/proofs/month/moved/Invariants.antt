@@ -1,6 +1,5 @@
 -- The invariant: the balances and transfers of those passed are written. A position and a transfer together fit.
 use mathlib.Core.Path.{◌≡◌}
-use Prim.Native.Nat.{◌≤◌}
 use lib.ListN.{get_or}
 use lib.IntN.{sub_ℕ, ◌+ℤ◌}
 use Rattle.settlement.specs.Month.{money_at, money_below}

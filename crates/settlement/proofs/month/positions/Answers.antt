@@ -13,7 +13,6 @@ use Rattle.numbers.proofs.SignedLaws.{size_fits, is_fits, sum_bits}
 use Rattle.settlement.proofs.AmountLaws.{amount_size}
 use Rattle.settlement.proofs.MonthLaws.{money_none, money_next, position_size}
 use native.Mathlib.Omega.{arith}
-use borrow.Author.Rules.{sfits_of}
 use Rattle.settlement.proofs.month.positions.Goals as goal
 use Rattle.settlement.proofs.month.positions.Goals.{After-collected_amount-amount}
 
@@ -32,7 +31,8 @@ module _ (c : After-collected_amount-amount) where
   sum : code ≡ position c.loop-i.i
   unfolding position_of
   sum =
-      sum_bits (money_at c.args.balances c.loop-i.i) _ _ _ (size_fits _ (omega (arith, c.requires.within.within c.loop-i.i (omega arith))))
+      sum_bits (money_at c.args.balances c.loop-i.i) _ _ _
+      (size_fits _ (omega (arith, c.requires.within.within c.loop-i.i (omega arith))))
       (size_fits _ (omega (
         arith,
         ap (λ (m : Pesos). nat_abs m.0) c.collected_amount-amount.ensures,

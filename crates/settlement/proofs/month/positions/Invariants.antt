@@ -1,6 +1,5 @@
 -- The invariant: the positions of those passed are written. A balance and an amount together fit.
 use mathlib.Core.Path.{◌≡◌}
-use Prim.Native.Nat.{◌≤◌}
 use Rattle.settlement.specs.Amount.{collected_amount}
 use Rattle.settlement.specs.Settlement.{position_of}
 use Rattle.settlement.specs.Month.{money_at, money_below}

@@ -1,5 +1,5 @@
 -- The first n positions are tested, each as it is read back from its bits.
-use mathlib.Core.Path.{◌≡◌, ◌∙◌}
+use mathlib.Core.Path.{◌∙◌}
 use native.Mathlib.Omega.{arith}
 use borrow.Author.Tests.{tests}
 use lib.ListN.{take}

@@ -13,7 +13,6 @@ use Rattle.settlement.specs.Settlement.{owing, owed, side_size}
 use Rattle.settlement.specs.Month.{money_at, sizes_below}
 use Rattle.numbers.proofs.SignedLaws.{size_fits, part_size, part_none}
 use native.Mathlib.Omega.{arith}
-use borrow.Author.Rules.{sfits_of}
 use Rattle.settlement.proofs.month.side_sizes.Goals as goal
 use Rattle.settlement.proofs.month.side_sizes.Goals.{After-is_negative}
 use Rattle.settlement.proofs.month.side_sizes.Goals.{then-is_negative-negative, else-is_negative-negative}
@@ -36,28 +35,18 @@ pub loop-i-init : goal.loop-i-init
 unfolding sizes_below
 loop-i-init c = filled_none most_distributors 0 _
 
-pub magnitude-requires : goal.magnitude-requires
-magnitude-requires c =
-    rw (unread (goal.at.magnitude-requires c).After-is_negative)
-    (omega (arith, c.requires.within c.loop-i.i (omega arith)))
-
 pub loop-i-preserved : goal.loop-i-preserved
 unfolding sizes_below side_size owing owed
 loop-i-preserved c =
     let d = (goal.at.loop-i-preserved c).After-is_negative in
-      elim c.if-is_negative-negative.branch [
-        | then-is_negative-negative w ↦
-            w.sizes-is
-            ∙ filled_next most_distributors 0 c.loop-i.i (size d) c.loop-i.sizes _ (omega arith) c.loop-i.invariant
-            (w.magnitude.ensures ∙ ap nat_abs (unread d)
-            ∙ part_size c.args.negative (position d) (tested d ∙ w.if-is_negative-negative.true))
-        | else-is_negative-negative w ↦
-            w.sizes-is ∙ c.loop-i.invariant
-            ∙ filled_skip most_distributors 0 c.loop-i.i (size d)
-            (part_none c.args.negative (position d) (tested d ∙ w.if-is_negative-negative.false))
-      ]
-
-pub returns : goal.returns
-returns c =
-    let e : c.loop-i.i ≡ c.args.n = omega arith in
-    rw e at c.loop-i.invariant
+    elim c.if-is_negative-negative.branch [
+      | then-is_negative-negative w ↦
+          w.sizes-is
+          ∙ filled_next most_distributors 0 c.loop-i.i (size d) c.loop-i.sizes _ (omega arith) c.loop-i.invariant
+          (w.magnitude.ensures ∙ ap nat_abs (unread d)
+          ∙ part_size c.args.negative (position d) (tested d ∙ w.if-is_negative-negative.true))
+      | else-is_negative-negative w ↦
+          w.sizes-is ∙ c.loop-i.invariant
+          ∙ filled_skip most_distributors 0 c.loop-i.i (size d)
+          (part_none c.args.negative (position d) (tested d ∙ w.if-is_negative-negative.false))
+    ]

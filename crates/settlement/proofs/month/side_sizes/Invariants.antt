@@ -1,6 +1,5 @@
 -- The invariant: the sizes of those passed are written, 0 for those of the other side.
 use mathlib.Core.Path.{◌≡◌}
-use Prim.Native.Nat.{◌≤◌}
 use Rattle.settlement.specs.Settlement.{side_size}
 use Rattle.settlement.specs.Month.{money_at, sizes_below}
 use Rattle.settlement.proofs.month.side_sizes.Given as goal

@@ -27,10 +27,6 @@ returns-then-transferred-total c =
 pub loop-i-init : goal.loop-i-init
 loop-i-init c = filled_none most_distributors 0 _
 
-pub rank_of-requires : goal.rank_of-requires
-rank_of-requires c =
-    omega (arith, c.requires.side.few)
-
 -- a turn: the floor and the rank at hand, and the pesos left
 module _ (r : After-rank_of) where
   abbrev n : ℕ

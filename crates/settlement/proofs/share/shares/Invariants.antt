@@ -1,7 +1,6 @@
 -- A side that is transferred whole has its sizes for shares. The invariant of any other: the shares of those passed are
 -- written.
 use mathlib.Core.Path.{◌≡◌}
-use Prim.Native.Nat.{◌≤◌}
 use lib.ListN.{get_or}
 use Rattle.numbers.specs.Sizes.{most_distributors}
 use Rattle.numbers.specs.Bounded.{filled_below}

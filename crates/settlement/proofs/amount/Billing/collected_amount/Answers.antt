@@ -53,7 +53,8 @@ module _ (c : After-energy_with_losses) where
   product : to_z w64 (of_z w64 charge) *ℤ to_z w64 (of_z w64 c.energy_with_losses.result)
       ≡ f d c.loop-s.s
   product =
-      product_bits charge c.energy_with_losses.result charge _ (sfits_of c.charge-1.given)
+      product_bits charge c.energy_with_losses.result charge _
+      (size_fits charge (omega (arith, c.requires.billed.bounded c.args.i c.loop-s.s c.requires.known under)))
       (sfits_of c.energy_with_losses.type_inv) refl c.energy_with_losses.ensures
 
   kept : c.loop-s.sum-bits ≡ of_z w64 (signed_sum_below c.loop-s.s (f d))

@@ -138,17 +138,8 @@ difference-low-requires c =
 pub overflow_mul-high_loss : goal.overflow_mul-high_loss
 overflow_mul-high_loss c = omega (arith, most c)
 
-pub difference-requires : goal.difference-requires
-difference-requires c = omega (arith, most c)
-
 pub overflow_mul-carried : goal.overflow_mul-carried
 overflow_mul-carried c = high_fits c
-
-pub overflow_mul-high_loss-2 : goal.overflow_mul-high_loss-2
-overflow_mul-high_loss-2 c = omega (arith, both (goal.at.overflow_mul-high_loss-2 c).After-low_loss-low_loss)
-
-pub difference-requires-2 : goal.difference-requires-2
-difference-requires-2 c = omega (arith, both (goal.at.difference-requires-2 c).After-low_loss-low_loss)
 
 pub overflow_mul-carried-2 : goal.overflow_mul-carried-2
 overflow_mul-carried-2 c = low_fits c
