@@ -30,7 +30,7 @@ pub(crate) const WHOLE_WEIGHT: u64 = 10000;
 // The greatest power price in US$, of every step.
 pub(crate) const MOST_POWER_PRICE: u64 = 100000000;
 
-#[derive(Clone, Copy)]
+#[derive(Clone, Copy, PartialEq, Eq, Default)]
 pub struct Term {
     pub series: u64,
     pub weight: u64,
