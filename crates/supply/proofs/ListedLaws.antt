@@ -1,12 +1,17 @@
 -- The list of all means says of a term what the table says: its mean, and by a 0 that a month is missing. So a search
 -- and prices worked from the list are those of the table. Assumes nothing.
-use mathlib.Core.Path.{◌≡◌, ◌∙◌, ap, ap₂}
-use mathlib.Core.Bool.{false}
+use mathlib.Core.Path.{◌≡◌, refl, sym, ◌∙◌, ap, ap₂}
+use mathlib.Core.Bool.{Bool, false, ◌||◌}
 use mathlib.Core.List.{List, []}
 use Rattle.std.specs.Prelude.{None}
-use Prim.Native.Nat.{ℕ, ◌≤◌, ◌<◌}
+use Prim.Native.Nat.{ℕ, zero, suc, ◌≤◌, ◌<◌}
+use native.Mathlib.Numerals.{add-one}
+use native.Mathlib.Omega.{arith}
 use lib.Dec.{eqb}
-use lib.ListN.{get_or}
+use lib.ListN.{length, get_or, take}
+use lib.Seq.{take_all}
+use Rattle.std.specs.List.{list_any}
+use Rattle.std.proofs.lemmas.List.Folds.{list_any_more}
 use Rattle.numbers.specs.Bounded.{any_below}
 use Rattle.numbers.specs.Required.{ValuesWithin}
 use Rattle.numbers.specs.Units.{no_price, no_power}
@@ -30,6 +35,19 @@ use Rattle.supply.specs.declared.line.Term.{Term}
 use Rattle.supply.specs.declared.market.FixingNumbers.{FixingNumbers}
 use Rattle.supply.proofs.MonthLaws.{EveryTerm, never_missing, none_missing, missing_same}
 use Rattle.supply.proofs.PriceLaws.{indexed_same, price_same, power_same, allowed_same}
+
+-- a test of any element of a list is one of any index below its length
+module _ {A : Type 0} (test : A → Bool) (list : List A) (empty : A) where
+  any_taken : (k : ℕ) → k ≤ length list → list_any test (take k list) ≡ any_below k (λ i. test (get_or list i empty))
+  unfolding any_below
+  any_taken zero p = refl
+  any_taken (suc k) p =
+      ap (λ n. list_any test (take n list)) (sym (add-one k))
+      ∙ list_any_more test list k empty p
+      ∙ ap (λ b. b || test (get_or list k empty)) (any_taken k (omega arith))
+
+  pub any_listed : list_any test list ≡ any_below (length list) (λ k. test (get_or list k empty))
+  any_listed = ap (list_any test) (sym (take_all (length list) list (omega arith))) ∙ any_taken (length list) (omega arith)
 
 -- a mean of the list is at most that of the top value
 pub listed_most : (means : List ℕ) → ValuesWithin most_mean means → (term : Term) → listed_mean means term ≤ most_mean

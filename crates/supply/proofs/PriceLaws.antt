@@ -2,27 +2,25 @@
 -- leaves 64 bits; and what a line that passes has: indexed and purchase in 1 to 1,000,000, reference in 1,000 to
 -- 2,000,000, of power 1 to 100,000,000; and which price it takes. Assumes nothing.
 use mathlib.Core.Path.{◌≡◌, refl, sym, ◌∙◌, ap, ap₂}
-use mathlib.Core.Bool.{Bool, true, false, cond, not, ◌&&◌, true≢false}
+use mathlib.Core.Bool.{Bool, true, false, cond, ◌&&◌, and-false}
 use mathlib.Core.List.{List}
-use Rattle.std.specs.Prelude.{Option, Some, None, Ok, Err}
+use Rattle.std.specs.Prelude.{Option, Some, None, Ok, Err, IfSome}
+use Rattle.std.proofs.lemmas.Option.{none-some, cond_some}
 use Prim.Native.Nat.{ℕ, ◌*◌, ◌≤◌, ◌<◌}
 use native.Mathlib.Omega.{arith}
 use native.Mathlib.Nat.{mul-le-mul}
-use native.Mathlib.Decide.{dec_lt}
 use lib.Dec.{leb, ltb, eqb}
 use lib.ListN.{length, get_or}
-use borrow.Author.Tests.{lt-ltb, le-ltb, eq-eqb, ne_eqb}
+use borrow.Author.Tests.{lt-ltb, le-ltb}
 use Rattle.numbers.specs.Required.{ValuesWithin}
 use Rattle.numbers.specs.Rounding.{half_up}
-use Rattle.numbers.specs.Bounded.{filled_below}
-use Rattle.numbers.specs.Units.{between, least_price, most_price, checked_price, no_power}
+use Rattle.numbers.specs.Bounded.{first_below}
+use Rattle.numbers.specs.Units.{between, least_price, most_price, checked_price}
 use Rattle.numbers.specs.declared.units.PesoPrice.{PesoPrice}
-use Rattle.numbers.specs.declared.units.PowerPrice.{PowerPrice}
-use Rattle.numbers.proofs.BoolLaws.{and_right, or_of}
-use Rattle.numbers.proofs.FirstLaws.{first_none}
-use Rattle.numbers.proofs.ListLaws.{filled_at, filled_same}
+use Rattle.numbers.proofs.BoolLaws.{and_left, and_right, or_of}
+use Rattle.numbers.proofs.FirstLaws.{first_none, first_is}
+use Rattle.numbers.proofs.ListLaws.{filled_at}
 use Rattle.numbers.proofs.CheckLaws.{Told, AllTold, none_told, met_told, check_told}
-use Rattle.numbers.proofs.TestLaws.{any_same}
 use Rattle.numbers.specs.declared.refusal.Refusal.TheVariants.{OutOfBounds, NoLineMoved}
 use Rattle.numbers.specs.Checks.{verdict_of}
 use Rattle.numbers.proofs.UnitLaws.{between_low, between_high}
@@ -32,18 +30,18 @@ use Rattle.series.specs.Required.{most_mean}
 use Rattle.supply.specs.Line.{most_lines, most_terms, most_power_price, power_term, term_places, line_count, line_of}
 use Rattle.supply.specs.Line.{term_of, term_used}
 use Rattle.supply.specs.Price.{ratio_of, term_ratio, weighted_ratio, index_factor, indexed_of, line_indexed}
-use Rattle.supply.specs.Price.{most_index_factor, indexed_within, purchase_of, power_peso_of, power_indexed}
-use Rattle.supply.specs.Price.{power_purchase, power_allowed, line_power, power_price, power_list}
+use Rattle.supply.specs.Price.{most_index_factor, indexed_within, power_peso_of, power_indexed}
+use Rattle.supply.specs.Price.{power_purchase, power_allowed, line_power, power_price}
 use Rattle.supply.specs.Price.{price_in_force, moved, price_taken}
 use Rattle.supply.specs.Price.{line_purchase, line_reference, indexed_allowed, reference_answer, price_answer}
 use Rattle.supply.specs.Price.{answer_at, beyond_at, beyond_in, first_beyond, out_of_bounds_at, bounds_check}
-use Rattle.supply.specs.Price.{any_moved, any_line_moved, price_checks, price_or, reference_price}
-use Rattle.supply.specs.Listed.{within_or_zero, indexed_word, indexed_or_zero, indexed_list, indexed_reference}
-use Rattle.supply.specs.Listed.{power_or_zero, power_words}
-use Rattle.supply.specs.Required.{TermFacts, LineFacts, most_power_in_pesos}
+use Rattle.supply.specs.Price.{any_line_moved, price_checks, price_or, reference_price, worked_prices, bounded_prices}
+use Rattle.supply.specs.Listed.{price_within, indexed_by, indexed_answer, power_answer, line_words, price_words}
+use Rattle.supply.specs.Required.{TermFacts, most_power_in_pesos}
 use Rattle.supply.specs.declared.line.Term.{Term}
 use Rattle.supply.specs.declared.line.Line.{Line}
 use Rattle.supply.specs.declared.market.FixingNumbers.{FixingNumbers}
+use Rattle.supply.specs.declared.price.LineWords.{LineWords}
 
 module _ (mean : Term → ℕ) (term : Term) (small : mean term ≤ most_mean) where
   -- a ratio: at most the top value in millionths, since the base value is at least 1
@@ -68,44 +66,100 @@ pub own_used : (line : Line) (k : ℕ) → ltb k line.term_count ≡ true → te
 unfolding term_used
 own_used line k h = rw h
 
--- a price as a word: itself where it lies in its bounds, so at least 1, and else 0
-module _ (most price : ℕ) where
-  pub word_within : between 1 most price ≡ true → within_or_zero most price ≡ price
-  unfolding within_or_zero
-  word_within h = rw h
+-- a price where a test holds: none where it does not
+pub none_where : {A : Type 0} (b : Bool) (x : A) → cond b (Some x) None ≡ None → b ≡ false
+none_where true x h = absurd (none-some x (sym h))
+none_where false x h = refl
 
-  word_beyond : between 1 most price ≡ false → within_or_zero most price ≡ 0
-  unfolding within_or_zero
-  word_beyond h = rw h
+-- a price within its bounds
+pub within_most : (most price x : ℕ) → price_within most price ≡ Some x → x ≤ most
+unfolding price_within
+within_most most price x h =
+    let p = cond_some (between 1 most price) price x h in
+    rw p.1 at (between_high 1 most price p.0)
 
-  -- so the word tells which
-  pub word_tells : eqb (within_or_zero most price) 0 ≡ not (between 1 most price)
-  word_tells = go (between 1 most price) refl
-    where
-      go : (b : Bool) → between 1 most price ≡ b → eqb (within_or_zero most price) 0 ≡ not b
-      go true e =
-          ne_eqb (within_or_zero most price) 0
-          (λ z. omega (arith, word_within e, between_low 1 most price e))
-      go false e = eq-eqb _ 0 (word_beyond e)
+-- a base price indexed by a factor
+indexed_bound : (most base factor : ℕ) → indexed_within most base factor ≡ true → indexed_of base factor ≤ most
+unfolding indexed_within
+indexed_bound most base factor h =
+    between_high 1 most (indexed_of base factor) (and_right (leb factor most_index_factor) _ h)
 
--- a base price indexed by a factor, as a word
-module _ (most base factor : ℕ) where
-  pub indexed_bounds : indexed_within most base factor ≡ true →
-      (1 ≤ indexed_of base factor) × (indexed_of base factor ≤ most)
-  unfolding indexed_within
-  indexed_bounds h =
-      let b = and_right (leb factor most_index_factor) (between 1 most (indexed_of base factor)) h in
-      (between_low 1 most (indexed_of base factor) b, between_high 1 most (indexed_of base factor) b)
-
-  pub indexed_most : indexed_word most base factor ≤ most
-  unfolding indexed_word
-  indexed_most = go (indexed_within most base factor) refl
-    where
-      go : (b : Bool) → indexed_within most base factor ≡ b → cond b (indexed_of base factor) 0 ≤ most
-      go true e = (indexed_bounds e).1
-      go false e = omega arith
+pub indexed_most : (most base factor x : ℕ) → indexed_by most base factor ≡ Some x → x ≤ most
+unfolding indexed_by
+indexed_most most base factor x h =
+    let p = cond_some (indexed_within most base factor) (indexed_of base factor) x h in
+    rw p.1 at (indexed_bound most base factor p.0)
 
 module _ (mean : Term → ℕ) (line : Line) where
+  abbrev ratio : ℕ
+  ratio = term_ratio mean (term_of line power_term)
+
+  -- the power purchase price is worked from the indexed one
+  pub power_stopped : indexed_by most_power_price line.power_base_price ratio ≡ None → power_answer mean line ≡ None
+  unfolding power_answer power_allowed indexed_by
+  power_stopped h = rw (none_where (indexed_within most_power_price line.power_base_price ratio) _ h)
+
+  pub power_worked : (x : ℕ) → indexed_by most_power_price line.power_base_price ratio ≡ Some x →
+      price_within most_power_price (line_purchase line x) ≡ power_answer mean line
+  unfolding power_answer power_allowed power_purchase power_indexed indexed_by price_within
+  power_worked x h =
+      let p = cond_some (indexed_within most_power_price line.power_base_price ratio) _ x h in
+      rw (p.0, p.1)
+
+  power_bound : power_allowed mean line ≡ true → power_purchase mean line ≤ most_power_price
+  unfolding power_allowed
+  power_bound h =
+      between_high 1 most_power_price _
+      (and_right (indexed_within most_power_price line.power_base_price ratio) _ h)
+
+  -- a line's words: none where either price is none, else both
+  pub words_unindexed : indexed_answer mean line ≡ None → line_words mean line ≡ None
+  unfolding line_words indexed_answer indexed_by indexed_allowed
+  words_unindexed h = rw (none_where (indexed_within 1000000 line.base_price (index_factor mean line)) _ h)
+
+  pub words_unbought : power_answer mean line ≡ None → line_words mean line ≡ None
+  unfolding line_words power_answer
+  words_unbought h = rw (none_where (power_allowed mean line) _ h, and-false (indexed_allowed mean line))
+
+  pub words_both : (indexed purchase : ℕ) → indexed_answer mean line ≡ Some indexed →
+      power_answer mean line ≡ Some purchase →
+      Some (record { indexed = indexed; purchase = purchase }) ≡ line_words mean line
+  unfolding line_words indexed_answer indexed_by indexed_allowed line_indexed power_answer
+  words_both indexed purchase h g =
+      let p = cond_some (indexed_within 1000000 line.base_price (index_factor mean line)) _ indexed h in
+      let q = cond_some (power_allowed mean line) _ purchase g in
+      rw (p.0, q.0, p.1, q.1)
+
+  allowed_bound : indexed_allowed mean line ≡ true → line_indexed mean line ≤ 1000000
+  unfolding indexed_allowed line_indexed
+  allowed_bound h = indexed_bound 1000000 line.base_price (index_factor mean line) h
+
+  -- where it has them, both prices are allowed
+  pub record Worded (words : LineWords) : Type 0 where
+    pub allowed : indexed_allowed mean line ≡ true
+    pub power : power_allowed mean line ≡ true
+    pub indexed : words.indexed ≡ line_indexed mean line
+    pub indexed_most : words.indexed ≤ 1000000
+    pub purchase : words.purchase ≡ power_purchase mean line
+    pub purchase_most : words.purchase ≤ most_power_price
+
+  pub worded : (words : LineWords) → line_words mean line ≡ Some words → Worded words
+  unfolding line_words
+  worded words h =
+      let p = cond_some (indexed_allowed mean line && power_allowed mean line) _ words h in
+      let allowed = and_left (indexed_allowed mean line) _ p.0 in
+      let power = and_right (indexed_allowed mean line) _ p.0 in
+      let indexed : words.indexed ≡ line_indexed mean line = ap (λ (w : LineWords). w.indexed) (sym p.1) in
+      let purchase : words.purchase ≡ power_purchase mean line = ap (λ (w : LineWords). w.purchase) (sym p.1) in
+      record {
+        allowed = allowed;
+        power = power;
+        indexed = indexed;
+        indexed_most = rw indexed (allowed_bound allowed);
+        purchase = purchase;
+        purchase_most = rw purchase (power_bound power);
+      }
+
   module _ (numbers : FixingNumbers) (old : Option ℕ) where
     -- a new indexed price is tested, taken or not
     answer_beyond : indexed_allowed mean line ≡ false → price_answer mean numbers line old ≡ None
@@ -118,94 +172,35 @@ module _ (mean : Term → ℕ) (line : Line) where
     unfolding price_answer
     answer_allowed h = rw h
 
-    -- the word says by a 0 that factor or price is out of bounds, and nothing else: a price is at least 1
-    pub indexed_reference_lem :
-        indexed_reference numbers line old (indexed_or_zero mean line) ≡ price_answer mean numbers line old
-    unfolding indexed_reference indexed_or_zero indexed_word indexed_allowed line_indexed
-    indexed_reference_lem = go (indexed_allowed mean line) refl
+    -- a line without words is out of bounds, and one with them has the reference of the price that it takes
+    pub wordless : (j : ℕ) → line_words mean line ≡ None →
+        beyond_at j (price_answer mean numbers line old) (power_allowed mean line) ≡ Some j
+    unfolding line_words
+    wordless j = go (indexed_allowed mean line) refl (power_allowed mean line) (price_answer mean numbers line old) refl
       where
-        go : (b : Bool) → indexed_allowed mean line ≡ b →
-            cond (eqb (cond b (line_indexed mean line) 0) 0) None
-            (reference_answer numbers line (price_taken old (cond b (line_indexed mean line) 0)))
-            ≡ price_answer mean numbers line old
-        go true e =
-            rw (ne_eqb (line_indexed mean line) 0 (λ z. omega (arith, (indexed_bounds 1000000 _ _ e).0)))
-            (sym (answer_allowed e))
-        go false e = sym (answer_beyond e)
+        go : (b : Bool) → indexed_allowed mean line ≡ b → (p : Bool) (a : Option PesoPrice) →
+            price_answer mean numbers line old ≡ a →
+            ◌≡◌ {A = Option LineWords} (cond (b && p) (Some (record { indexed = line_indexed mean line; purchase = power_purchase mean line })) None) None →
+            beyond_at j a p ≡ Some j
+        go b e p None f h = refl
+        go true e true (Some a) f h = absurd (none-some _ (sym h))
+        go true e false (Some a) f h = refl
+        go false e p (Some a) f h = absurd (none-some _ (sym (answer_beyond e) ∙ f))
 
--- nothing is bought for 0
-bought_none : (line : Line) → LineFacts line → line_purchase line 0 ≡ 0
-unfolding line_purchase purchase_of
-bought_none line facts =
-    let most =
-    half_up_le (0 * line.purchase_factor) line.offer_factor (omega (arith, facts.offer)) 0 (omega arith) in
-    omega arith
+    pub words_answer : (words : LineWords) → line_words mean line ≡ Some words →
+        reference_answer numbers line (price_taken old words.indexed) ≡ price_answer mean numbers line old
+    words_answer words h =
+        let w = worded words h in
+        ap (λ x. reference_answer numbers line (price_taken old x)) w.indexed ∙ sym (answer_allowed w.allowed)
 
--- the power purchase price of a line as a word
-module _ (mean : Term → ℕ) (line : Line) where
-  -- where the ratio and the prices are in their bounds, it is that price, at least 1
-  power_bounds : power_allowed mean line ≡ true →
-      (1 ≤ power_purchase mean line) × (power_purchase mean line ≤ most_power_price)
-  unfolding power_allowed
-  power_bounds h =
-      let b =
-      and_right (indexed_within most_power_price line.power_base_price (term_ratio mean (term_of line power_term)))
-      (between 1 most_power_price (power_purchase mean line)) h in
-      (between_low 1 most_power_price _ b, between_high 1 most_power_price _ b)
-
-  power_allowed_lem : power_allowed mean line ≡ true → power_or_zero mean line ≡ power_purchase mean line
-  unfolding power_or_zero
-  power_allowed_lem h = rw h
-
-  -- so it tells whether they are
-  pub power_tells : eqb (power_or_zero mean line) 0 ≡ not (power_allowed mean line)
-  unfolding power_or_zero
-  power_tells = go (power_allowed mean line) refl
-    where
-      go : (b : Bool) → power_allowed mean line ≡ b → eqb (cond b (power_purchase mean line) 0) 0 ≡ not b
-      go true e = ne_eqb (power_purchase mean line) 0 (λ z. omega (arith, (power_bounds e).0))
-      go false e = refl
-
-  -- it is worked from the indexed price's word
-  pub power_word : LineFacts line →
-      within_or_zero most_power_price (line_purchase line
-      (indexed_word most_power_price line.power_base_price (term_ratio mean (term_of line power_term))))
-      ≡ power_or_zero mean line
-  unfolding power_or_zero power_allowed power_purchase power_indexed indexed_word within_or_zero between
-  power_word facts = go (indexed_within most_power_price line.power_base_price ratio) refl
-    where
-      ratio : ℕ
-      ratio = term_ratio mean (term_of line power_term)
-
-      price : ℕ
-      price = line_purchase line (indexed_of line.power_base_price ratio)
-
-      go : (b : Bool) → indexed_within most_power_price line.power_base_price ratio ≡ b →
-          within_or_zero most_power_price (line_purchase line (cond b (indexed_of line.power_base_price ratio) 0))
-          ≡ cond (b && between 1 most_power_price price) price 0
-      go true e = refl
-      go false e = rw (bought_none line facts)
-
-  pub power_most : power_or_zero mean line ≤ most_power_price
-  unfolding power_or_zero
-  power_most = go (power_allowed mean line) refl
-    where
-      go : (b : Bool) → power_allowed mean line ≡ b → cond b (power_purchase mean line) 0 ≤ most_power_price
-      go true e = (power_bounds e).1
-      go false e = omega arith
-
--- the words of a line stand at their places
-pub indexed_at : (mean : Term → ℕ) (lines : List ℕ) (j : ℕ) → j < line_count lines → line_count lines ≤ most_lines →
-    get_or (indexed_list mean lines) j 0 ≡ indexed_or_zero mean (line_of lines j)
-unfolding indexed_list
-indexed_at mean lines j p few =
-    filled_at most_lines 0 (λ i. indexed_or_zero mean (line_of lines i)) (line_count lines) j p (omega arith)
-
-pub power_at : (mean : Term → ℕ) (lines : List ℕ) (j : ℕ) → j < line_count lines → line_count lines ≤ most_lines →
-    get_or (power_words mean lines) j 0 ≡ power_or_zero mean (line_of lines j)
-unfolding power_words
-power_at mean lines j p few =
-    filled_at most_lines 0 (λ i. power_or_zero mean (line_of lines i)) (line_count lines) j p (omega arith)
+-- the words of a line stand at its place
+pub words_at : (mean : Term → ℕ) (lines : List ℕ) (words : List (Option LineWords)) (j : ℕ) →
+    words ≡ price_words mean lines → j < line_count lines → line_count lines ≤ most_lines →
+    get_or words j None ≡ line_words mean (line_of lines j)
+unfolding price_words
+words_at mean lines words j e p few =
+    ap (λ (w : List (Option LineWords)). get_or w j None) e
+    ∙ filled_at most_lines None (λ i. line_words mean (line_of lines i)) (line_count lines) j p (omega arith)
 
 -- a line's price in force: none past the list's end, else the word at its place
 module _ (in_force : List ℕ) (j : ℕ) where
@@ -217,30 +212,26 @@ module _ (in_force : List ℕ) (j : ℕ) where
   unfolding price_in_force
   some_in_force p = rw (lt-ltb j (length in_force) p)
 
--- by whether it moved: the new price, else the one in force
-pub taken_new : (old : Option ℕ) (indexed : ℕ) → moved old indexed ≡ true → price_taken old indexed ≡ indexed
+-- which keeps the bounds of an indexed price
+pub in_force_most : (in_force : List ℕ) → ValuesWithin 1000000 in_force → (j : ℕ) →
+    IfSome (price_in_force in_force j) (λ price. price ≤ 1000000)
+unfolding price_in_force
+in_force_most in_force facts j = go (ltb j (length in_force))
+  where
+    go : (b : Bool) → IfSome (cond b (Some (get_or in_force j 0)) None) (λ price. price ≤ 1000000)
+    go true = facts.most j
+    go false = tt
+
+-- and so does the price taken
+pub taken_most : (old : Option ℕ) (indexed : ℕ) → IfSome old (λ price. price ≤ 1000000) → indexed ≤ 1000000 →
+    price_taken old indexed ≤ 1000000
 unfolding price_taken
-taken_new None indexed h = refl
-taken_new (Some old) indexed h = rw h
-
-pub taken_old : (in_force : List ℕ) (j indexed : ℕ) → moved (price_in_force in_force j) indexed ≡ false →
-    (j < length in_force) × (price_taken (price_in_force in_force j) indexed ≡ get_or in_force j 0)
-unfolding moved price_taken
-taken_old in_force j indexed h = go (dec_lt j (length in_force))
+taken_most None indexed f h = h
+taken_most (Some old) indexed f h = go (moved (Some old) indexed)
   where
-    go : Dec (j < length in_force) →
-        (j < length in_force) × (price_taken (price_in_force in_force j) indexed ≡ get_or in_force j 0)
-    go (yes p) = let e = some_in_force in_force j p in (p, rw (e, rw e at h))
-    go (no p) = absurd (true≢false (rw (none_in_force in_force j (omega arith)) at h))
-
--- the price taken keeps the bounds of an indexed price
-pub taken_most : (in_force : List ℕ) → ValuesWithin 1000000 in_force → (j indexed : ℕ) → indexed ≤ 1000000 →
-    price_taken (price_in_force in_force j) indexed ≤ 1000000
-taken_most in_force facts j indexed h = go (moved (price_in_force in_force j) indexed) refl
-  where
-    go : (b : Bool) → moved (price_in_force in_force j) indexed ≡ b → price_taken (price_in_force in_force j) indexed ≤ 1000000
-    go true e = rw (taken_new (price_in_force in_force j) indexed e) h
-    go false e = rw (taken_old in_force j indexed e).1 (facts.most j)
+    go : (b : Bool) → cond b indexed old ≤ 1000000
+    go true = h
+    go false = f
 
 -- a checked price that is given lies in its bounds
 checked_bounds : (x : ℕ) (p : PesoPrice) → checked_price x ≡ Some p → (least_price ≤ p.0) × (p.0 ≤ most_price)
@@ -316,56 +307,30 @@ module _ (mean : Term → ℕ) (numbers : FixingNumbers) (lines in_force : List 
         × ((reference_price mean numbers lines in_force j).0 ≤ most_price)
     search_within = searched.1
 
-    -- so its words are the prices
-    word_indexed : indexed_or_zero mean (line_of lines j) ≡ line_indexed mean (line_of lines j)
-    unfolding indexed_or_zero indexed_word indexed_allowed line_indexed
-    word_indexed = rw searched.0
-
-    word_power : power_or_zero mean (line_of lines j) ≡ power_purchase mean (line_of lines j)
-    word_power = power_allowed_lem mean (line_of lines j) searched.2
-
     -- and its power price is at most so much at every dollar
     pub power_within : numbers.dollar ≤ 200000 → (power_price mean numbers lines j).0 ≤ most_power_in_pesos
     unfolding power_price line_power power_peso_of
     power_within most =
         half_up_le (power_purchase mean (line_of lines j) * numbers.dollar) 100 (omega arith) most_power_in_pesos
-        (mul-le-mul {n₂ = most_power_price} (power_bounds mean (line_of lines j) searched.2).1 most)
+        (mul-le-mul {n₂ = most_power_price} (power_bound mean (line_of lines j) searched.2) most)
 
-  -- and the words tell whether any line moved
-  pub words_moved : first_beyond mean numbers lines in_force ≡ None → line_count lines ≤ most_lines →
-      any_moved in_force (line_count lines) (λ j. get_or (indexed_list mean lines) j 0) ≡ any_line_moved mean lines in_force
-  unfolding any_moved any_line_moved
-  words_moved h few =
-      any_same (line_count lines) _ _
-      (λ j p. ap (moved (price_in_force in_force j)) (indexed_at mean lines j p few ∙ word_indexed h j p))
-
-  -- and are turned into the power prices
-  pub words_power : first_beyond mean numbers lines in_force ≡ None → line_count lines ≤ most_lines →
-      filled_below most_lines no_power (line_count lines)
-      (λ j. record { 0 = power_peso_of (get_or (power_words mean lines) j 0) numbers.dollar })
-      ≡ power_list mean numbers lines
-  unfolding power_list power_price line_power
-  words_power h few =
-      filled_same most_lines no_power (line_count lines) _ _
-      (λ j p. ap {B = PowerPrice} (λ x. record { 0 = power_peso_of x numbers.dollar })
-      (power_at mean lines j p few ∙ word_power h j p))
-
-  -- the verdict: a line out of bounds is 11, whether any moved or not; then 14 where none did
-  pub prices_beyond : (j : ℕ) → first_beyond mean numbers lines in_force ≡ Some j →
-      verdict_of (price_checks mean numbers lines in_force) ≡ Err (OutOfBounds j)
-  unfolding price_checks bounds_check verdict_of
-  prices_beyond j h = rw h
+  -- what is answered: a line out of bounds is 11, whether any moved or not; then 14 where none did, else the prices
+  pub bounded_beyond : (j : ℕ) → j < line_count lines → first_below j (beyond_in mean numbers lines in_force) ≡ None →
+      beyond_in mean numbers lines in_force j ≡ Some j →
+      Err (OutOfBounds j) ≡ bounded_prices mean numbers lines in_force
+  unfolding bounded_prices price_checks bounds_check verdict_of first_beyond
+  bounded_beyond j p h e = rw (first_is (beyond_in mean numbers lines in_force) j (line_count lines) j p h e) refl
 
   module _ (h : first_beyond mean numbers lines in_force ≡ None) where
-    pub prices_unmoved : any_line_moved mean lines in_force ≡ false →
-        verdict_of (price_checks mean numbers lines in_force) ≡ Err NoLineMoved
-    unfolding price_checks bounds_check verdict_of
-    prices_unmoved e = rw (h, e)
+    pub bounded_unmoved : any_line_moved mean lines in_force ≡ false →
+        Err NoLineMoved ≡ bounded_prices mean numbers lines in_force
+    unfolding bounded_prices price_checks bounds_check verdict_of
+    bounded_unmoved e = rw (h, e) refl
 
-    pub prices_passed : any_line_moved mean lines in_force ≡ true →
-        verdict_of (price_checks mean numbers lines in_force) ≡ Ok tt
-    unfolding price_checks bounds_check verdict_of
-    prices_passed e = rw (h, e)
+    pub bounded_passed : any_line_moved mean lines in_force ≡ true →
+        Ok (worked_prices mean numbers lines in_force) ≡ bounded_prices mean numbers lines in_force
+    unfolding bounded_prices price_checks bounds_check verdict_of
+    bounded_passed e = rw (h, e) refl
 
   -- cause 11 has its number and its line, and 14 its number
   pub prices_told : AllTold (price_checks mean numbers lines in_force)
@@ -388,8 +353,18 @@ module _ (mean : Term → ℕ) (numbers : FixingNumbers) (lines in_force : List 
       go None h = refl
       go (Some line) h = absurd (let z : ◌≡◌ {A = ℕ} 0 1 = cc in omega arith)
 
-  -- what a line's answer says to the search, and as a reference
+  -- what a line's words and its answer say to the search, and as a reference
   module _ (j : ℕ) where
+    pub line_wordless : line_words mean (line_of lines j) ≡ None → beyond_in mean numbers lines in_force j ≡ Some j
+    unfolding beyond_in answer_at
+    line_wordless = wordless mean (line_of lines j) numbers (price_in_force in_force j) j
+
+    pub line_answer : (words : LineWords) → line_words mean (line_of lines j) ≡ Some words →
+        reference_answer numbers (line_of lines j) (price_taken (price_in_force in_force j) words.indexed)
+        ≡ answer_at mean numbers lines in_force j
+    unfolding answer_at
+    line_answer = words_answer mean (line_of lines j) numbers (price_in_force in_force j)
+
     pub line_within : (p : PesoPrice) → answer_at mean numbers lines in_force j ≡ Some p →
         power_allowed mean (line_of lines j) ≡ true →
         beyond_in mean numbers lines in_force j ≡ None
@@ -400,14 +375,6 @@ module _ (mean : Term → ℕ) (numbers : FixingNumbers) (lines in_force : List 
         beyond_in mean numbers lines in_force j ≡ Some j
     unfolding beyond_in
     line_beyond h = rw h
-
-    pub power_beyond : power_allowed mean (line_of lines j) ≡ false → beyond_in mean numbers lines in_force j ≡ Some j
-    unfolding beyond_in
-    power_beyond h = rw h (go (answer_at mean numbers lines in_force j))
-      where
-        go : (a : Option PesoPrice) → beyond_at j a false ≡ Some j
-        go (Some p) = refl
-        go None = refl
 
     pub line_price : (p : PesoPrice) → answer_at mean numbers lines in_force j ≡ Some p →
         p ≡ reference_price mean numbers lines in_force j

@@ -1,6 +1,6 @@
--- What the functions past cause 6 require: its ranges as plain facts, of terms, lines, the numbers beside them and the
--- words of prices. Assumes nothing.
-use Rattle.std.specs.Prelude.{true, List, ◌≡◌, ℕ, ◌≤◌, ◌<◌, get_or}
+-- What the functions past cause 6 require: its ranges as plain facts, of terms, lines and the numbers beside them.
+-- Assumes nothing.
+use Rattle.std.specs.Prelude.{true, List, ◌≡◌, ℕ, ◌≤◌, ◌<◌}
 use Rattle.series.specs.Series.{series_count, most_value, last_month, window_allowed}
 use Rattle.supply.specs.Line.{most_lines, most_terms, whole_weight, most_power_price, line_count, line_of, term_of}
 use Rattle.supply.specs.Line.{term_used}
@@ -42,8 +42,3 @@ pub record NumbersFacts (numbers : FixingNumbers) : Type 0 where
   pub dollar_most : numbers.dollar ≤ 200000
   pub factor_most : numbers.reference_factor ≤ 20000
   pub start : numbers.first_month ≤ last_month
-
--- the first words of a list of prices
-pub record WordsWithin (bound : ℕ) (words : List ℕ) (count : ℕ) : Type 0 where
-  pub few : count ≤ most_lines
-  pub most : (j : ℕ) → j < count → get_or words j 0 ≤ bound

@@ -2,6 +2,7 @@
 // five for each of four terms, then the power base price and the three of the power term.
 ghost use Rattle.std.specs.Prelude.{◌≡◌, ◌<◌, ◌+◌, ◌≤◌, length};
 ghost use Rattle.supply.specs.Line.{line_count, line_of, term_from, power_term_from, term_words};
+ghost use Rattle.supply.specs.Required.{LineFacts, CheckedLines};
 
 use series::table::CPI;
 
@@ -29,7 +30,7 @@ pub(crate) const WHOLE_WEIGHT: u64 = 10000;
 // The greatest power price in US$, of every step.
 pub(crate) const MOST_POWER_PRICE: u64 = 100000000;
 
-#[derive(Clone, Copy)]
+#[derive(Clone, Copy, PartialEq, Eq, Default)]
 pub struct Term {
     pub series: u64,
     pub weight: u64,
@@ -49,6 +50,13 @@ pub struct Line {
     // In 0.001 US$/kW/month.
     pub power_base_price: u64,
     pub terms: [Term; TERM_PLACES],
+}
+
+// A line in its ranges.
+#[derive(Clone, Copy)]
+pub(crate) struct CheckedLine {
+    pub line: Line,
+    ghost facts: { LineFacts line },
 }
 
 // The term whose five words begin at a place.
@@ -109,5 +117,17 @@ pub fn line_at(lines: &[u64], j: usize) -> Line
             term_from(lines, terms + 3 * TERM_WORDS),
             power_term_from(lines, power + 1),
         ],
+    }
+}
+
+// Line j of words in their ranges. The words themselves stay a slice with a `requires`: a struct around them is no plainer,
+// since clauses then name `lines.now.words.now`.
+pub(crate) fn checked_line(lines: &[u64], j: usize) -> CheckedLine
+    requires lines_checked { CheckedLines lines.now }
+    requires inside { j < line_count lines.now }
+    ensures { result.line ≡ line_of lines.now j }
+{
+    CheckedLine {
+        line: line_at(lines, j),
     }
 }

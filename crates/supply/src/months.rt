@@ -1,72 +1,85 @@
 // The means that terms take from the list of all, and the search for a missing month (cause 10): line by line, in each
 // its terms and then its power term, left at the first.
-ghost use Rattle.std.specs.Prelude.{◌≡◌, ◌&&◌, [], ◌∷◌, ◌<◌, eqb, get_or};
+ghost use Rattle.std.specs.Prelude.{◌≡◌, ◌&&◌, [], ◌∷◌, ◌<◌, ◌≤◌, eqb, get_or};
 ghost use Rattle.numbers.specs.Bounded.{any_below};
 ghost use Rattle.numbers.specs.Checks.{verdict_of};
-ghost use Rattle.series.specs.Means.{mean_count};
+ghost use Rattle.numbers.specs.Required.{ValuesWithin};
+ghost use Rattle.series.specs.Means.{mean_count, mean_list};
+ghost use Rattle.series.specs.Required.{most_mean, TableInRange};
+ghost use Rattle.series.specs.Series.{last_month};
 ghost use Rattle.supply.specs.Line.{term_places, term_of, term_used};
 ghost use Rattle.supply.specs.Months.{month_check};
 ghost use Rattle.supply.specs.Listed.{listed_mean, listed_lacks};
-ghost use Rattle.supply.specs.Required.{TermFacts, LineFacts, CheckedLines};
+ghost use Rattle.supply.specs.Required.{TermFacts, CheckedLines};
 
-use crate::line::{Line, POWER_TERM, TERM_PLACES, Term, line_at, line_count};
+use crate::line::{CheckedLine, POWER_TERM, TERM_PLACES, Term, checked_line, line_count};
+use crate::market::FixingNumbers;
 use numbers::refusal::Refusal;
-use series::mean::{MEANS, mean_place};
+use series::mean::{MEANS, mean_place, means};
+use series::table::{MONTHS, SERIES};
 
-// The mean of a term, 0 where a month of it is missing.
-pub(crate) fn term_mean(means: &[u64; MEANS], term: Term) -> u64
-    requires { TermFacts term }
-    ensures { result ≡ listed_mean means.now term }
-{
-    let place = mean_place(term.series, term.lag, term.window);
-    means[place]
+// The means of every series, lag and window, none above that of the top value.
+#[derive(Clone, Copy)]
+pub(crate) struct Means {
+    values: [u64; MEANS],
+    ghost within: { ValuesWithin most_mean values },
 }
 
-// Whether a month of term k is missing, where the line uses that term.
-fn lacks_month(means: &[u64; MEANS], line: Line, k: usize) -> bool
-    requires fact_1 { LineFacts line }
-    requires fact_2 { k < term_places }
-    ensures { result ≡ (term_used line k && listed_lacks means.now (term_of line k)) }
-{
-    let used = ((k as u64) < line.term_count) | (k == POWER_TERM);
-    if !used {
-        return false;
-    }
-    let term = line.terms[k];
-    term_mean(means, term) == 0
-}
-
-// Whether a month is missing for any series, lag and window.
-fn any_missing(means: &[u64; MEANS]) -> bool
-    ensures { result ≡ any_below mean_count (λ k. eqb (get_or means.now k 0) 0) }
-{
-    let mut k: usize = 0;
-    while k < MEANS {
-        if means[k] == 0 {
-            return true;
+impl Means {
+    // Those of a table in a fixing's month.
+    pub(crate) fn of(table: [[u64; MONTHS]; SERIES], numbers: FixingNumbers) -> Means
+        requires table_in_range { TableInRange table }
+        requires start { numbers.first_month ≤ last_month }
+        ensures { result.values ≡ mean_list table numbers.first_month numbers.month }
+    {
+        Means {
+            values: means(table, numbers.first_month, numbers.month),
         }
-        k += 1;
     }
-    false
-}
 
-// The walk over lines and terms, left at the first missing month with its place. Where no mean at all is missing it
-// need not be made.
-pub(crate) fn search_months(means: &[u64; MEANS], lines: &[u64]) -> Result<(), Refusal>
-    requires { CheckedLines lines.now }
-    ensures { result ≡ verdict_of (month_check (listed_lacks means.now) lines.now ∷ []) }
-{
-    if !any_missing(means) {
-        return Ok(());
+    // The mean of a term, 0 where a month of it is missing.
+    pub(crate) fn term_mean(&self, term: Term) -> u64
+        requires { TermFacts term }
+        ensures { result ≡ listed_mean self.now.values term }
+    {
+        let place = mean_place(term.series, term.lag, term.window);
+        self.values[place]
     }
-    let count = line_count(lines);
-    for j in 0..count {
-        let line = line_at(lines, j);
-        for k in 0..TERM_PLACES {
-            if lacks_month(means, line, k) {
-                return Err(Refusal::MonthMissing { line: j, term: k });
+
+    // Whether a month of term k is missing, where the line uses that term.
+    fn lacks_month(&self, checked: CheckedLine, k: usize) -> bool
+        requires { k < term_places }
+        ensures { result ≡ (term_used checked.line k && listed_lacks self.now.values (term_of checked.line k)) }
+    {
+        let line = checked.line;
+        let used = ((k as u64) < line.term_count) | (k == POWER_TERM);
+        used && self.term_mean(line.terms[k]) == 0
+    }
+
+    // Whether a month is missing for any series, lag and window.
+    fn any_missing(&self) -> bool
+        ensures { result ≡ any_below mean_count (λ k. eqb (get_or self.now.values k 0) 0) }
+    {
+        self.values.contains(&0)
+    }
+
+    // The walk over lines and terms, left at the first missing month with its place. Where no mean at all is missing it
+    // need not be made.
+    pub(crate) fn search_months(&self, lines: &[u64]) -> Result<(), Refusal>
+        requires { CheckedLines lines.now }
+        ensures { result ≡ verdict_of (month_check (listed_lacks self.now.values) lines.now ∷ []) }
+    {
+        if !self.any_missing() {
+            return Ok(());
+        }
+        for j in 0..line_count(lines) {
+            let line = checked_line(lines, j);
+            for k in 0..TERM_PLACES {
+                if self.lacks_month(line, k) {
+                    return Err(Refusal::MonthMissing { line: j, term: k });
+                }
             }
         }
+        Ok(())
     }
-    Ok(())
 }

@@ -39,11 +39,7 @@ fn term_in_range(term: Term) -> bool
 fn term_unused(term: Term) -> bool
     ensures { result ≡ term_unused term }
 {
-    (term.series == 0)
-        & (term.weight == 0)
-        & (term.lag == 0)
-        & (term.window == 0)
-        & (term.base_value == 0)
+    term == Term::default()
 }
 
 // A term below the line's count is in range, one past it unused.
@@ -70,13 +66,10 @@ fn terms_allowed(line: Line) -> bool
     ensures { result ≡ terms_allowed line }
 {
     let count = line.term_count;
-    let mut k: usize = 0;
-    while k < MOST_TERMS {
-        let term = line.terms[k];
-        if !term_allowed(term, (k as u64) < count) {
+    for k in 0..MOST_TERMS {
+        if !term_allowed(line.terms[k], (k as u64) < count) {
             return false;
         }
-        k += 1;
     }
     true
 }
@@ -87,11 +80,8 @@ fn weight_total(line: Line) -> u64
     ensures { result ≡ weight_total line }
 {
     let mut total: u64 = 0;
-    let mut k: usize = 0;
-    while k < MOST_TERMS {
-        let term = line.terms[k];
-        total += term.weight;
-        k += 1;
+    for k in 0..MOST_TERMS {
+        total += line.terms[k].weight;
     }
     total
 }
@@ -113,13 +103,10 @@ fn line_in_range(n: usize, line: Line) -> bool
 fn lines_in_range(n: usize, lines: &[u64]) -> bool
     ensures { result ≡ lines_in_range n lines.now }
 {
-    let count = line_count(lines);
-    let mut j: usize = 0;
-    while j < count {
+    for j in 0..line_count(lines) {
         if !line_in_range(n, line_at(lines, j)) {
             return false;
         }
-        j += 1;
     }
     true
 }

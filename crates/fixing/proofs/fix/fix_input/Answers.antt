@@ -93,10 +93,10 @@ pub price_lines-requires : goal.price_lines-requires
 price_lines-requires c =
     let ok = passed_nine (goal.at.price_lines-requires c).Else-not-every_energy in
     record {
-      fact_1 = checked_table _ (input (goal.at.price_lines-requires c).Start) ok _ c.fill.ensures;
-      fact_2 = checked_numbers _ (input (goal.at.price_lines-requires c).Start) ok;
-      fact_3 = (checked_own _ (input (goal.at.price_lines-requires c).Start) ok).checked;
-      fact_4 = checked_in_force _ (input (goal.at.price_lines-requires c).Start) ok;
+      table_in_range = checked_table _ (input (goal.at.price_lines-requires c).Start) ok _ c.fill.ensures;
+      numbers_checked = checked_numbers _ (input (goal.at.price_lines-requires c).Start) ok;
+      lines_checked = (checked_own _ (input (goal.at.price_lines-requires c).Start) ok).checked;
+      in_force_within = checked_in_force _ (input (goal.at.price_lines-requires c).Start) ok;
     }
 
 -- what the pricing of the lines says

@@ -1,219 +1,189 @@
--- The invariant: no line passed is out of bounds, and the references of the lines passed are filled in. Past the last
--- line, the words tell whether any moved, and are turned into the power prices.
+-- The invariant: no line passed is out of bounds, the prices of the lines passed are filled in, and whether one moved.
 use mathlib.Core.Path.{◌≡◌, refl, sym, ◌∙◌, ap, ap₂}
-use mathlib.Core.Bool.{not}
-use Rattle.std.specs.Prelude.{Some, None, Err}
-use Prim.Native.Nat.{ℕ, ◌<◌}
+use mathlib.Core.Bool.{◌||◌}
+use Rattle.std.specs.Prelude.{Option, Some, None, Result, Ok, Err}
+use Rattle.std.specs.Option.{ok_or}
+use Rattle.std.proofs.lemmas.Result.{err_from_is_err_and}
+use Prim.Native.Nat.{ℕ, ◌*◌, ◌<◌}
 use native.Mathlib.Omega.{arith}
-use lib.Dec.{eqb}
-use lib.ListN.{get_or, set}
-use borrow.Author.Tests.{eq-eqb, ne_eqb, not-true, not-false}
-use Rattle.numbers.specs.Bounded.{first_below, filled_below}
+use native.Mathlib.Nat.{mul-le-mul}
+use Rattle.numbers.specs.Bounded.{any_below, first_below}
+use Rattle.numbers.specs.Rounding.{half_up}
 use Rattle.numbers.specs.Units.{no_price, no_power}
+use Rattle.numbers.specs.declared.refusal.Refusal.{Refusal}
 use Rattle.numbers.specs.declared.refusal.Refusal.TheVariants.{OutOfBounds}
-use Rattle.numbers.proofs.BoolLaws.{told_true, told_false}
-use Rattle.numbers.proofs.FirstLaws.{first_step, first_is}
-use Rattle.numbers.proofs.ListLaws.{filled_none, filled_more}
-use Rattle.supply.specs.Line.{most_lines, line_count, line_of}
-use Rattle.supply.specs.Listed.{listed_mean, indexed_or_zero, indexed_reference}
-use Rattle.supply.specs.Price.{power_peso_of, price_in_force, answer_at, power_allowed, beyond_in, first_beyond, any_moved}
-use Rattle.supply.specs.Price.{any_line_moved, reference_price, reference_list, power_list}
-use Rattle.supply.specs.Price.{worked_prices, bounded_prices}
+use Rattle.numbers.specs.declared.units.PowerPrice.{PowerPrice}
+use Rattle.numbers.proofs.FirstLaws.{first_step}
+use Rattle.numbers.proofs.ListLaws.{filled_none, filled_next}
+use Rattle.numbers.proofs.TestLaws.{any_step}
+use Rattle.supply.specs.Line.{most_lines, most_power_price, line_count, line_of}
+use Rattle.supply.specs.Listed.{listed_mean, line_words}
+use Rattle.supply.specs.Price.{price_in_force, moved, price_taken, reference_answer, answer_at, beyond_in, first_beyond}
+use Rattle.supply.specs.Price.{any_moved, any_line_moved, line_power, power_peso_of, reference_price}
+use Rattle.supply.specs.Price.{power_price, reference_list, power_list, worked_prices}
 use Rattle.supply.specs.declared.line.Term.{Term}
-use Rattle.supply.specs.declared.price.PriceWords.{PriceWords}
-use Rattle.supply.proofs.PriceLaws.{indexed_most, indexed_reference_lem, indexed_at, power_at, power_tells}
-use Rattle.supply.proofs.PriceLaws.{power_most, line_within, line_beyond, power_beyond, line_price, words_moved}
-use Rattle.supply.proofs.PriceLaws.{words_power, prices_beyond, prices_unmoved, prices_passed}
+use Rattle.supply.specs.declared.price.LinePrices.{LinePrices}
+use Rattle.supply.proofs.PriceLaws.{Worded, worded, words_at, line_wordless, line_answer, line_within, line_beyond}
+use Rattle.supply.proofs.PriceLaws.{line_price, in_force_most, taken_most, bounded_beyond, bounded_unmoved, bounded_passed}
 use Rattle.supply.proofs.price.bounded_prices.Goals as goal
-use Rattle.supply.proofs.price.bounded_prices.Goals.{After-any_moved, After-loop-j, After-power_prices, After-price_line, At-loop-j, In-loop-j}
+use Rattle.supply.proofs.price.bounded_prices.Goals.{After-loop-j, After-ok_or, After-reference_price, In_ok-line}
 
--- the line at hand, and the words of its indexed price and its power purchase price
-module _ (c : In-loop-j) where
+-- what `ok_or` says by its answer
+module _ {A E : Type 0} where
+  given : (o : Option A) (error : E) (x : A) → ok_or o error ≡ Ok x → o ≡ Some x
+  given None error x h = absurd (let z : ◌≡◌ {A = ℕ} 0 1 = cc in omega arith)
+  given (Some y) error x h = cc
+
+  lacking : (o : Option A) (error given : E) → ok_or o error ≡ Err given → (o ≡ None) × (given ≡ error)
+  lacking None error given h = (refl, cc)
+  lacking (Some y) error given h = absurd (let z : ◌≡◌ {A = ℕ} 0 1 = cc in omega arith)
+
+-- the line at hand, where it has words
+module _ (c : In_ok-line) where
   abbrev mean : Term → ℕ
-  mean = listed_mean c.args.means.now
+  mean = listed_mean c.args.means.now.values
 
   below : c.loop-j.j < line_count c.args.lines.now
-  below = omega (arith, c.line_count-count.ensures)
+  below = omega (arith, c.line_count-j-end.ensures)
 
   inside : c.loop-j.j < most_lines
-  inside = omega (arith, below, c.requires.fact_3.few)
+  inside = omega (arith, below, c.requires.lines_checked.few)
 
-  word : get_or c.price_words-words.result.indexed c.loop-j.j 0 ≡ indexed_or_zero mean
-      (line_of c.args.lines.now c.loop-j.j)
-  word =
-      ap (λ (r : PriceWords). get_or r.indexed c.loop-j.j 0) c.price_words-words.ensures
-      ∙ indexed_at mean c.args.lines.now c.loop-j.j below c.requires.fact_3.few
+  has : line_words mean (line_of c.args.lines.now c.loop-j.j) ≡ Some c.in_ok-line.line
+  has =
+      sym (words_at mean c.args.lines.now _ c.loop-j.j c.price_words-words.ensures below c.requires.lines_checked.few)
+      ∙ given _ (OutOfBounds c.loop-j.j) c.in_ok-line.line (sym c.ok_or.ensures.value ∙ c.in_ok-line.was)
 
-  power_told : eqb (get_or c.price_words-words.result.purchases c.loop-j.j 0) 0 ≡ not
-      (power_allowed mean (line_of c.args.lines.now c.loop-j.j))
-  power_told =
-      ap (λ (r : PriceWords). eqb (get_or r.purchases c.loop-j.j 0) 0) c.price_words-words.ensures
-      ∙ ap (λ x. eqb x 0) (power_at mean c.args.lines.now c.loop-j.j below c.requires.fact_3.few)
-      ∙ power_tells mean (line_of c.args.lines.now c.loop-j.j)
+  says : Worded mean (line_of c.args.lines.now c.loop-j.j) c.in_ok-line.line
+  says = worded mean (line_of c.args.lines.now c.loop-j.j) c.in_ok-line.line has
 
-  -- where it is out of bounds, it is the first that is
-  refused_here : beyond_in mean c.args.numbers c.args.lines.now c.args.in_force.now c.loop-j.j ≡ Some
-      c.loop-j.j →
-      bounded_prices mean c.args.numbers c.args.lines.now c.args.in_force.now ≡ Err
-      (OutOfBounds c.loop-j.j)
-  unfolding bounded_prices first_beyond
-  refused_here h =
-      let f = beyond_in mean c.args.numbers c.args.lines.now c.args.in_force.now in
-      rw (prices_beyond mean c.args.numbers c.args.lines.now c.args.in_force.now c.loop-j.j
-      (first_is f c.loop-j.j (line_count c.args.lines.now) c.loop-j.j below c.loop-j.invariant.1 h))
-
-answered : (c : After-price_line) →
-    get_or c.price_words-words.result.indexed c.loop-j.j 0
-    ≡ indexed_or_zero (listed_mean c.args.means.now) (line_of c.args.lines.now c.loop-j.j) →
-    c.price_line.result ≡ answer_at (listed_mean c.args.means.now) c.args.numbers
-    c.args.lines.now c.args.in_force.now c.loop-j.j
-unfolding answer_at
-answered c word =
-    let a = c.args in
-    let j = c.loop-j.j in
-    let old = price_in_force a.in_force.now j in
-    c.price_line.ensures
-    ∙ ap₂ (λ line word. indexed_reference a.numbers line old word) c.line_at.ensures word
-    ∙ indexed_reference_lem (listed_mean c.args.means.now) (line_of a.lines.now j) a.numbers old
+-- its reference
+answered : (c : After-reference_price) →
+    line_words (listed_mean c.args.means.now.values) (line_of c.args.lines.now c.loop-j.j) ≡ Some c.in_ok-line.line →
+    c.reference_price.result ≡ answer_at (listed_mean c.args.means.now.values) c.args.numbers c.args.lines.now
+    c.args.in_force.now c.loop-j.j
+answered c has =
+    c.reference_price.ensures
+    ∙ ap₂ (reference_answer c.args.numbers) c.checked_line.ensures
+    (c.price_taken-taken.ensures ∙ ap (λ old. price_taken old c.in_ok-line.line.indexed) c.price_in_force-old.ensures)
+    ∙ line_answer (listed_mean c.args.means.now.values) c.args.numbers c.args.lines.now c.args.in_force.now c.loop-j.j
+    c.in_ok-line.line has
 
 pub loop-j-init : goal.loop-j-init
-unfolding first_below
-loop-j-init c = (omega arith, refl, c.no_references-references.ensures ∙ filled_none most_lines no_price _)
-
-pub returns-then-purchases-j-eq0 : goal.returns-then-purchases-j-eq0
-returns-then-purchases-j-eq0 c =
-    sym (refused_here (goal.at.returns-then-purchases-j-eq0 c).In-loop-j
-    (power_beyond (mean (goal.at.returns-then-purchases-j-eq0 c).In-loop-j) c.args.numbers c.args.lines.now c.args.in_force.now c.loop-j.j
-    (not-true _ (sym (power_told (goal.at.returns-then-purchases-j-eq0 c).In-loop-j) ∙ eq-eqb _ _ c.if-purchases-j-eq0.true))))
-
-pub line_at-requires : goal.line_at-requires
-line_at-requires c = below (goal.at.line_at-requires c).In-loop-j
-
-pub price_line-requires : goal.price_line-requires
-unfolding indexed_or_zero
-price_line-requires c =
+unfolding first_below any_below
+loop-j-init c =
     record {
-      fact_1 = c.requires.fact_2;
-      fact_2 = rw c.line_at.ensures (c.requires.fact_3.facts c.loop-j.j (below (goal.at.price_line-requires c).In-loop-j));
-      fact_3 = c.requires.fact_4;
-      fact_4 = rw (word (goal.at.price_line-requires c).In-loop-j) (indexed_most 1000000 _ _);
+      passed = refl;
+      references = filled_none most_lines no_price _;
+      power = filled_none most_lines no_power _;
+      moved = refl;
     }
 
-pub returns-in-None : goal.returns-in-None
-returns-in-None c =
-    sym (refused_here (goal.at.returns-in-None c).In-loop-j
-    (line_beyond (mean (goal.at.returns-in-None c).In-loop-j) c.args.numbers c.args.lines.now c.args.in_force.now c.loop-j.j
-    (sym (answered (goal.at.returns-in-None c).After-price_line (word (goal.at.returns-in-None c).In-loop-j)) ∙ c.in-None.is)))
+pub price_taken-taken-requires-clause-old_within : goal.price_taken-taken-requires-clause-old_within
+price_taken-taken-requires-clause-old_within c =
+    rw c.price_in_force-old.ensures (in_force_most c.args.in_force.now c.requires.in_force_within c.loop-j.j)
+
+pub price_taken-taken-requires-clause-indexed_within : goal.price_taken-taken-requires-clause-indexed_within
+price_taken-taken-requires-clause-indexed_within c =
+    (says (goal.at.price_taken-taken-requires-clause-indexed_within c).In_ok-line).indexed_most
+
+pub reference_price-requires-clause-taken_within : goal.reference_price-requires-clause-taken_within
+reference_price-requires-clause-taken_within c =
+    let ok = (goal.at.reference_price-requires-clause-taken_within c).In_ok-line in
+    let old = in_force_most c.args.in_force.now c.requires.in_force_within c.loop-j.j in
+    let most = taken_most (price_in_force c.args.in_force.now c.loop-j.j) c.in_ok-line.line.indexed old (says ok).indexed_most in
+    rw (c.price_taken-taken.ensures, c.price_in_force-old.ensures) most
+
+pub has_moved-moved-requires-clause-old_within : goal.has_moved-moved-requires-clause-old_within
+has_moved-moved-requires-clause-old_within c =
+    rw c.price_in_force-old.ensures (in_force_most c.args.in_force.now c.requires.in_force_within c.loop-j.j)
+
+pub has_moved-moved-requires-clause-indexed_within : goal.has_moved-moved-requires-clause-indexed_within
+has_moved-moved-requires-clause-indexed_within c =
+    (says (goal.at.has_moved-moved-requires-clause-indexed_within c).In_ok-line).indexed_most
+
+pub overflow_mul-line : goal.overflow_mul-line
+overflow_mul-line c =
+    let most = (says (goal.at.overflow_mul-line c).In_ok-line).purchase_most in
+    omega (arith, mul-le-mul {n₂ = most_power_price} most c.requires.numbers_checked.dollar_most)
+
+pub half_up-requires-clause-fact_2 : goal.half_up-requires-clause-fact_2
+half_up-requires-clause-fact_2 c =
+    let most = (says (goal.at.half_up-requires-clause-fact_2 c).In_ok-line).purchase_most in
+    omega (arith, mul-le-mul {n₂ = most_power_price} most c.requires.numbers_checked.dollar_most)
+
+pub returns-in_err-line : goal.returns-in_err-line
+returns-in_err-line c =
+    let a = c.args in
+    let mean = listed_mean a.means.now.values in
+    let j = c.loop-j.j in
+    let below : j < line_count a.lines.now = omega (arith, c.line_count-j-end.ensures) in
+    let p = err_from_is_err_and c.from_residual.result c.from_residual.ensures.1 in
+    let told = lacking _ (OutOfBounds j) c.in_err-line.field-0.0 (sym c.ok_or.ensures.value ∙ c.in_err-line.was) in
+    rw (p.1, p.2, told.1)
+    (bounded_beyond mean a.numbers a.lines.now a.in_force.now j below c.loop-j.invariant.passed
+    (line_wordless mean a.numbers a.lines.now a.in_force.now j
+    (sym (words_at mean a.lines.now _ j c.price_words-words.ensures below c.requires.lines_checked.few) ∙ told.0)))
+
+pub returns-in_err-reference : goal.returns-in_err-reference
+returns-in_err-reference c =
+    let a = c.args in
+    let mean = listed_mean a.means.now.values in
+    let j = c.loop-j.j in
+    let ok = (goal.at.returns-in_err-reference c).In_ok-line in
+    let p = err_from_is_err_and c.from_residual-in_err-reference.result c.from_residual-in_err-reference.ensures.1 in
+    let told = lacking _ (OutOfBounds j) c.in_err-reference.field-0.0 (sym c.ok_or-in-loop-j.ensures.value ∙ c.in_err-reference.was) in
+    rw (p.1, p.2, told.1)
+    (bounded_beyond mean a.numbers a.lines.now a.in_force.now j (below ok) c.loop-j.invariant.passed
+    (line_beyond mean a.numbers a.lines.now a.in_force.now j
+    (sym (answered (goal.at.returns-in_err-reference c).After-reference_price (has ok)) ∙ told.0)))
 
 pub loop-j-preserved : goal.loop-j-preserved
+unfolding line_power power_price power_peso_of
 loop-j-preserved c =
-    let j = c.loop-j.j in
     let a = c.args in
-    let told = sym (answered (goal.at.loop-j-preserved c).After-price_line (word (goal.at.loop-j-preserved c).In-loop-j)) ∙ c.in-Some.is in (
-      omega (arith, below (goal.at.loop-j-preserved c).In-loop-j),
-      first_step (beyond_in (mean (goal.at.loop-j-preserved c).In-loop-j) a.numbers a.lines.now a.in_force.now) j c.loop-j.invariant.1
-          ∙ line_within (mean (goal.at.loop-j-preserved c).In-loop-j) a.numbers a.lines.now a.in_force.now j _ told
-          (not-false _ (sym (power_told (goal.at.loop-j-preserved c).In-loop-j) ∙ ne_eqb _ _ c.if-purchases-j-eq0.false)),
-      ap₂ (λ xs x. set xs j x) c.loop-j.invariant.2
-          (line_price (mean (goal.at.loop-j-preserved c).In-loop-j) a.numbers a.lines.now a.in_force.now j _ told)
-          ∙ filled_more most_lines no_price (reference_price (mean (goal.at.loop-j-preserved c).In-loop-j) a.numbers a.lines.now a.in_force.now) j
-          (inside (goal.at.loop-j-preserved c).In-loop-j),
-    )
+    let mean = listed_mean a.means.now.values in
+    let j = c.loop-j.j in
+    let ok = (goal.at.loop-j-preserved c).In_ok-line in
+    let told = given _ (OutOfBounds j) c.in_ok-reference.reference (sym c.ok_or-in-loop-j.ensures.value ∙ c.in_ok-reference.was) in
+    let answer = sym (answered (goal.at.loop-j-preserved c).After-reference_price (has ok)) ∙ told in
+    record {
+      passed = first_step (beyond_in mean a.numbers a.lines.now a.in_force.now) j c.loop-j.invariant.passed
+          ∙ line_within mean a.numbers a.lines.now a.in_force.now j _ answer (says ok).power;
+      references = filled_next most_lines no_price j (reference_price mean a.numbers a.lines.now a.in_force.now) _ _
+          (inside ok) c.loop-j.invariant.references (line_price mean a.numbers a.lines.now a.in_force.now j _ answer);
+      power = filled_next most_lines no_power j (power_price mean a.numbers a.lines.now) _ _
+          (inside ok) c.loop-j.invariant.power
+          (ap {B = PowerPrice} (λ x. record { 0 = x }) (c.half_up.ensures ∙ ap (λ x. half_up (x * a.numbers.dollar) 100) (says ok).purchase));
+      moved = ap₂ ◌||◌ c.loop-j.invariant.moved
+          (c.has_moved-moved.ensures ∙ ap₂ moved c.price_in_force-old.ensures (says ok).indexed)
+          ∙ sym (any_step j _);
+    }
 
 -- past the last line
 module _ (c : After-loop-j) where
   last : c.loop-j.j ≡ line_count c.args.lines.now
-  last = omega (arith, c.line_count-count.ensures)
+  last = omega (arith, c.line_count-j-end.ensures)
 
-  none_beyond : first_beyond (listed_mean c.args.means.now) c.args.numbers c.args.lines.now c.args.in_force.now
-      ≡ None
+  none_beyond : first_beyond (listed_mean c.args.means.now.values) c.args.numbers c.args.lines.now c.args.in_force.now ≡ None
   unfolding first_beyond
-  none_beyond =
-      ap (λ k. first_below k (beyond_in (listed_mean c.args.means.now) c.args.numbers c.args.lines.now
-      c.args.in_force.now)) (sym last)
-      ∙ c.loop-j.invariant.1
+  none_beyond = rw (← last) c.loop-j.invariant.passed
 
-  listed : c.loop-j.references ≡ reference_list (listed_mean c.args.means.now) c.args.numbers c.args.lines.now
-      c.args.in_force.now
-  unfolding reference_list
-  listed =
-      c.loop-j.invariant.2
-      ∙ ap (λ k. filled_below most_lines no_price k (reference_price (listed_mean c.args.means.now) c.args.numbers
-      c.args.lines.now c.args.in_force.now)) last
+  some_moved : c.loop-j.moved ≡ any_line_moved (listed_mean c.args.means.now.values) c.args.lines.now c.args.in_force.now
+  unfolding any_line_moved any_moved
+  some_moved = rw (← last) c.loop-j.invariant.moved
 
-pub any_moved-requires : goal.any_moved-requires
-unfolding indexed_or_zero
-any_moved-requires c =
-    let a = c.args in
-    record {
-      fact_1 = c.requires.fact_4;
-      fact_2 = record {
-        few = omega (arith, c.line_count-count.ensures, c.requires.fact_3.few);
-        most = λ j p.
-            let q : j < line_count a.lines.now = omega (arith, c.line_count-count.ensures) in
-            rw (c.price_words-words.ensures, indexed_at (listed_mean c.args.means.now) a.lines.now j q (c.requires.fact_3.few))
-            (indexed_most 1000000 _ _);
-      };
-    }
+  worked : ◌≡◌ {A = Result LinePrices Refusal} (Ok (record { references = c.loop-j.references; power = c.loop-j.power }))
+      (Ok (worked_prices (listed_mean c.args.means.now.values) c.args.numbers c.args.lines.now c.args.in_force.now))
+  unfolding worked_prices reference_list power_list
+  worked = rw (← last, c.loop-j.invariant.references, c.loop-j.invariant.power) refl
 
--- what the words tell
-told : (c : After-any_moved) →
-    first_beyond (listed_mean c.args.means.now) c.args.numbers c.args.lines.now c.args.in_force.now ≡ None →
-    c.any_moved.result ≡ any_line_moved (listed_mean c.args.means.now) c.args.lines.now c.args.in_force.now
-told c none_beyond =
-    let a = c.args in
-    c.any_moved.ensures
-    ∙ ap₂ (λ (r : PriceWords) count. any_moved a.in_force.now count (λ j. get_or r.indexed j 0))
-    c.price_words-words.ensures (c.line_count-count.ensures)
-    ∙ words_moved (listed_mean c.args.means.now) a.numbers a.lines.now a.in_force.now none_beyond (c.requires.fact_3.few)
-
-pub returns-then-not-any_moved : goal.returns-then-not-any_moved
-unfolding bounded_prices
-returns-then-not-any_moved c =
-    rw (prices_unmoved _ _ _ _ (none_beyond (goal.at.returns-then-not-any_moved c).After-loop-j) (told_false (told (goal.at.returns-then-not-any_moved c).After-any_moved (none_beyond (goal.at.returns-then-not-any_moved c).After-loop-j)) c.if-not-any_moved.true-raw)) refl
-
-pub power_prices-requires : goal.power_prices-requires
-power_prices-requires c =
-    let a = c.args in
-    record {
-      fact_1 = record {
-        few = omega (arith, c.line_count-count.ensures, c.requires.fact_3.few);
-        most = λ j p.
-            let q : j < line_count a.lines.now = omega (arith, c.line_count-count.ensures) in
-            rw (c.price_words-words.ensures, power_at (listed_mean c.args.means.now) a.lines.now j q (c.requires.fact_3.few))
-            (power_most (listed_mean c.args.means.now) (line_of a.lines.now j));
-      };
-      fact_2 = c.requires.fact_2.dollar_most;
-    }
-
--- the power prices as they are turned
-turned : (c : After-power_prices) →
-    c.power_prices.result ≡ power_list (listed_mean c.args.means.now) c.args.numbers c.args.lines.now
-turned c =
-    let a = c.args in
-    c.power_prices.ensures
-    ∙ ap₂ (λ (r : PriceWords) count. filled_below most_lines no_power count
-    (λ j. record { 0 = power_peso_of (get_or r.purchases j 0) a.numbers.dollar }))
-    c.price_words-words.ensures (c.line_count-count.ensures)
-    ∙ words_power (listed_mean c.args.means.now) a.numbers a.lines.now a.in_force.now (none_beyond (goal.at.returns c).After-loop-j) (c.requires.fact_3.few)
+pub returns-then-not-moved : goal.returns-then-not-moved
+returns-then-not-moved c =
+    let past = (goal.at.returns-then-not-moved c).After-loop-j in
+    bounded_unmoved _ _ _ _ (none_beyond past) (sym (some_moved past) ∙ c.if-not-moved.true)
 
 pub returns : goal.returns
-unfolding bounded_prices worked_prices
 returns c =
-    rw (
-      prices_passed _ _ _ _ (none_beyond (goal.at.returns c).After-loop-j) (told_true (told (goal.at.returns c).After-any_moved (none_beyond (goal.at.returns c).After-loop-j)) c.if-not-any_moved.false-raw),
-      ← listed (goal.at.returns c).After-loop-j,
-      ← turned c,
-    )
-
-pub bounds-purchases-j : goal.bounds-purchases-j
-bounds-purchases-j c = omega (arith, c.line_count-count.ensures, c.requires.fact_3.few)
-
-pub bounds-indexed-j : goal.bounds-indexed-j
-bounds-indexed-j c = inside (goal.at.bounds-indexed-j c).In-loop-j
-
-pub offset_bounds-references-j : goal.offset_bounds-references-j
-offset_bounds-references-j c = omega (arith, inside (goal.at.offset_bounds-references-j c).In-loop-j)
-
-pub bounds-references-j : goal.bounds-references-j
-bounds-references-j c = inside (goal.at.bounds-references-j c).In-loop-j
+    let past = (goal.at.returns c).After-loop-j in
+    worked past ∙ bounded_passed _ _ _ _ (none_beyond past) (sym (some_moved past) ∙ c.if-not-moved.false)

@@ -21,15 +21,15 @@ use Rattle.supply.proofs.price.index_factor.Goals.{Start}
 module _ (s : Start) where
   abbrev added : ℕ → ℕ
   added i =
-      weighted_ratio (listed_mean s.args.means.now) (term_of s.args.line i) (ltb i s.args.line.term_count)
+      weighted_ratio (listed_mean s.args.means.now.values) (term_of s.args.checked.line i) (ltb i s.args.checked.line.term_count)
 
-  term : (i : ℕ) → ltb i s.args.line.term_count ≡ true → TermFacts (term_of s.args.line i)
-  term i h = s.requires.fact_2.term i (own_used s.args.line i h)
+  term : (i : ℕ) → ltb i s.args.checked.line.term_count ≡ true → TermFacts (term_of s.args.checked.line i)
+  term i h = s.args.checked.facts.term i (own_used s.args.checked.line i h)
 
   added_most : (i : ℕ) → added i ≤ 999999990000000000
   added_most i =
-      weighted_most (listed_mean s.args.means.now) (term_of s.args.line i)
-      (listed_most s.args.means.now s.requires.fact_1 (term_of s.args.line i)) _ (term i)
+      weighted_most (listed_mean s.args.means.now.values) (term_of s.args.checked.line i)
+      (listed_most s.args.means.now.values s.args.means.now.within (term_of s.args.checked.line i)) _ (term i)
 
   sum_most : (k : ℕ) → sum_below k added ≤ k * 999999990000000000
   sum_most k = sum_le k _ added (λ i p. added_most i)
@@ -43,10 +43,7 @@ loop-k-init c = summed_none _ _
 
 pub weighted_ratio-sum-requires : goal.weighted_ratio-sum-requires
 weighted_ratio-sum-requires c =
-    record {
-      fact_1 = c.requires.fact_1;
-      fact_2 = term (goal.at.weighted_ratio-sum-requires c).Start c.loop-k.k;
-    }
+    term (goal.at.weighted_ratio-sum-requires c).Start c.loop-k.k
 
 pub overflow_add-sum : goal.overflow_add-sum
 overflow_add-sum c =

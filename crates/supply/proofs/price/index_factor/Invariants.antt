@@ -1,5 +1,4 @@
 -- The invariant: the sum of what the terms passed add; each adds less than 10^18.
-use Prim.Native.Nat.{◌-◌}
 use lib.Dec.{ltb}
 use Rattle.numbers.proofs.SumLaws.{Summed}
 use Rattle.supply.specs.Line.{term_of}
@@ -9,7 +8,4 @@ use Rattle.supply.proofs.price.index_factor.Given as goal
 
 abbrev pub invariant-loop-k : goal.invariant-loop-k
 invariant-loop-k l =
-    Summed 4 (λ i. weighted_ratio (listed_mean l.means) (term_of l.line i) (ltb i l.line.term_count)) l.sum l.k
-
-abbrev pub decreases-loop-k : goal.decreases-loop-k
-decreases-loop-k l = 4 - l.k
+    Summed 4 (λ i. weighted_ratio (listed_mean l.means.values) (term_of l.line i) (ltb i l.line.term_count)) l.sum l.k

@@ -7,10 +7,10 @@ use native.Mathlib.Omega.{arith}
 use Rattle.supply.proofs.price.peso_price.Goals as goal
 
 pub overflow_mul-purchase : goal.overflow_mul-purchase
-overflow_mul-purchase c = omega (arith, mul-le-mul c.requires.fact_1 c.requires.fact_2)
+overflow_mul-purchase c = omega (arith, mul-le-mul c.requires.purchase_within c.requires.dollar_within)
 
 pub half_up-requires : goal.half_up-requires
-half_up-requires c = omega (arith, mul-le-mul c.requires.fact_1 c.requires.fact_2)
+half_up-requires c = omega (arith, mul-le-mul c.requires.purchase_within c.requires.dollar_within)
 
 pub returns : goal.returns
 unfolding peso_of

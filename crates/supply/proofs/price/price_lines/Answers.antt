@@ -3,7 +3,6 @@ use mathlib.Core.Path.{◌≡◌, sym, ◌∙◌, ap}
 use mathlib.Core.List.{[], ◌∷◌}
 use Rattle.numbers.specs.Checks.{verdict_of}
 use Rattle.std.proofs.lemmas.Result.{err_from_is_err_and}
-use Rattle.series.proofs.MeanLaws.{means_within}
 use Rattle.supply.specs.Listed.{listed_mean, listed_lacks}
 use Rattle.supply.specs.Months.{lacks_month, month_check}
 use Rattle.supply.specs.Price.{bounded_prices}
@@ -19,25 +18,9 @@ module _ (m : After-search_months) where
   searched =
       m.search_months.ensures
       ∙ ap (λ means. verdict_of (month_check (listed_lacks means) m.args.lines.now ∷ []))
-      m.means-means.ensures
+      m.of-means.ensures
       ∙ ap (λ check. verdict_of (check ∷ []))
-      (check_listed m.args.table m.args.numbers m.args.lines.now m.requires.fact_3)
-
-pub means-means-requires : goal.means-means-requires
-means-means-requires c =
-    record {
-      fact_1 = c.requires.fact_1;
-      fact_2 = c.requires.fact_2.start;
-    }
-
-pub bounded_prices-requires : goal.bounded_prices-requires
-bounded_prices-requires c =
-    record {
-      fact_1 = rw c.means-means.ensures (means_within c.args.table c.requires.fact_1 _ _);
-      fact_2 = c.requires.fact_2;
-      fact_3 = c.requires.fact_3;
-      fact_4 = c.requires.fact_4;
-    }
+      (check_listed m.args.table m.args.numbers m.args.lines.now m.requires.lines_checked)
 
 pub returns-in_err-search_months : goal.returns-in_err-search_months
 returns-in_err-search_months c =
@@ -55,7 +38,7 @@ returns c =
     prices_promised a.table a.numbers a.lines.now a.in_force.now _
     (c.bounded_prices.ensures
     ∙ ap (λ means. bounded_prices (listed_mean means) a.numbers a.lines.now a.in_force.now)
-    c.means-means.ensures
-    ∙ prices_listed a.table a.numbers a.lines.now c.requires.fact_3
+    c.of-means.ensures
+    ∙ prices_listed a.table a.numbers a.lines.now c.requires.lines_checked
     (months_present a.table a.numbers a.lines.now a.in_force.now present) a.in_force.now
     ∙ months_priced a.table a.numbers a.lines.now a.in_force.now present)

@@ -11,17 +11,17 @@ use Rattle.supply.proofs.price.term_ratio.Goals.{After-term_mean}
 
 mean_most : (c : After-term_mean) → c.term_mean.result ≤ most_mean
 mean_most c =
-    rw c.term_mean.ensures (listed_most c.args.means.now c.requires.fact_1 c.args.term)
+    rw c.term_mean.ensures (listed_most c.args.means.now.values c.args.means.now.within c.args.term)
 
 pub overflow_mul-term_mean : goal.overflow_mul-term_mean
 overflow_mul-term_mean c = omega (arith, mean_most c)
 
 pub overflow_mul-term : goal.overflow_mul-term
-overflow_mul-term c = omega (arith, c.requires.fact_2.base_most)
+overflow_mul-term c = omega (arith, c.requires.base_most)
 
 pub half_up-requires : goal.half_up-requires
 half_up-requires c =
-    omega (arith, mean_most (goal.at.half_up-requires c).After-term_mean, c.requires.fact_2.base, c.requires.fact_2.base_most)
+    omega (arith, mean_most (goal.at.half_up-requires c).After-term_mean, c.requires.base, c.requires.base_most)
 
 pub returns : goal.returns
 unfolding term_ratio ratio_of

@@ -11,24 +11,21 @@ use Rattle.supply.proofs.price.weighted_ratio.Goals.{After-term_ratio}
 
 product : (c : After-term_ratio) →
     c.args.term.weight * c.term_ratio.result ≡ weighted_ratio
-    (listed_mean c.args.means.now) c.args.term c.args.used
+    (listed_mean c.args.means.now.values) c.args.term c.args.used
 unfolding weighted_ratio
 product c = rw c.if-used.true (ap (λ r. c.args.term.weight * r) c.term_ratio.ensures)
 
 pub term_ratio-requires : goal.term_ratio-requires
 term_ratio-requires c =
-    record {
-      fact_1 = c.requires.fact_1;
-      fact_2 = c.requires.fact_2 c.if-used.true;
-    }
+    c.requires c.if-used.true
 
 pub overflow_mul-result : goal.overflow_mul-result
 overflow_mul-result c =
     omega (
       arith,
       product (goal.at.overflow_mul-result c).After-term_ratio,
-      weighted_most (listed_mean c.args.means.now) c.args.term
-          (listed_most c.args.means.now c.requires.fact_1 c.args.term) c.args.used c.requires.fact_2,
+      weighted_most (listed_mean c.args.means.now.values) c.args.term
+          (listed_most c.args.means.now.values c.args.means.now.within c.args.term) c.args.used c.requires,
     )
 
 pub returns-then-used : goal.returns-then-used

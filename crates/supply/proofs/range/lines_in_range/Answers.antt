@@ -12,7 +12,7 @@ pub loop-j-init : goal.loop-j-init
 loop-j-init c = tested_none _ _
 
 pub line_at-requires : goal.line_at-requires
-line_at-requires c = omega (arith, c.line_count-count.ensures)
+line_at-requires c = omega (arith, c.line_count-j-end.ensures)
 
 -- what the test says of the line
 tested : (c : After-line_in_range) →
@@ -23,14 +23,14 @@ tested c = c.line_in_range.ensures ∙ ap (line_in_range _) c.line_at.ensures
 pub returns-then-not-line_in_range : goal.returns-then-not-line_in_range
 unfolding lines_in_range
 returns-then-not-line_in_range c =
-    tested_fails c.loop-j.invariant (omega (arith, c.line_count-count.ensures))
+    tested_fails c.loop-j.invariant (omega (arith, c.line_count-j-end.ensures))
     (told_false (tested (goal.at.returns-then-not-line_in_range c).After-line_in_range) c.if-not-line_in_range.true-raw)
 
 pub loop-j-preserved : goal.loop-j-preserved
 loop-j-preserved c =
-    tested_more c.loop-j.invariant (omega (arith, c.line_count-count.ensures))
+    tested_more c.loop-j.invariant (omega (arith, c.line_count-j-end.ensures))
     (told_true (tested (goal.at.loop-j-preserved c).After-line_in_range) c.if-not-line_in_range.false-raw)
 
 pub returns : goal.returns
 unfolding lines_in_range
-returns c = tested_all c.loop-j.invariant (omega (arith, c.line_count-count.ensures))
+returns c = tested_all c.loop-j.invariant (omega (arith, c.line_count-j-end.ensures))
