@@ -9,7 +9,8 @@ pub answer_ok : {A : Type 0} (verdict : Verdict) (worked next : A) → Ok next �
 answer_ok (Ok _) worked next h = (refl, cc)
 answer_ok (Err refusal) worked next h = absurd cc
 
-pub answer_err : {A : Type 0} (verdict : Verdict) (worked : A) (refusal : Refusal) → Err refusal ≡ answer_by verdict worked →
+pub answer_err : {A : Type 0} (verdict : Verdict) (worked : A) (refusal : Refusal) →
+    Err refusal ≡ answer_by verdict worked →
     verdict ≡ Err refusal
 answer_err (Ok _) worked refusal h = absurd cc
 answer_err (Err met) worked refusal h = cc

@@ -28,7 +28,8 @@ number_back sheet place number p s =
 
 -- the four words at a place
 four_words : (list : List ℕ) (place : ℕ) → place + 4 ≤ length list →
-    drop place list ≡ get_or list place 0 ∷ get_or list (place + 1) 0 ∷ get_or list (place + 2) 0 ∷ get_or list (place + 3) 0
+    drop place list
+    ≡ get_or list place 0 ∷ get_or list (place + 1) 0 ∷ get_or list (place + 2) 0 ∷ get_or list (place + 3) 0
     ∷ drop (place + 4) list
 four_words list place p =
     rw (add-one, add-two, add-three, add-four)
@@ -50,7 +51,8 @@ module _ (sheet : List ℕ) (bytes : ValuesWithin 255 sheet) (place : ℕ) where
       )
 
   abbrev words : List ℕ
-  words = get_or sheet place 0 ∷ get_or sheet (place + 1) 0 ∷ get_or sheet (place + 2) 0 ∷ get_or sheet (place + 3) 0 ∷ []
+  words =
+      get_or sheet place 0 ∷ get_or sheet (place + 1) 0 ∷ get_or sheet (place + 2) 0 ∷ get_or sheet (place + 3) 0 ∷ []
 
   words_within : (j : ℕ) → get_or words j 0 < 256
   words_within zero = omega (arith, bytes.most place)

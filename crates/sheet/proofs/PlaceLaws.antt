@@ -86,7 +86,8 @@ maps_rise sheet i n p =
     rw e at (map_up sheet i (n - i))
 
 -- a number that stands whole in the sheet
-pub whole_within : (sheet : List ℕ) (place : ℕ) → (whole_check sheet place).met ≡ None → place + number_size ≤ length sheet
+pub whole_within : (sheet : List ℕ) (place : ℕ) → (whole_check sheet place).met ≡ None →
+    place + number_size ≤ length sheet
 unfolding whole_check
 whole_within sheet place h =
     leb-true (place + number_size) (length sheet)

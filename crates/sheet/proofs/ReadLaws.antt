@@ -24,8 +24,8 @@ use Rattle.sheet.specs.Sheet.{bit_at, reading_place, map_place, whole_check, rea
 use Rattle.sheet.specs.Sheet.{sheet_readings, sheet_checks}
 use Rattle.sheet.specs.Read.{read_checks, read_list, ReadPromise}
 use Rattle.sheet.proofs.AnswerLaws.{answer_ok, answer_err}
-use Rattle.sheet.proofs.PlaceLaws.{Walked, walked_none, walked_bit, walked_more, reading_within, own_checks, each_checks}
-use Rattle.sheet.proofs.PlaceLaws.{places_within, next_map}
+use Rattle.sheet.proofs.PlaceLaws.{Walked, walked_none, walked_bit, walked_more, reading_within, own_checks}
+use Rattle.sheet.proofs.PlaceLaws.{each_checks, places_within, next_map}
 
 -- a reading: absent, cut off, zero, and neither
 module _ (sheet : List ℕ) (place : ℕ) where
@@ -55,7 +55,8 @@ module _ (sheet : List ℕ) (place : ℕ) where
   map_refused p = rw (lt-leb (place + number_size) (length sheet) p)
 
   pub map_passes : place + number_size ≤ length sheet →
-      verdict_of (distributor_checks sheet place) ≡ verdict_of (join_below distributor_readings (own_checks sheet place))
+      verdict_of (distributor_checks sheet place)
+      ≡ verdict_of (join_below distributor_readings (own_checks sheet place))
   unfolding distributor_checks whole_check verdict_of
   map_passes p = rw (le-leb (place + number_size) (length sheet) p)
 
@@ -207,12 +208,14 @@ read_told n sheet lent = (
 )
 
 -- where all checks pass the last map's end lies within the sheet
-pub maps_within : (n : ℕ) (sheet : List ℕ) → verdict_of (sheet_checks n sheet) ≡ Ok tt → map_place sheet n ≤ length sheet
+pub maps_within : (n : ℕ) (sheet : List ℕ) → verdict_of (sheet_checks n sheet) ≡ Ok tt →
+    map_place sheet n ≤ length sheet
 unfolding sheet_checks map_place
 maps_within zero sheet h = omega arith
 maps_within (suc i) sheet h =
     places_within sheet (map_place sheet i)
-    (join_passed (each_checks sheet) (suc i) (first_passed (join_below (suc i) (each_checks sheet)) _ h) i (omega arith))
+    (join_passed (each_checks sheet) (suc i) (first_passed (join_below (suc i) (each_checks sheet)) _ h) i
+    (omega arith))
     distributor_readings (omega arith)
 
 -- the open call: its verdict, check by check, and its promise

@@ -62,7 +62,8 @@ module _ (sheet : List ℕ) (place : ℕ) (readings : List ℕ) (s : Stands shee
   mapped : Mapped sheet place readings
   mapped =
       record {
-        bit = λ b p. ap (λ map. bit_of map b) (number_back sheet place (bit_map readings) (map_below readings) map_stands)
+        bit = λ b p.
+            ap (λ map. bit_of map b) (number_back sheet place (bit_map readings) (map_below readings) map_stands)
             ∙ map_bit readings b p;
       }
 

@@ -16,7 +16,8 @@ use numbers::refusal::Refusal;
 use numbers::sizes::{DISTRIBUTOR_READINGS, MOST_DISTRIBUTORS};
 use numbers::units::is_between;
 
-// The place after a reading, by its bit and its place.
+// The place after a reading, by its bit and its place. Sheet and place stay two parameters, since the definitions take
+// the two and each function has a bound of its own on the place; the bit is a number, as it is in a map.
 fn place_after(bit: u64, sheet: &[u8], place: usize) -> Result<usize, Refusal>
     requires bit_below_two { bit ≤ 1 }
     requires within { place ≤ length sheet.now }
@@ -96,7 +97,8 @@ fn write_readings(sheet: &[u8], place: usize, readings: &mut [u64]) -> usize
     at
 }
 
-// The readings of a sheet that passed, in one loop that cannot fail.
+// The readings of a sheet that passed, in one loop that cannot fail. (No clause of `chunks_exact_mut` says what the
+// list holds afterwards.)
 fn write_all(n: usize, sheet: &[u8], readings: &mut [u64])
     requires { WholeSheet n sheet.now readings.old }
     ensures { readings.new ≡ sheet_readings n sheet.now }

@@ -92,8 +92,8 @@ fn lengths_right(n: usize, readings: &[u64], buffer: &[u8]) -> bool
     (readings.len() == n * DISTRIBUTOR_READINGS) & (n * DISTRIBUTOR_BYTES <= buffer.len())
 }
 
-// The sheet of the readings of n distributors, 32 words each, first in a buffer of at least 132 bytes for each: how many
-// bytes it has. Where it is refused the buffer is as it was.
+// The sheet of the readings of n distributors, 32 words each, first in a buffer of at least 132 bytes for each: how
+// many bytes it has. Where it is refused the buffer is as it was.
 pub fn write_sheet(n: usize, readings: &[u64], buffer: &mut [u8]) -> Result<usize, Refusal>
     ensures { WritePromise n readings.now buffer.old result buffer.new }
 {

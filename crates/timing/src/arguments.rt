@@ -67,8 +67,8 @@ fn is_argument(env: &impl Env, i: usize) -> bool {
     !matches!(env.arg(i, &mut [0u8; 1]), Err(FillError::NotPresent))
 }
 
-// What the three arguments after the program's name ask for, unless there are more or fewer, one is longer than any that
-// is known, or one is unknown.
+// What the three arguments after the program's name ask for, unless there are more or fewer, one is longer than any
+// that is known, or one is unknown.
 pub(crate) fn read_arguments(env: &impl Env) -> Option<Task> {
     if is_argument(env, 4) {
         return None;

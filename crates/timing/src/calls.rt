@@ -1,6 +1,4 @@
 // The calls that are timed: each is given the same ledger and the same lent lists every time.
-ghost use Rattle.std.specs.Prelude.{◌≤◌};
-
 use crate::arguments::Kinds;
 use crate::load::Load;
 use crate::report::PRICES;

@@ -1,6 +1,6 @@
 // The two loads, word by word as bench/plain.rs makes them: 40 distributors and 256 lines. The even one has words alike
 // and no charges; the mixed one has words of every size, absent sectors, two rounds and transfers.
-ghost use Rattle.std.specs.Prelude.{◌*◌, ◌<◌, ◌≤◌, length};
+ghost use Rattle.std.specs.Prelude.{◌*◌, ◌<◌};
 ghost use Rattle.supply.specs.Line.{line_words, most_lines};
 
 use numbers::sizes::{MOST_DISTRIBUTORS, PLACES};

@@ -18,17 +18,16 @@ returns-then-sheet-start-lt-NUMBER_SIZE c = rw (map_refused c.args.sheet.now c.a
 pub loop-init : goal.loop-init
 loop-init c = checked_none _ _ (omega arith) _ c.number_at-bits.ensures
 
-pub place_after-requires-clause-within : goal.place_after-requires-clause-within
-place_after-requires-clause-within c = c.loop.invariant.within
-
 pub returns-in_err-at : goal.returns-in_err-at
 returns-in_err-at c =
     let p = err_from_is_err_and c.from_residual.result c.from_residual.ensures.1 in
-    rw (p.1, p.2) (checked_wrong _ _ (whole (goal.at.returns-in_err-at c).Else-sheet-start-lt-NUMBER_SIZE) c.loop.invariant _ c.in_err-at.ensures (omega arith))
+    let e = (goal.at.returns-in_err-at c).Else-sheet-start-lt-NUMBER_SIZE in
+    rw (p.1, p.2) (checked_wrong _ _ (whole e) c.loop.invariant _ c.in_err-at.ensures (omega arith))
 
 pub loop-preserved : goal.loop-preserved
 loop-preserved c =
-    checked_more _ _ (whole (goal.at.loop-preserved c).Else-sheet-start-lt-NUMBER_SIZE) c.loop.invariant _ c.in_ok-at.ensures
+    let e = (goal.at.loop-preserved c).Else-sheet-start-lt-NUMBER_SIZE in
+    checked_more _ _ (whole e) c.loop.invariant _ c.in_ok-at.ensures
 
 pub returns : goal.returns
 returns c = checked_all _ _ (whole (goal.at.returns c).Else-sheet-start-lt-NUMBER_SIZE) c.loop.invariant (omega arith)

@@ -13,9 +13,6 @@ pub returns-then-bit-eq0 : goal.returns-then-bit-eq0
 unfolding reading_by
 returns-then-bit-eq0 c = rw c.if-bit-eq0.true
 
-pub number_at-requires : goal.number_at-requires
-number_at-requires c = omega (arith, one c, c.requires.within)
-
 pub returns : goal.returns
 unfolding reading_by
 returns c = rw (one (goal.at.returns c).Else-bit-eq0) c.number_at.ensures

@@ -9,9 +9,6 @@ use Rattle.sheet.proofs.read.sheet_verdict.Goals.{After-loop}
 pub loop-init : goal.loop-init
 loop-init c = sheet_none _
 
-pub distributor_end-requires : goal.distributor_end-requires
-distributor_end-requires c = c.loop.invariant.within
-
 pub returns-in_err-at : goal.returns-in_err-at
 returns-in_err-at c =
     let p = err_from_is_err_and c.from_residual.result c.from_residual.ensures.1 in

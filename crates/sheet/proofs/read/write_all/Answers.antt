@@ -52,9 +52,11 @@ loop-i-preserved c =
     let done = join_below i (own sheet) in
     let found = c.args.readings.now in
     let written : c.write_readings-at.new.readings ≡ own sheet i =
-    c.write_readings-at.ensures.readings_after ∙ ap (λ a. list_below distributor_readings (reading_at sheet a)) c.loop-i.invariant.stands in
+    c.write_readings-at.ensures.readings_after
+    ∙ ap (λ a. list_below distributor_readings (reading_at sheet a)) c.loop-i.invariant.stands in
     record {
-      stands = c.write_readings-at.ensures.value ∙ ap (λ a. reading_place sheet a distributor_readings) c.loop-i.invariant.stands
+      stands = c.write_readings-at.ensures.value
+          ∙ ap (λ a. reading_place sheet a distributor_readings) c.loop-i.invariant.stands
           ∙ sym (next_map sheet i);
       written = ap (put_mid (i * 32) (i * 32 + 32 - i * 32) c.loop-i.readings) written
           ∙ front_more done found c.loop-i.invariant.written (own sheet i) (i * 32) (i * 32 + 32 - i * 32)
@@ -74,6 +76,3 @@ returns c =
 
 pub slice_bounds-write_readings-end : goal.slice_bounds-write_readings-end
 slice_bounds-write_readings-end c = fits c
-
-pub shape_of-readings : goal.shape_of-readings
-shape_of-readings c = long (goal.at.shape_of-readings c).At-loop-i

@@ -15,5 +15,6 @@ own sheet i = list_below distributor_readings (reading_at sheet (map_place sheet
 abbrev pub invariant-loop-i : goal.invariant-loop-i
 invariant-loop-i l = record {
   stands : l.at ≡ map_place l.sheet l.i;
-  written : l.readings ≡ join_below l.i (own l.sheet) ++ drop (length (join_below l.i (own l.sheet))) l.initial.readings;
+  written : l.readings
+      ≡ join_below l.i (own l.sheet) ++ drop (length (join_below l.i (own l.sheet))) l.initial.readings;
 }

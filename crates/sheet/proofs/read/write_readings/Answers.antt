@@ -1,12 +1,12 @@
 -- The invariant: the walk comes to reading b, and those before it are written.
-use mathlib.Core.Path.{◌≡◌, refl, ◌∙◌, ap, ap₂}
+use mathlib.Core.Path.{refl, ◌∙◌, ap₂}
 use Prim.Native.Nat.{◌+◌, ◌*◌, ◌%◌, ◌≤◌}
 use native.Mathlib.Omega.{arith}
 use lib.ListN.{length}
 use Rattle.numbers.specs.Sizes.{distributor_readings}
-use Rattle.numbers.proofs.ListLaws.{written_none, written_more, written_all}
+use Rattle.numbers.proofs.ListLaws.{written_none, written_more}
 use Rattle.sheet.specs.Number.{number_size}
-use Rattle.sheet.specs.Sheet.{reading_place, reading_by, reading_at}
+use Rattle.sheet.specs.Sheet.{reading_by, reading_at}
 use Rattle.sheet.proofs.PlaceLaws.{walked_none, walked_bit, walked_next, walked_more, first_place}
 use Rattle.sheet.proofs.PlaceLaws.{places_rise}
 use Rattle.sheet.proofs.read.write_readings.Goals as goal
@@ -50,7 +50,8 @@ pub reading_by-requires-clause-within : goal.reading_by-requires-clause-within
 reading_by-requires-clause-within c = reading_within (goal.at.reading_by-requires-clause-within c).In-loop-reading
 
 pub overflow_add-at-in-loop-reading : goal.overflow_add-at-in-loop-reading
-overflow_add-at-in-loop-reading c = omega (arith, reading_within (goal.at.overflow_add-at-in-loop-reading c).In-loop-reading)
+overflow_add-at-in-loop-reading c =
+    omega (arith, reading_within (goal.at.overflow_add-at-in-loop-reading c).In-loop-reading)
 
 pub loop-reading-preserved : goal.loop-reading-preserved
 unfolding reading_at
@@ -61,12 +62,4 @@ loop-reading-preserved c =
       written = written_more c.loop-reading.invariant.written (omega arith)
           (c.reading_by.ensures
           ∙ ap₂ (λ bit a. reading_by bit c.args.sheet.now a) (walked_bit _ _ w) w.stands);
-    }
-
-pub returns : goal.returns
-returns c =
-    let e : c.loop-reading.reading-index ≡ distributor_readings = omega arith in
-    record {
-      value = c.loop-reading.invariant.walked.stands ∙ ap (reading_place c.args.sheet.now c.args.place) e;
-      readings_after = written_all c.loop-reading.invariant.written (omega arith);
     }

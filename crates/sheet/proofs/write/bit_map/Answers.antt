@@ -1,7 +1,7 @@
 -- The invariant: the bits of the readings passed are added, each at its power of two.
 use Prim.Native.Nat.{◌*◌, ◌^◌, ◌≤◌}
 use native.Mathlib.Omega.{arith}
-use Rattle.sheet.proofs.WriteLaws.{bits_none, bits_more, bits_all, power_most, product_most, map_most}
+use Rattle.sheet.proofs.WriteLaws.{bits_none, bits_more, bits_all, product_most, map_most}
 use Rattle.sheet.proofs.write.bit_map.Goals as goal
 use Rattle.sheet.proofs.write.bit_map.Goals.{After-presence_bit}
 
@@ -17,9 +17,6 @@ overflow_mul-map c = omega (arith, product c)
 
 pub overflow_add-map : goal.overflow_add-map
 overflow_add-map c = omega (arith, product c, map_most c.loop-reading.invariant (omega arith))
-
-pub overflow_mul-power : goal.overflow_mul-power
-overflow_mul-power c = omega (arith, power_most c.loop-reading.invariant (omega arith))
 
 pub loop-reading-preserved : goal.loop-reading-preserved
 loop-reading-preserved c = rw c.presence_bit.ensures (bits_more c.loop-reading.invariant)

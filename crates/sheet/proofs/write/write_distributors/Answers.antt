@@ -79,14 +79,6 @@ write_distributor-at-requires c =
       room = omega (arith, room s, mid_len c.loop-own.at (length c.loop-own.buffer) c.loop-own.buffer (omega arith));
     }
 
-pub slice_bounds-write_distributor-count : goal.slice_bounds-write_distributor-count
-slice_bounds-write_distributor-count c =
-    omega (arith, room (goal.at.slice_bounds-write_distributor-count c).In-Some)
-
-pub slice_bounds-write_distributor-start : goal.slice_bounds-write_distributor-start
-slice_bounds-write_distributor-start c =
-    omega (arith, room (goal.at.slice_bounds-write_distributor-start c).In-Some)
-
 -- one distributor more is written
 module _ (s : In-Some) (used : ℕ) (into : List ℕ)
     (w : FirstWritten (distributor_bytes s.in-Some.own.now)

@@ -54,14 +54,18 @@ unfolding written_first
 loop-reading-preserved c =
     let readings = c.args.readings.now in
     let found = c.args.into.now in
+    let at = c.loop-reading.at in
+    let into = c.loop-reading.into in
+    let before = done (goal.at.loop-reading-preserved c).At-loop-reading in
     let bytes = reading_bytes (get_or readings c.loop-reading.reading-index 0) in
     let next = sym (join_step (λ j. reading_bytes (get_or readings j 0)) c.loop-reading.reading-index) in
+    let held = c.loop-reading.invariant in
     record {
-      used = omega (arith, c.loop-reading.invariant.used, c.write_reading-at.ensures.sized, length-append (done (goal.at.loop-reading-preserved c).At-loop-reading) bytes, ap length next);
-      written = ap (put_mid c.loop-reading.at (length c.loop-reading.into - c.loop-reading.at) c.loop-reading.into)
-          c.write_reading-at.ensures.listed
-          ∙ front_onto (done (goal.at.loop-reading-preserved c).At-loop-reading) found c.loop-reading.invariant.written bytes c.loop-reading.at (length c.loop-reading.into - c.loop-reading.at)
-          c.loop-reading.invariant.used refl
+      used =
+          omega (arith, held.used, c.write_reading-at.ensures.sized, length-append before bytes, ap length next);
+      written =
+          ap (put_mid at (length into - at) into) c.write_reading-at.ensures.listed
+          ∙ front_onto before found held.written bytes at (length into - at) held.used refl
           ∙ ap (λ all. all ++ drop (length all) found) next;
     }
 
@@ -76,12 +80,3 @@ returns c =
           c.loop-reading.invariant.written
           ∙ ap (λ b. bytes_before readings b ++ drop (length (bytes_before readings b)) c.args.into.now) e;
     }
-
-pub slice_bounds-write_reading-count : goal.slice_bounds-write_reading-count
-slice_bounds-write_reading-count c = omega (arith, room (goal.at.slice_bounds-write_reading-count c).At-loop-reading c.loop-reading-test.true)
-
-pub slice_bounds-write_reading-start : goal.slice_bounds-write_reading-start
-slice_bounds-write_reading-start c = omega (arith, room (goal.at.slice_bounds-write_reading-start c).At-loop-reading c.loop-reading-test.true)
-
-pub slice_bounds-write_reading-end : goal.slice_bounds-write_reading-end
-slice_bounds-write_reading-end c = omega (arith, room (goal.at.slice_bounds-write_reading-end c).At-loop-reading c.loop-reading-test.true)
