@@ -62,8 +62,8 @@ returns-then-not-billing_in_range c =
 pub positions-positions-requires : goal.positions-positions-requires
 positions-positions-requires c =
     record {
-      fact_1 = sound_balances _ (sym c.if-not-is_sound.ensures);
-      fact_2 =
+      within = sound_balances _ (sym c.if-not-is_sound.ensures);
+      billed =
           rw c.billed_under-force.ensures
           (billed_lists _ (call (goal.at.positions-positions-requires c).Start) (sym c.if-not-is_sound.ensures)
           (sym c.if-not-lengths_right.ensures)
