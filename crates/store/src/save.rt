@@ -1,6 +1,7 @@
 // A ledger as the parts of its form: both fixings, balances and counts of its distributors, or all where a word past
 // them is not zero.
-ghost use Rattle.std.specs.Prelude.{◌≡◌, ◌<◌, length};
+ghost use Rattle.std.specs.Prelude.{◌≡◌, ◌<◌, ◌≤◌, length};
+ghost use Rattle.numbers.specs.Sizes.{most_distributors};
 ghost use Rattle.store.specs.Store.{truth_word, older_from, kept_words, charges_word, ledger_word};
 ghost use Rattle.store.specs.Store.{ledger_words, word_owner, zero_past, kept_among, Saved};
 
@@ -101,7 +102,8 @@ fn zero_past(n: usize, words: &[u64]) -> bool
 // For how many distributors words are kept.
 fn kept_among(n: usize, words: &[u64]) -> usize
     requires { length words.now ≡ kept_words }
-    ensures { result ≡ kept_among n words.now }
+    ensures value { result ≡ kept_among n words.now }
+    ensures few { result ≤ most_distributors }
 {
     if n <= MOST_DISTRIBUTORS && zero_past(n, words) {
         return n;
