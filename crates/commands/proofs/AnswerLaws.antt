@@ -22,7 +22,7 @@ use Rattle.sheet.specs.Sheet.{sheet_bytes}
 use Rattle.sheet.specs.Write.{write_verdict}
 use Rattle.sheet.proofs.WriteLaws.{used_few}
 use Rattle.answers.proofs.SizeLaws.{outcome_size, settled_size, fixed_size, sheet_read_size, sheet_written_size}
-use Rattle.commands.specs.Replay.{opening_text, fixing_text, settlement_text, joining_text, loading_text}
+use Rattle.commands.specs.Replay.{opening_text, fixing_call, fixing_text, settlement_text, joining_text, loading_text}
 use Rattle.commands.specs.Replay.{unwritten_bytes, sheet_reading_text, sheet_writing_text, command_answer}
 use Rattle.commands.specs.Replay.{word_room, longest_answer}
 use Rattle.commands.proofs.SavedLaws.{saving_size}
@@ -58,7 +58,7 @@ fixing_fits false = omega arith
 
 answer_fits : (command : Command) (parts : List Held) (ledger : Ledger) →
     length (command_answer command parts ledger) ≤ longest_answer
-unfolding opening_text fixing_text settlement_text joining_text loading_text sheet_reading_text
+unfolding opening_text fixing_text fixing_call settlement_text joining_text loading_text sheet_reading_text
 answer_fits Open parts ledger = le_trans (outcome_size (bytes "open") (omega arith) _) (omega arith)
 answer_fits Fix parts ledger = le_trans (fixed_size _ (fixing_fits false) _ _ _) (omega arith)
 answer_fits Settle parts ledger = le_trans (settled_size (bytes "settle") (omega arith) _ _ _) (omega arith)

@@ -59,7 +59,7 @@ load_shows = refl
 -- the word `load` at the start of a text
 load_command : (tail : List ℕ) → Ends tail →
     Ok (Some (read_of Load (length load_name))) ≡ command_after (load_name ++ tail) 0
-unfolding command_named find_name before_blank name_text
+unfolding command_named before_blank name_text
 load_command tail e =
     command_some (load_name ++ tail) 0 _
     (token_same (load_name ++ tail) 0 load_name tail load_plain e refl (omega arith)) (λ q. omega (arith, q))

@@ -37,7 +37,7 @@ impl Means {
         }
     }
 
-    // The mean of a term, 0 where a month of it is missing.
+    // The mean of a term, 0 where a month of it is missing, as the list has it.
     pub(crate) fn term_mean(&self, term: Term) -> u64
         requires { TermFacts term }
         ensures { result ≡ listed_mean self.now.values term }

@@ -4,7 +4,7 @@ use mathlib.Core.Bool.{◌||◌}
 use Rattle.std.specs.Prelude.{Option, Some, None, Result, Ok, Err}
 use Rattle.std.specs.Option.{ok_or}
 use Rattle.std.proofs.lemmas.Result.{err_from_is_err_and}
-use Prim.Native.Nat.{ℕ, ◌*◌, ◌<◌}
+use Prim.Native.Nat.{ℕ, ◌*◌, ◌<◌, ◌≤◌}
 use native.Mathlib.Omega.{arith}
 use native.Mathlib.Nat.{mul-le-mul}
 use Rattle.numbers.specs.Bounded.{any_below, first_below}
@@ -57,6 +57,9 @@ module _ (c : In_ok-line) where
   says : Worded mean (line_of c.args.lines.now c.loop-j.j) c.in_ok-line.line
   says = worded mean (line_of c.args.lines.now c.loop-j.j) c.in_ok-line.line has
 
+  turned : c.in_ok-line.line.purchase * c.args.numbers.dollar ≤ 20000000000000
+  turned = mul-le-mul {n₂ = most_power_price} says.purchase_most c.requires.numbers_checked.dollar_most
+
 -- its reference
 answered : (c : After-reference_price) →
     line_words (listed_mean c.args.means.now.values) (line_of c.args.lines.now c.loop-j.j) ≡ Some c.in_ok-line.line →
@@ -103,14 +106,10 @@ has_moved-moved-requires-clause-indexed_within c =
     (says (goal.at.has_moved-moved-requires-clause-indexed_within c).In_ok-line).indexed_most
 
 pub overflow_mul-line : goal.overflow_mul-line
-overflow_mul-line c =
-    let most = (says (goal.at.overflow_mul-line c).In_ok-line).purchase_most in
-    omega (arith, mul-le-mul {n₂ = most_power_price} most c.requires.numbers_checked.dollar_most)
+overflow_mul-line c = omega (arith, turned (goal.at.overflow_mul-line c).In_ok-line)
 
 pub half_up-requires-clause-fact_2 : goal.half_up-requires-clause-fact_2
-half_up-requires-clause-fact_2 c =
-    let most = (says (goal.at.half_up-requires-clause-fact_2 c).In_ok-line).purchase_most in
-    omega (arith, mul-le-mul {n₂ = most_power_price} most c.requires.numbers_checked.dollar_most)
+half_up-requires-clause-fact_2 c = omega (arith, turned (goal.at.half_up-requires-clause-fact_2 c).In_ok-line)
 
 pub returns-in_err-line : goal.returns-in_err-line
 returns-in_err-line c =
