@@ -46,7 +46,8 @@ module _ (prices : List PowerPrice) (lines : List ℕ) (ok : PowerPricedLines pr
 -- the averages of an input's power prices are 02's
 pub input_power_lem : (n : ℕ) (input : FixingInput) → n ≤ most_distributors → line_count input.lines ≤ most_lines →
     (i : ℕ) → i < n → (get_or (input_power n input) i no_power).0 ≡ input_power_average input i
-unfolding input_power input_power_prices power_averages power_list power_price average_price lines_amount own_sum own_part
+unfolding input_power input_power_prices power_averages power_list power_price average_price lines_amount own_sum
+    own_part
 input_power_lem n input few count i p =
     ap (λ x. x.0) (filled_at most_distributors no_power _ n i p (omega arith))
     ∙ ap (λ x. half_up x (supplied_energy input.lines i))

@@ -1,5 +1,5 @@
--- What a fixing of input of right lengths comes to where it is accepted: averages, average power prices, prices, charges
--- and sector charges. Assumes nothing.
+-- What a fixing of input of right lengths comes to where it is accepted: averages, average power prices, prices,
+-- charges and sector charges. Assumes nothing.
 use Rattle.std.specs.Prelude.{List, [], ℕ, Result}
 use Rattle.numbers.specs.Checks.{AnswersBy}
 use Rattle.numbers.specs.declared.refusal.Refusal.{Refusal}

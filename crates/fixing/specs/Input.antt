@@ -12,7 +12,8 @@ use Rattle.series.specs.Series.{series_table, values_in_range}
 use Rattle.supply.specs.Line.{line_of, SameEnergyWords}
 use Rattle.supply.specs.Range.{input_in_range}
 use Rattle.supply.specs.Months.{Place, lacks_month, first_missing}
-use Rattle.supply.specs.Price.{term_mean, line_power, first_beyond, any_line_moved, table_checks, reference_list, power_list}
+use Rattle.supply.specs.Price.{term_mean, line_power, first_beyond, any_line_moved, table_checks, reference_list}
+use Rattle.supply.specs.Price.{power_list}
 use Rattle.supply.specs.declared.line.Term.{Term}
 use Rattle.supply.specs.declared.market.FixingNumbers.{FixingNumbers}
 use Rattle.fixing.specs.Limit.{Distributors}

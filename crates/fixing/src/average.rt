@@ -12,8 +12,8 @@ use numbers::sizes::MOST_DISTRIBUTORS;
 use numbers::units::{Energy, PesoPrice, UnsignedPesos};
 use supply::line::{MOST_LINES, line_at, line_count};
 
-// The energy of each distributor, in one pass over the lines. `amounts` and `power_amounts` pass over them likewise, each
-// with sums of its own unit: of one function with a closure the kit takes no answer to what the closure's calls ask.
+// The energy of each distributor, in one pass over the lines. `amounts` and `power_amounts` pass over them likewise,
+// each with sums of its own unit: in one function with a closure the kit takes no answer to what its calls ask.
 pub(crate) fn energies(lines: &[u64]) -> [Energy; MOST_DISTRIBUTORS]
     requires { OwnLines lines.now }
     ensures { result ≡ energy_list lines.now }

@@ -56,4 +56,5 @@ unfolding average_list average_price
 returns c =
     c.divide_amounts.ensures
     ∙ filled_same most_distributors no_price c.args.n _ _
-    (λ i p. ap₂ {C = PesoPrice} (λ x y. record { 0 = half_up x y }) (amount (goal.at.returns c).After-amounts i p) (energy (goal.at.returns c).After-amounts i p))
+    (λ i p. ap₂ {C = PesoPrice} (λ x y. record { 0 = half_up x y }) (amount (goal.at.returns c).After-amounts i p)
+    (energy (goal.at.returns c).After-amounts i p))

@@ -27,7 +27,8 @@ overflow_add-energies c =
     omega (
       arith,
       added l,
-      place_fits as_energy (λ e. e.0) (λ x. refl) (λ e. refl) c.requires (energy_most l) (below l) c.line_at-line.ensures
+      place_fits as_energy (λ e. e.0) (λ x. refl) (λ e. refl) c.requires (energy_most l) (below l)
+          c.line_at-line.ensures
           c.loop-j.invariant,
     )
 

@@ -16,6 +16,7 @@ use Rattle.fixing.proofs.average.every_energy.Goals as goal
 pub returns : goal.returns
 unfolding every_energy
 returns c =
-    all_from_yields_List (λ i. not (eqb (get_or c.args.energies i no_energy).0 0)) _ _ _ c.all.ensures.ran (YieldsList-from_range 0 c.args.n c.args.n (cc) (omega arith))
+    all_from_yields_List (λ i. not (eqb (get_or c.args.energies i no_energy).0 0)) _ _ _ c.all.ensures.ran
+    (YieldsList-from_range 0 c.args.n c.args.n (cc) (omega arith))
     (λ x b q k. search (rules, tests))
     ∙ all_ranged c.args.n _

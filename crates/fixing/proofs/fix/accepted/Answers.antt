@@ -21,18 +21,21 @@ charges-charges-requires c =
     record {
       few = r.few;
       priced = r.most;
-      final_priced = finals_most c.args.n c.averages-averages.result c.args.energies r _ c.fix_prices-prices.ensures.answered;
+      final_priced = finals_most c.args.n c.averages-averages.result c.args.energies r _
+          c.fix_prices-prices.ensures.answered;
     }
 
 pub sector_charges-sectors-requires : goal.sector_charges-sectors-requires
 sector_charges-sectors-requires c =
-    fixing_charged c.args.n c.averages-averages.result c.args.energies (range (goal.at.sector_charges-sectors-requires c).After-averages-averages) _
+    fixing_charged c.args.n c.averages-averages.result c.args.energies (range
+    (goal.at.sector_charges-sectors-requires c).After-averages-averages) _
     c.fix_prices-prices.ensures.answered _ c.charges-charges.ensures
     c.args.sectors.now c.requires.lent c.requires.allowed
 
 pub returns : goal.returns
 returns c =
     rw (← c.averages-averages.ensures, ← c.power_averages-power.ensures, ← c.requires.supplied)
-    (fixing_is c.args.n c.averages-averages.result c.args.energies (range (goal.at.returns c).After-averages-averages) _ c.fix_prices-prices.ensures.answered _
+    (fixing_is c.args.n c.averages-averages.result c.args.energies (range (goal.at.returns
+    c).After-averages-averages) _ c.fix_prices-prices.ensures.answered _
     c.charges-charges.ensures
     c.power_averages-power.result c.args.sectors.now _ c.sector_charges-sectors.ensures)

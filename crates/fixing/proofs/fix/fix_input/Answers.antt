@@ -16,7 +16,8 @@ use Rattle.fixing.proofs.VerdictLaws.{input_refused, priced_refused, priced_acce
 use Rattle.fixing.proofs.VerdictLaws.{priced_worked}
 use borrow.Author.Rules.{rules}
 use Rattle.fixing.proofs.fix.fix_input.Goals as goal
-use Rattle.fixing.proofs.fix.fix_input.Goals.{After-every_energy, Else-not-every_energy, Else-not-input_in_range, Else-not-sectors_allowed, Else-not-values_in_range, Start}
+use Rattle.fixing.proofs.fix.fix_input.Goals.{After-every_energy, Else-not-every_energy, Else-not-input_in_range}
+use Rattle.fixing.proofs.fix.fix_input.Goals.{Else-not-sectors_allowed, Else-not-values_in_range, Start}
 
 abbrev input : Start → FixingInput
 input s =
@@ -35,7 +36,9 @@ module _ (c : Else-not-sectors_allowed) where
   passed_eight = sym c.sectors_allowed.ensures ∙ c.if-not-sectors_allowed.false
 
   own : OwnLines c.args.lines.now
-  own = ranged_own _ (input (goal.at.energies-energies-requires c).Start) c.requires (passed_six (goal.at.energies-energies-requires c).Else-not-input_in_range)
+  own =
+      let at = goal.at.energies-energies-requires c in
+      ranged_own _ (input at.Start) c.requires (passed_six at.Else-not-input_in_range)
 
 -- the energies tell who has a line
 everyone : (c : After-every_energy) → OwnLines c.args.lines.now →
@@ -49,35 +52,41 @@ everyone c own =
 passed_nine : (c : Else-not-every_energy) →
     CheckedInput c.args.n (input (goal.at.fill-requires c).Start)
 passed_nine c =
+    let at = goal.at.fill-requires c in
     record {
       lengths = c.requires;
-      ranges = passed_six (goal.at.fill-requires c).Else-not-input_in_range;
-      small = passed_seven (goal.at.fill-requires c).Else-not-values_in_range;
-      sectored = passed_eight (goal.at.fill-requires c).Else-not-sectors_allowed;
-      everyone = sym (everyone (goal.at.fill-requires c).After-every_energy (own (goal.at.fill-requires c).Else-not-sectors_allowed)) ∙ c.if-not-every_energy.false;
+      ranges = passed_six at.Else-not-input_in_range;
+      small = passed_seven at.Else-not-values_in_range;
+      sectored = passed_eight at.Else-not-sectors_allowed;
+      everyone = sym (everyone at.After-every_energy (own at.Else-not-sectors_allowed)) ∙ c.if-not-every_energy.false;
     }
 
 pub returns-then-not-input_in_range : goal.returns-then-not-input_in_range
 unfolding input_checks FirstPass
 returns-then-not-input_in_range c =
-    input_refused c.args.n (input (goal.at.returns-then-not-input_in_range c).Start) OutOfRange
-    (refused_unless 0 (input_checks c.args.n (input (goal.at.returns-then-not-input_in_range c).Start)) 6 _ OutOfRange _ tt refl
+    let at = goal.at.returns-then-not-input_in_range c in
+    input_refused c.args.n (input at.Start) OutOfRange
+    (refused_unless 0 (input_checks c.args.n (input at.Start)) 6 _ OutOfRange _ tt refl
     (sym c.input_in_range.ensures ∙ c.if-not-input_in_range.true))
 
 pub returns-then-not-values_in_range : goal.returns-then-not-values_in_range
 unfolding input_checks FirstPass
 returns-then-not-values_in_range c =
-    input_refused c.args.n (input (goal.at.returns-then-not-values_in_range c).Start) ValueTooLarge
-    (refused_unless 1 (input_checks c.args.n (input (goal.at.returns-then-not-values_in_range c).Start)) 7 _ ValueTooLarge _ (passes OutOfRange (passed_six (goal.at.returns-then-not-values_in_range c).Else-not-input_in_range), tt)
-    refl
+    let at = goal.at.returns-then-not-values_in_range c in
+    input_refused c.args.n (input at.Start) ValueTooLarge
+    (refused_unless 1 (input_checks c.args.n (input at.Start)) 7 _ ValueTooLarge _
+    (passes OutOfRange (passed_six at.Else-not-input_in_range), tt) refl
     (sym c.values_in_range.ensures ∙ c.if-not-values_in_range.true))
 
 pub returns-then-not-sectors_allowed : goal.returns-then-not-sectors_allowed
 unfolding input_checks FirstPass
 returns-then-not-sectors_allowed c =
-    input_refused c.args.n (input (goal.at.returns-then-not-sectors_allowed c).Start) WrongSector
-    (refused_unless 2 (input_checks c.args.n (input (goal.at.returns-then-not-sectors_allowed c).Start)) 8 _ WrongSector _
-    (passes OutOfRange (passed_six (goal.at.returns-then-not-sectors_allowed c).Else-not-input_in_range), (passes ValueTooLarge (passed_seven (goal.at.returns-then-not-sectors_allowed c).Else-not-values_in_range), tt)) refl
+    let at = goal.at.returns-then-not-sectors_allowed c in
+    input_refused c.args.n (input at.Start) WrongSector
+    (refused_unless 2 (input_checks c.args.n (input at.Start)) 8 _ WrongSector _ (
+      passes OutOfRange (passed_six at.Else-not-input_in_range),
+      (passes ValueTooLarge (passed_seven at.Else-not-values_in_range), tt),
+    ) refl
     (sym c.sectors_allowed.ensures ∙ c.if-not-sectors_allowed.true))
 
 pub energies-energies-requires : goal.energies-energies-requires
@@ -85,34 +94,38 @@ energies-energies-requires c = own c
 
 pub returns-then-not-every_energy : goal.returns-then-not-every_energy
 returns-then-not-every_energy c =
-    input_refused c.args.n (input (goal.at.returns-then-not-every_energy c).Start) NoLine
-    (no_line c.args.n (input (goal.at.returns-then-not-every_energy c).Start) (passed_six (goal.at.returns-then-not-every_energy c).Else-not-input_in_range) (passed_seven (goal.at.returns-then-not-every_energy c).Else-not-values_in_range) (passed_eight (goal.at.returns-then-not-every_energy c).Else-not-sectors_allowed)
-    (sym (everyone (goal.at.returns-then-not-every_energy c).After-every_energy (own (goal.at.returns-then-not-every_energy c).Else-not-sectors_allowed)) ∙ c.if-not-every_energy.true))
+    let at = goal.at.returns-then-not-every_energy c in
+    input_refused c.args.n (input at.Start) NoLine
+    (no_line c.args.n (input at.Start) (passed_six at.Else-not-input_in_range) (passed_seven at.Else-not-values_in_range)
+    (passed_eight at.Else-not-sectors_allowed)
+    (sym (everyone at.After-every_energy (own at.Else-not-sectors_allowed)) ∙ c.if-not-every_energy.true))
 
 pub price_lines-requires : goal.price_lines-requires
 price_lines-requires c =
-    let ok = passed_nine (goal.at.price_lines-requires c).Else-not-every_energy in
+    let at = goal.at.price_lines-requires c in
+    let ok = passed_nine at.Else-not-every_energy in
     record {
-      table_in_range = checked_table _ (input (goal.at.price_lines-requires c).Start) ok _ c.fill.ensures;
-      numbers_checked = checked_numbers _ (input (goal.at.price_lines-requires c).Start) ok;
-      lines_checked = (checked_own _ (input (goal.at.price_lines-requires c).Start) ok).checked;
-      in_force_within = checked_in_force _ (input (goal.at.price_lines-requires c).Start) ok;
+      table_in_range = checked_table _ (input at.Start) ok _ c.fill.ensures;
+      numbers_checked = checked_numbers _ (input at.Start) ok;
+      lines_checked = (checked_own _ (input at.Start) ok).checked;
+      in_force_within = checked_in_force _ (input at.Start) ok;
     }
 
 -- what the pricing of the lines says
 pub returns-in_err-priced : goal.returns-in_err-priced
 returns-in_err-priced c =
+    let at = goal.at.returns-in_err-priced c in
     let p = err_from_is_err_and c.from_residual.result c.from_residual.ensures.1 in
     rw (p.1, p.2)
-    (priced_refused _ (input (goal.at.returns-in_err-priced c).Start) (passed_nine (goal.at.returns-in_err-priced c).Else-not-every_energy) _ c.fill.ensures _
-    (c.in_err-priced.ensures))
+    (priced_refused _ (input at.Start) (passed_nine at.Else-not-every_energy) _ c.fill.ensures _ c.in_err-priced.ensures)
 
 pub accepted-requires : goal.accepted-requires
 accepted-requires c =
-    let ok = passed_nine (goal.at.accepted-requires c).Else-not-every_energy in
+    let at = goal.at.accepted-requires c in
+    let ok = passed_nine at.Else-not-every_energy in
     record {
-      checked = priced_accepted _ (input (goal.at.accepted-requires c).Start) ok _ c.fill.ensures _ c.in_ok-priced.ensures;
-      power_priced = priced_power _ (input (goal.at.accepted-requires c).Start) ok _ c.fill.ensures _ c.in_ok-priced.ensures;
+      checked = priced_accepted _ (input at.Start) ok _ c.fill.ensures _ c.in_ok-priced.ensures;
+      power_priced = priced_power _ (input at.Start) ok _ c.fill.ensures _ c.in_ok-priced.ensures;
       supplied = c.energies-energies.ensures;
       lent = ok.lengths.factors;
       allowed = ok.sectored;
@@ -120,8 +133,9 @@ accepted-requires c =
 
 pub returns : goal.returns
 returns c =
-    priced_worked _ (input (goal.at.returns c).Start) (passed_nine (goal.at.returns c).Else-not-every_energy) _ c.fill.ensures _ c.in_ok-priced.ensures
-    _ c.accepted.ensures
+    let at = goal.at.returns c in
+    priced_worked _ (input at.Start) (passed_nine at.Else-not-every_energy) _ c.fill.ensures _ c.in_ok-priced.ensures _
+    c.accepted.ensures
 
 pub values_in_range-requires : goal.values_in_range-requires
 values_in_range-requires c = search rules

@@ -29,7 +29,8 @@ overflow_add-amounts c =
       arith,
       product l,
       place_fits (λ x. x) (λ x. x) (λ x. refl) (λ x. refl) c.requires.own
-          (power_amount_most c.args.prices c.args.lines.now c.requires) (below l) c.line_at-line.ensures c.loop-j.invariant,
+          (power_amount_most c.args.prices c.args.lines.now c.requires) (below l) c.line_at-line.ensures
+          c.loop-j.invariant,
     )
 
 pub loop-j-preserved : goal.loop-j-preserved

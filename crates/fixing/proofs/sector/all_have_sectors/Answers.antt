@@ -11,6 +11,7 @@ use Rattle.fixing.proofs.sector.all_have_sectors.Goals as goal
 
 pub returns : goal.returns
 returns c =
-    all_from_yields_List (has_sector c.args.sectors.now) _ _ _ c.all.ensures.ran (YieldsList-from_range 0 c.args.n c.args.n (cc) (omega arith))
+    all_from_yields_List (has_sector c.args.sectors.now) _ _ _ c.all.ensures.ran (YieldsList-from_range 0 c.args.n
+    c.args.n (cc) (omega arith))
     (λ x b q k. search (rules, tests))
     ∙ all_ranged c.args.n (has_sector c.args.sectors.now)

@@ -13,6 +13,7 @@ use Rattle.fixing.proofs.sector.has_sector.Goals as goal
 pub returns : goal.returns
 unfolding has_sector sector_present
 returns c =
-    any_from_yields_List (λ s. sector_present c.args.sectors.now (c.args.i * 8 + s)) _ _ _ c.any.ensures.ran (YieldsList-from_range 0 8 8 (cc) (omega arith))
+    any_from_yields_List (λ s. sector_present c.args.sectors.now (c.args.i * 8 + s)) _ _ _ c.any.ensures.ran
+    (YieldsList-from_range 0 8 8 (cc) (omega arith))
     (λ x b q k. search (rules, tests))
     ∙ any_ranged 8 _

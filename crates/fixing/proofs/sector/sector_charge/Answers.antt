@@ -36,4 +36,5 @@ unfolding sector_charge
 returns c =
     to_z-of_z {w = w64} (sfits_of c.half_away.type_inv) ∙ c.half_away.ensures
     ∙ ap (λ z. half_away z 10000)
-    (ap (λ z. to_z w64 (of_z w64 z)) (product (goal.at.returns c).After-difference) ∙ to_z-of_z (product_fits (goal.at.returns c).After-difference))
+    (ap (λ z. to_z w64 (of_z w64 z)) (product (goal.at.returns c).After-difference) ∙ to_z-of_z (product_fits
+    (goal.at.returns c).After-difference))

@@ -34,7 +34,8 @@ loop-k-preserved c = (
       c.loop-k.k c.loop-k.force _ _
       (omega (arith, c.requires.lent, c.requires.few)) c.loop-k.invariant.1 refl
       (to_z-of_z {w = w64} (sfits_of c.sector_charge.type_inv) ∙ c.sector_charge.ensures
-      ∙ ap (λ z. sector_charge z (factor_at c.args.sectors.now c.loop-k.k)) (unread c.requires c.loop-k.k (omega arith))),
+      ∙ ap (λ z. sector_charge z (factor_at c.args.sectors.now c.loop-k.k)) (unread c.requires c.loop-k.k (omega
+      arith))),
 )
 
 pub returns : goal.returns

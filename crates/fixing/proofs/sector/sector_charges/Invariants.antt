@@ -13,4 +13,5 @@ charge_in charges i = get_or charges i (pos 0)
 
 abbrev pub invariant-loop-k : goal.invariant-loop-k
 invariant-loop-k l =
-    (l.k ≤ length l.sectors) × (l.force ≡ filled_places l.k (sector_present l.sectors) (place_charge (charge_in l.charges) l.sectors))
+    (l.k ≤ length l.sectors) × (l.force ≡ filled_places l.k (sector_present l.sectors) (place_charge (charge_in
+    l.charges) l.sectors))

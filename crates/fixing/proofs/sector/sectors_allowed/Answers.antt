@@ -17,7 +17,10 @@ small c =
 
 pub returns-then-all_between : goal.returns-then-all_between
 unfolding sectors_allowed
-returns-then-all_between c = rw (← small (goal.at.returns-then-all_between c).After-all_between, c.if-all_between.true) c.all_have_sectors.ensures
+returns-then-all_between c = rw (
+  ← small (goal.at.returns-then-all_between c).After-all_between,
+  c.if-all_between.true,
+) c.all_have_sectors.ensures
 
 pub returns-else-all_between : goal.returns-else-all_between
 unfolding sectors_allowed

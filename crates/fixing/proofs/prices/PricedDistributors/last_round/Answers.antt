@@ -47,11 +47,13 @@ round_sums-next-requires c =
 
 pub returns-then-next-sums : goal.returns-then-next-sums
 returns-then-next-sums c =
-    round_last c.loop-sums.invariant (worked (goal.at.returns-then-next-sums c).After-divide_up) c.round_sums-next.ensures (omega arith)
+    round_last c.loop-sums.invariant (worked (goal.at.returns-then-next-sums c).After-divide_up)
+    c.round_sums-next.ensures (omega arith)
 
 pub loop-sums-smaller : goal.loop-sums-smaller
 loop-sums-smaller c = omega (arith, made_few c.loop-sums.invariant)
 
 pub loop-sums-preserved : goal.loop-sums-preserved
 loop-sums-preserved c =
-    round_more c.loop-sums.invariant (worked (goal.at.loop-sums-preserved c).After-divide_up) c.round_sums-next.ensures c.if-next-sums.false
+    round_more c.loop-sums.invariant (worked (goal.at.loop-sums-preserved c).After-divide_up)
+    c.round_sums-next.ensures c.if-next-sums.false

@@ -12,7 +12,8 @@ use Rattle.fixing.proofs.PassLaws.{Sums, sums_none, sums_more, paid_fits, energy
 use native.Mathlib.Omega.{arith}
 use Rattle.fixing.proofs.prices.PricedDistributors.round_sums.Goals as goal
 use Rattle.fixing.proofs.prices.PricedDistributors.round_sums.Invariants.{above}
-use Rattle.fixing.proofs.prices.PricedDistributors.round_sums.Goals.{After-loop-i, In-loop-i, then-limit-average, else-limit-average}
+use Rattle.fixing.proofs.prices.PricedDistributors.round_sums.Goals.{After-loop-i, In-loop-i, then-limit-average}
+use Rattle.fixing.proofs.prices.PricedDistributors.round_sums.Goals.{else-limit-average}
 
 pub loop-i-init : goal.loop-i-init
 loop-i-init c = sums_none _ _ _
