@@ -42,9 +42,7 @@ fn class_examples_hold()
 
 fn main() {
     class_examples_hold();
-    let mut i: usize = 0;
-    while i < 33 {
-        print_price(PRICES[i]);
-        i += 1;
+    for price in PRICES {
+        print_price(price);
     }
 }
