@@ -30,7 +30,7 @@ pub(crate) const WHOLE_WEIGHT: u64 = 10000;
 // The greatest power price in US$, of every step.
 pub(crate) const MOST_POWER_PRICE: u64 = 100000000;
 
-#[derive(Clone, Copy)]
+#[derive(Clone, Copy, PartialEq, Eq, Default)]
 pub struct Term {
     pub series: u64,
     pub weight: u64,
@@ -120,7 +120,8 @@ pub fn line_at(lines: &[u64], j: usize) -> Line
     }
 }
 
-// Line j of words in their ranges.
+// Line j of words in their ranges. The words themselves stay a slice with a `requires`: a struct around them is no plainer,
+// since clauses then name `lines.now.words.now`.
 pub(crate) fn checked_line(lines: &[u64], j: usize) -> CheckedLine
     requires lines_checked { CheckedLines lines.now }
     requires inside { j < line_count lines.now }

@@ -1,15 +1,16 @@
 // The means that terms take from the list of all, and the search for a missing month (cause 10): line by line, in each
 // its terms and then its power term, left at the first.
-ghost use Rattle.std.specs.Prelude.{◌≡◌, ◌&&◌, [], ◌∷◌, ◌<◌, eqb, get_or};
+ghost use Rattle.std.specs.Prelude.{◌≡◌, ◌&&◌, [], ◌∷◌, ◌<◌, ◌≤◌, eqb, get_or};
 ghost use Rattle.numbers.specs.Bounded.{any_below};
 ghost use Rattle.numbers.specs.Checks.{verdict_of};
 ghost use Rattle.numbers.specs.Required.{ValuesWithin};
 ghost use Rattle.series.specs.Means.{mean_count, mean_list};
 ghost use Rattle.series.specs.Required.{most_mean, TableInRange};
+ghost use Rattle.series.specs.Series.{last_month};
 ghost use Rattle.supply.specs.Line.{term_places, term_of, term_used};
 ghost use Rattle.supply.specs.Months.{month_check};
 ghost use Rattle.supply.specs.Listed.{listed_mean, listed_lacks};
-ghost use Rattle.supply.specs.Required.{TermFacts, CheckedLines, NumbersFacts};
+ghost use Rattle.supply.specs.Required.{TermFacts, CheckedLines};
 
 use crate::line::{CheckedLine, POWER_TERM, TERM_PLACES, Term, checked_line, line_count};
 use crate::market::FixingNumbers;
@@ -28,7 +29,7 @@ impl Means {
     // Those of a table in a fixing's month.
     pub(crate) fn of(table: [[u64; MONTHS]; SERIES], numbers: FixingNumbers) -> Means
         requires table_in_range { TableInRange table }
-        requires numbers_checked { NumbersFacts numbers }
+        requires start { numbers.first_month ≤ last_month }
         ensures { result.values ≡ mean_list table numbers.first_month numbers.month }
     {
         Means {

@@ -39,11 +39,7 @@ fn term_in_range(term: Term) -> bool
 fn term_unused(term: Term) -> bool
     ensures { result ≡ term_unused term }
 {
-    (term.series == 0)
-        & (term.weight == 0)
-        & (term.lag == 0)
-        & (term.window == 0)
-        & (term.base_value == 0)
+    term == Term::default()
 }
 
 // A term below the line's count is in range, one past it unused.
