@@ -28,7 +28,7 @@ use Rattle.supply.specs.Required.{NumbersFacts}
 use Rattle.supply.specs.declared.price.LinePrices.{LinePrices}
 use Rattle.supply.proofs.RangeLaws.{input_numbers, input_lines, input_in_force}
 use Rattle.supply.proofs.PriceLaws.{search_within, power_within, bounds_passed}
-use Rattle.supply.proofs.LinePriceLaws.{answer_passed, table_told, passed_bounds, passed_prices, passed_refused}
+use Rattle.supply.proofs.LinePriceLaws.{table_told, passed_bounds, passed_prices, passed_refused}
 use Rattle.fixing.specs.Average.{energy_list, average_list}
 use Rattle.fixing.specs.Limit.{InRange}
 use Rattle.fixing.specs.Prices.{distributors}
@@ -136,15 +136,6 @@ module _ (n : ℕ) (input : FixingInput) where
   input_refused refusal h =
       answers_by (λ _. []) (input_checks n input) (fixing_of n input) input_told (Err refusal)
       (ap (λ v. answer_by v (fixing_of n input)) (sym h))
-
-  -- what a fixing that was made tells of its input: it passes, and the fixing is its
-  module _ (fixing : Fixing) (promise : InputPromise n input (Ok fixing)) where
-    pub fixed_passed : input_verdict n input ≡ Ok tt
-    unfolding input_verdict
-    fixed_passed = (answer_passed (fixing_of n input) fixing (verdict_of (input_checks n input)) (sym promise.answered)).0
-
-    pub fixed_is : fixing ≡ fixing_of n input
-    fixed_is = (answer_passed (fixing_of n input) fixing (verdict_of (input_checks n input)) (sym promise.answered)).1
 
   -- input that passed causes 6 to 9: the checks of the index table give the verdict
   module _ (ok : CheckedInput n input) where

@@ -26,7 +26,7 @@ fn power_amounts(prices: [PowerPrice; MOST_LINES], lines: &[u64]) -> [u128; MOST
     amounts
 }
 
-// The average of an amount, half up.
+// The average of an amount, half up; the `half_up` of numbers is of 64 bits.
 fn power_average(amount: u128, energy: Energy) -> PowerPrice
     requires { PowerWithin amount energy.0 }
     ensures { result ≡ record { 0 = half_up amount energy.0 } }

@@ -4,10 +4,9 @@ use Prim.Native.Nat.{◌*◌, ◌<◌}
 use native.Mathlib.Omega.{arith}
 use lib.ListN.{get_or}
 use Rattle.numbers.specs.Units.{no_price}
-use Rattle.numbers.specs.Sizes.{most_distributors}
 use Rattle.supply.specs.Line.{line_count}
 use Rattle.fixing.specs.Average.{lines_amount}
-use Rattle.fixing.proofs.AverageLaws.{as_total, amount_of, own_place, held_none, place_fits, place_more, held_done}
+use Rattle.fixing.proofs.AverageLaws.{as_total, amount_of, held_none, place_fits, place_more, held_done}
 use Rattle.fixing.proofs.AverageLaws.{product_most}
 use Rattle.fixing.proofs.average.amounts.Goals as goal
 use Rattle.fixing.proofs.average.amounts.Goals.{After-line_at-line}
@@ -16,9 +15,6 @@ module _ (c : After-line_at-line) where
   below : c.loop-j.j < line_count c.args.lines.now
   below = omega (arith, c.line_count-j-end.ensures)
 
-  placed : c.line_at-line.result.distributor < most_distributors
-  placed = own_place c.requires.own below c.line_at-line.ensures
-
   product : (get_or c.args.prices c.loop-j.j no_price).0 * c.line_at-line.result.energy ≡ amount_of c.args.prices
       c.args.lines.now c.loop-j.j
   product = ap (λ line. (get_or c.args.prices c.loop-j.j no_price).0 * line.energy) c.line_at-line.ensures
@@ -26,11 +22,6 @@ module _ (c : After-line_at-line) where
 pub loop-j-init : goal.loop-j-init
 loop-j-init c =
     held_none as_total (λ e. e.0) (λ x. refl) (λ e. refl) c.args.lines.now (amount_of c.args.prices c.args.lines.now)
-
-pub overflow_mul-amounts : goal.overflow_mul-amounts
-overflow_mul-amounts c =
-    let l = (goal.at.overflow_mul-amounts c).After-line_at-line in
-    omega (arith, product l, product_most c.args.prices c.args.lines.now c.requires c.loop-j.j (below l))
 
 pub overflow_add-amounts : goal.overflow_add-amounts
 overflow_add-amounts c =
@@ -56,9 +47,3 @@ returns c =
     let e : c.loop-j.j ≡ line_count a.lines.now = omega (arith, c.line_count-j-end.ensures) in
     held_done as_total (λ x. x.0) (λ x. refl) (λ x. refl) a.lines.now (amount_of a.prices a.lines.now)
     c.loop-j.amounts (rw e at c.loop-j.invariant)
-
-pub bounds-prices-j : goal.bounds-prices-j
-bounds-prices-j c = omega (arith, below c, c.requires.own.checked.few)
-
-pub bounds-amounts-i : goal.bounds-amounts-i
-bounds-amounts-i c = placed c

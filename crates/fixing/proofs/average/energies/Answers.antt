@@ -2,19 +2,15 @@
 use mathlib.Core.Path.{◌≡◌, refl, ap}
 use Prim.Native.Nat.{ℕ, ◌≤◌, ◌<◌}
 use native.Mathlib.Omega.{arith}
-use Rattle.numbers.specs.Sizes.{most_distributors}
 use Rattle.supply.specs.Line.{line_count}
 use Rattle.fixing.specs.Average.{supplied_energy, energy_list}
-use Rattle.fixing.proofs.AverageLaws.{as_energy, energy_of, own_place, held_none, place_fits, place_more, held_done}
+use Rattle.fixing.proofs.AverageLaws.{as_energy, energy_of, held_none, place_fits, place_more, held_done}
 use Rattle.fixing.proofs.average.energies.Goals as goal
 use Rattle.fixing.proofs.average.energies.Goals.{After-line_at-line}
 
 module _ (c : After-line_at-line) where
   below : c.loop-j.j < line_count c.args.lines.now
   below = omega (arith, c.line_count-j-end.ensures)
-
-  placed : c.line_at-line.result.distributor < most_distributors
-  placed = own_place c.requires below c.line_at-line.ensures
 
   energy_most : (j : ℕ) → j < line_count c.args.lines.now → energy_of c.args.lines.now j ≤ 10000000
   energy_most j p = (c.requires.checked.facts j p).energy_most
@@ -48,6 +44,3 @@ returns c =
     let e : c.loop-j.j ≡ line_count lines = omega (arith, c.line_count-j-end.ensures) in
     held_done as_energy (λ x. x.0) (λ x. refl) (λ x. refl) lines (energy_of lines) c.loop-j.energies
     (rw e at c.loop-j.invariant)
-
-pub bounds-energies-i : goal.bounds-energies-i
-bounds-energies-i c = placed c

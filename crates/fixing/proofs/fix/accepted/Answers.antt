@@ -12,24 +12,6 @@ module _ (c : After-averages-averages) where
       listed_range c.args.n c.args.priced.references c.args.lines.now c.requires.checked _ _
       c.averages-averages.ensures c.requires.supplied
 
-pub averages-averages-requires : goal.averages-averages-requires
-averages-averages-requires c =
-    record {
-      few = c.requires.checked.few;
-      priced = c.requires.checked.priced;
-      supplied = c.requires.supplied;
-      everyone = c.requires.checked.supplied;
-    }
-
-pub power_averages-power-requires : goal.power_averages-power-requires
-power_averages-power-requires c =
-    record {
-      few = c.requires.checked.few;
-      priced = c.requires.power_priced;
-      supplied = c.requires.supplied;
-      everyone = c.requires.checked.supplied;
-    }
-
 pub fix_prices-prices-requires : goal.fix_prices-prices-requires
 fix_prices-prices-requires c = range (goal.at.fix_prices-prices-requires c).After-averages-averages
 

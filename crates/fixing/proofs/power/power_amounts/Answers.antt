@@ -2,10 +2,9 @@
 use mathlib.Core.Path.{◌≡◌, refl, ap}
 use Prim.Native.Nat.{◌*◌, ◌<◌}
 use native.Mathlib.Omega.{arith}
-use Rattle.numbers.specs.Sizes.{most_distributors}
 use Rattle.supply.specs.Line.{line_count}
 use Rattle.fixing.specs.Average.{lines_amount}
-use Rattle.fixing.proofs.AverageLaws.{own_place, held_none, place_fits, place_more, held_done}
+use Rattle.fixing.proofs.AverageLaws.{held_none, place_fits, place_more, held_done}
 use Rattle.fixing.proofs.PowerLaws.{power_amount, power_amount_most}
 use Rattle.fixing.specs.Power.{power_of}
 use Rattle.fixing.proofs.power.power_amounts.Goals as goal
@@ -15,9 +14,6 @@ module _ (c : After-line_at-line) where
   below : c.loop-j.j < line_count c.args.lines.now
   below = omega (arith, c.line_count-j-end.ensures)
 
-  placed : c.line_at-line.result.distributor < most_distributors
-  placed = own_place c.requires.own below c.line_at-line.ensures
-
   product : power_of c.args.prices c.loop-j.j * c.line_at-line.result.energy ≡ power_amount c.args.prices
       c.args.lines.now c.loop-j.j
   product = ap (λ line. power_of c.args.prices c.loop-j.j * line.energy) c.line_at-line.ensures
@@ -25,11 +21,6 @@ module _ (c : After-line_at-line) where
 pub loop-j-init : goal.loop-j-init
 loop-j-init c =
     held_none (λ x. x) (λ x. x) (λ x. refl) (λ x. refl) c.args.lines.now (power_amount c.args.prices c.args.lines.now)
-
-pub overflow_mul-amounts : goal.overflow_mul-amounts
-overflow_mul-amounts c =
-    let l = (goal.at.overflow_mul-amounts c).After-line_at-line in
-    omega (arith, product l, power_amount_most c.args.prices c.args.lines.now c.requires c.loop-j.j (below l))
 
 pub overflow_add-amounts : goal.overflow_add-amounts
 overflow_add-amounts c =
@@ -55,9 +46,3 @@ returns c =
     let e : c.loop-j.j ≡ line_count a.lines.now = omega (arith, c.line_count-j-end.ensures) in
     held_done (λ x. x) (λ x. x) (λ x. refl) (λ x. refl) a.lines.now (power_amount a.prices a.lines.now)
     c.loop-j.amounts (rw e at c.loop-j.invariant)
-
-pub bounds-prices-j : goal.bounds-prices-j
-bounds-prices-j c = omega (arith, below c, c.requires.own.checked.few)
-
-pub bounds-amounts-i : goal.bounds-amounts-i
-bounds-amounts-i c = placed c

@@ -28,12 +28,6 @@ module _ (c : After-difference) where
   product_fits : SFits w64 (c.args.charge *ℤ pos c.args.factor)
   product_fits = size_fits (c.args.charge *ℤ pos c.args.factor) (omega (arith, product_size))
 
-pub difference-requires : goal.difference-requires
-difference-requires c = omega (arith, c.requires.factor)
-
-pub overflow_mul-charge : goal.overflow_mul-charge
-overflow_mul-charge c = rw (product c) (product_fits c)
-
 pub half_away-requires : goal.half_away-requires
 half_away-requires c = rw (product c, to_z-of_z (product_fits c)) (omega (arith, product_size c))
 

@@ -26,13 +26,6 @@ unread {n} {charges} {sectors} ok k p =
 pub loop-k-init : goal.loop-k-init
 loop-k-init c = (omega arith, c.no_charges-force.ensures ∙ places_none (sector_present c.args.sectors.now) _)
 
-pub sector_charge-requires : goal.sector_charge-requires
-sector_charge-requires c =
-    record {
-      charge = rw (unread c.requires c.loop-k.k (omega arith)) (c.requires.charge (c.loop-k.k / 8) (omega (arith, c.requires.lent)));
-      factor = c.requires.factors c.loop-k.k (omega (arith, c.requires.lent));
-    }
-
 pub loop-k-preserved : goal.loop-k-preserved
 unfolding sector_present place_charge
 loop-k-preserved c = (

@@ -1,5 +1,5 @@
 -- The invariant: the first places hold the charges, the others are empty.
-use mathlib.Core.Path.{◌≡◌, ◌∙◌}
+use mathlib.Core.Path.{◌∙◌}
 use lib.IntN.{pos}
 use mir.Facts.{to_z-of_z}
 use borrow.Author.Rules.{sfits_of}
@@ -13,16 +13,7 @@ use Rattle.fixing.proofs.prices.PricedDistributors.charges.Invariants.{charge_of
 pub loop-i-init : goal.loop-i-init
 loop-i-init c = filled_none most_distributors (pos 0) _
 
-pub difference-requires : goal.difference-requires
-difference-requires c =
-    omega (arith, c.requires.priced c.loop-i.i (omega arith), c.requires.final_priced c.loop-i.i (omega arith))
-
 pub loop-i-preserved : goal.loop-i-preserved
 loop-i-preserved c =
     filled_next most_distributors (pos 0) c.loop-i.i (charge_of c.args.self.averages c.args.finals) _ _ (omega arith)
     c.loop-i.invariant (to_z-of_z {w = w64} (sfits_of c.difference.type_inv) ∙ c.difference.ensures)
-
-pub returns : goal.returns
-returns c =
-    let e : c.loop-i.i ≡ c.args.self.n = omega arith in
-    rw (← e) c.loop-i.invariant

@@ -1,5 +1,4 @@
 -- The invariant: the first places hold the final prices, the others are empty.
-use mathlib.Core.Path.{◌≡◌}
 use Rattle.numbers.specs.Sizes.{most_distributors}
 use Rattle.numbers.specs.Units.{no_price}
 use Rattle.numbers.proofs.ListLaws.{filled_none, filled_next}
@@ -10,20 +9,8 @@ use Rattle.fixing.proofs.prices.PricedDistributors.final_prices.Invariants.{fina
 pub loop-i-init : goal.loop-i-init
 loop-i-init c = filled_none most_distributors no_price _
 
-pub final_price-requires : goal.final_price-requires
-final_price-requires c =
-    record {
-      priced = c.requires.priced c.loop-i.i (omega arith);
-      raised = c.requires.raised;
-    }
-
 pub loop-i-preserved : goal.loop-i-preserved
 loop-i-preserved c =
     filled_next most_distributors no_price c.loop-i.i
     (final c.args.self.averages c.args.limit.0 c.args.surcharge.0) _ _ (omega arith)
     c.loop-i.invariant c.final_price.ensures
-
-pub returns : goal.returns
-returns c =
-    let e : c.loop-i.i ≡ c.args.self.n = omega arith in
-    rw (← e) c.loop-i.invariant

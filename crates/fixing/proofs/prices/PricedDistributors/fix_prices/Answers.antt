@@ -27,9 +27,6 @@ module _ (c : After-energy-energy) where
 pub overflow_mul-floor : goal.overflow_mul-floor
 overflow_mul-floor c = omega (arith, total_is (goal.at.overflow_mul-floor c).After-energy-energy, total_fits (distributors_of c.args.self) c.requires)
 
-pub overflow_mul-floor-2 : goal.overflow_mul-floor-2
-overflow_mul-floor-2 c = omega (arith, energy_is (goal.at.overflow_mul-floor-2 c).After-energy-energy, c.requires.total)
-
 pub nonzero_div-floor : goal.nonzero_div-floor
 nonzero_div-floor c = omega (arith, energy_is (goal.at.nonzero_div-floor c).After-energy-energy, energy_some (distributors_of c.args.self) c.requires)
 

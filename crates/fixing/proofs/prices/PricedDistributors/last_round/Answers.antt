@@ -9,13 +9,6 @@ use native.Mathlib.Omega.{arith}
 use Rattle.fixing.proofs.prices.PricedDistributors.last_round.Goals as goal
 use Rattle.fixing.proofs.prices.PricedDistributors.last_round.Goals.{After-divide_up}
 
-pub round_sums-sums-requires : goal.round_sums-sums-requires
-round_sums-sums-requires c =
-    record {
-      limited = c.requires;
-      raised = omega arith;
-    }
-
 pub returns-then-sums-eq0 : goal.returns-then-sums-eq0
 returns-then-sums-eq0 c =
     none_above c.requires.range c.requires.limited c.round_sums-sums.ensures c.if-sums-eq0.true
