@@ -10,7 +10,7 @@ use Rattle.ledger.specs.Settle.{SettlementCall, billing_lengths, settlement_chec
 use Rattle.ledger.specs.Sound.{sound}
 use Rattle.ledger.specs.Turn.{settlement_turn}
 use Rattle.numbers.specs.declared.refusal.Refusal.TheVariants.{Unsound, WrongLength, OutOfTurn}
-use Rattle.std.specs.Prelude.{Ok, Err}
+use Rattle.std.specs.Prelude.{Err}
 use Rattle.numbers.proofs.CheckLaws.{FirstPass, passes, refused_unless}
 use Rattle.ledger.specs.declared.ledger.Ledger.{Ledger}
 use Rattle.ledger.proofs.Computed.{ledger_computed}

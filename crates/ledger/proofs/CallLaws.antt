@@ -11,7 +11,7 @@ use Rattle.numbers.specs.Units.{between}
 use Rattle.numbers.specs.Sizes.{most_distributors, sector_count}
 use Rattle.numbers.specs.declared.refusal.Refusal.TheVariants.{Unsound, WrongLength, OutOfTurn, NoFixing, WrongReading}
 use Rattle.numbers.specs.declared.refusal.Refusal.TheVariants.{PositionBeyond, LedgerFull, WrongDay}
-use Rattle.std.specs.Prelude.{Ok, Err}
+use Rattle.std.specs.Prelude.{Ok}
 use Rattle.numbers.proofs.BoolLaws.{and_left, and_right, and_five}
 use Rattle.numbers.proofs.CheckLaws.{FirstPass, passed_test, verdict_from, all_passed, is_passed_lem}
 use Rattle.numbers.proofs.UnitLaws.{between_high}

@@ -1,6 +1,5 @@
 -- Laws of the open call of joining: what it promises where it refuses and where it accepts. Assumes nothing.
-use mathlib.Core.Path.{◌≡◌, refl, sym, ◌∙◌, ap}
-use mathlib.Core.Bool.{true}
+use mathlib.Core.Path.{◌≡◌, refl, sym, ◌∙◌}
 use lib.Dec.{ltb}
 use Rattle.numbers.specs.Refusal.{Verdict}
 use Rattle.numbers.specs.Sizes.{most_distributors}

@@ -16,7 +16,7 @@ use Rattle.fixing.specs.Input.{FixingInput, input_verdict, input_averages, input
 use Rattle.fixing.specs.Required.{RightLengths}
 use Rattle.fixing.specs.Fixing.{accepted_fixing, fixing_of}
 use Rattle.fixing.specs.declared.fix.Fixing.{Fixing}
-use Rattle.std.specs.Prelude.{Ok, Err}
+use Rattle.std.specs.Prelude.{Ok}
 use Rattle.fixing.proofs.FixingLaws.{final_at}
 use Rattle.fixing.proofs.LimitLaws.{final_most}
 use Rattle.fixing.proofs.VerdictLaws.{passed_fixing, input_range}

@@ -1,23 +1,21 @@
 -- Laws of the open call of settlement: what a month that is due is worked from, and what is promised where the call
 -- refuses and where it settles; an accepted month's balances and transfers one by one. Assumes nothing.
 use mathlib.Core.Path.{◌≡◌, refl, sym, ◌∙◌, ap}
-use mathlib.Core.Bool.{true, false}
-use mathlib.Core.List.{List, []}
+use mathlib.Core.Bool.{true}
+use mathlib.Core.List.{List}
 use Prim.Native.Nat.{ℕ, ◌*◌, ◌<◌}
 use native.Mathlib.Omega.{arith}
 use lib.Dec.{eqb}
-use lib.ListN.{length, drop, get_or}
+use lib.ListN.{length, get_or}
 use lib.IntN.{ℤ, pos}
 use borrow.Author.Tests.{eqb-true}
 use Rattle.numbers.specs.Bounded.{list_below}
-use Rattle.numbers.specs.Checks.{verdict_of}
 use Rattle.numbers.specs.Refusal.{Verdict, is_passed}
 use Rattle.numbers.specs.Sizes.{most_distributors}
 use Rattle.numbers.specs.declared.refusal.Refusal.{Refusal}
 use Rattle.numbers.specs.declared.refusal.Refusal.TheVariants.{Unsound, WrongLength, OutOfTurn, NoFixing, WrongReading}
 use Rattle.numbers.specs.declared.refusal.Refusal.TheVariants.{PositionBeyond}
 use Rattle.std.specs.Prelude.{Ok, Err}
-use Rattle.numbers.specs.declared.units.Pesos.{Pesos}
 use Rattle.numbers.proofs.BoolLaws.{and_three}
 use Rattle.numbers.proofs.ListLaws.{list_at}
 use Rattle.numbers.proofs.CheckLaws.{AllTold, check_told, judged}

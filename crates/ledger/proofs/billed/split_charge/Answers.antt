@@ -58,33 +58,21 @@ module _ (c : After-difference-2) where
   new_fits = is_fits new_code new_part new (omega (arith, new_size, c.requires.short))
 
   abbrev sum_code : ℤ
-  sum_code = back (old_code (goal.at.overflow_mul-weighed-2 c).After-difference) +ℤ back new_code
+  sum_code = back (old_code (goal.at.overflow_add-weighed c).After-difference) +ℤ back new_code
 
-  sum : sum_code ≡ old_part (goal.at.overflow_mul-weighed-2 c).After-difference +ℤ new_part
-  sum = sum_bits (old_code (goal.at.overflow_mul-weighed-2 c).After-difference) new_code _ _ (old_fits (goal.at.overflow_mul-weighed-2 c).After-difference) new_fits (old (goal.at.overflow_mul-weighed-2 c).After-difference) new
+  sum : sum_code ≡ old_part (goal.at.overflow_add-weighed c).After-difference +ℤ new_part
+  sum = sum_bits (old_code (goal.at.overflow_add-weighed c).After-difference) new_code _ _ (old_fits (goal.at.overflow_add-weighed c).After-difference) new_fits (old (goal.at.overflow_add-weighed c).After-difference) new
 
-  size : nat_abs (old_part (goal.at.overflow_mul-weighed-2 c).After-difference +ℤ new_part) ≤ most_charge * c.args.days
+  size : nat_abs (old_part (goal.at.overflow_add-weighed c).After-difference +ℤ new_part) ≤ most_charge * c.args.days
   size =
       weighed_size c.args.days c.args.before c.args.old c.args.new c.requires.some c.requires.old_within
       c.requires.new_within
 
   fits : SFits w64 sum_code
-  fits = is_fits sum_code (old_part (goal.at.overflow_mul-weighed-2 c).After-difference +ℤ new_part) sum (omega (arith, size, c.requires.short))
+  fits = is_fits sum_code (old_part (goal.at.overflow_add-weighed c).After-difference +ℤ new_part) sum (omega (arith, size, c.requires.short))
 
-  weighed : back sum_code ≡ old_part (goal.at.overflow_mul-weighed-2 c).After-difference +ℤ new_part
+  weighed : back sum_code ≡ old_part (goal.at.overflow_add-weighed c).After-difference +ℤ new_part
   weighed = to_z-of_z {w = w64} fits ∙ sum
-
-pub difference-requires : goal.difference-requires
-difference-requires c = omega (arith, c.requires.short, c.requires.some)
-
-pub difference-requires-2 : goal.difference-requires-2
-difference-requires-2 c = omega (arith, c.requires.short)
-
-pub overflow_mul-weighed : goal.overflow_mul-weighed
-overflow_mul-weighed c = old_fits c
-
-pub overflow_mul-weighed-2 : goal.overflow_mul-weighed-2
-overflow_mul-weighed-2 c = new_fits c
 
 pub overflow_add-weighed : goal.overflow_add-weighed
 overflow_add-weighed c = fits c

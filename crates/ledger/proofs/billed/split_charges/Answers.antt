@@ -1,17 +1,16 @@
 -- The invariant: the places passed are filled in.
 use mathlib.Core.Path.{◌≡◌, refl, ◌∙◌, ap₂}
-use Prim.Native.Nat.{ℕ, ◌*◌, ◌≤◌, ◌<◌}
+use Prim.Native.Nat.{◌*◌, ◌≤◌}
 use native.Mathlib.Omega.{arith}
 use lib.IntN.{ℤ, nat_abs}
 use mir.Syntax.{w64}
 use mir.Val.{to_z, of_z}
 use mir.Facts.{to_z-of_z}
 use borrow.Author.Rules.{sfits_of}
-use Rattle.numbers.specs.Sizes.{sector_count, sector_places}
+use Rattle.numbers.specs.Sizes.{sector_count}
 use Rattle.numbers.proofs.SignedLaws.{size_fits}
 use Rattle.fixing.proofs.SectorLaws.{places_none, places_more}
 use Rattle.settlement.specs.Amount.{most_charge}
-use Rattle.ledger.specs.Ledger.{charge_in}
 use Rattle.ledger.specs.Billed.{split_charge, either_present, split_charges}
 use Rattle.ledger.proofs.billed.split_charges.Goals as goal
 use Rattle.ledger.proofs.billed.split_charges.Invariants.{divided}

@@ -1,5 +1,4 @@
 -- The code is the definition.
-use Rattle.ledger.specs.Ledger.{next_month}
 use Rattle.ledger.specs.Turn.{fixing_turn}
 use Rattle.ledger.proofs.fix.in_turn.Goals as goal
 

@@ -1,6 +1,6 @@
 -- What each call hands back is worked from the parts of its fixing that are worked from energy.
 use mathlib.Core.Path.{◌≡◌, sym, ◌∙◌, ap, ap₂}
-use Rattle.std.specs.Prelude.{Ok, Err}
+use Rattle.std.specs.Prelude.{Ok}
 use Rattle.fixing.specs.Fixing.{fixing_of}
 use Rattle.fixing.proofs.IndependenceLaws.{fixing_same}
 use Rattle.ledger.specs.Ledger.{fixed_ledger}

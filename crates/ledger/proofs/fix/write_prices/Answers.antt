@@ -9,21 +9,12 @@ use mir.Val.{to_z, of_z}
 use mir.Facts.{to_z-of_z}
 use borrow.Author.Rules.{rules, sfits_of}
 use Rattle.numbers.specs.Units.{no_price}
-use Rattle.numbers.proofs.ListLaws.{written_none, written_more, written_all}
+use Rattle.numbers.proofs.ListLaws.{written_none, written_more}
 use Rattle.ledger.specs.Fix.{price_part, price_word}
 use Rattle.ledger.proofs.fix.write_prices.Goals as goal
 
 pub loop-k-init : goal.loop-k-init
 loop-k-init c = written_none _ _ _ refl
-
-pub price_part-requires : goal.price_part-requires
-price_part-requires c =
-    let small = c.requires.small in
-    record {
-      average_small = small.average (c.loop-k.k / 3);
-      last_small = small.final (c.loop-k.k / 3);
-      part_below = omega arith;
-    }
 
 pub loop-k-preserved : goal.loop-k-preserved
 unfolding price_word
@@ -35,6 +26,3 @@ loop-k-preserved c =
     written_more c.loop-k.invariant (omega arith)
     (to_z-of_z {w = w64} (sfits_of c.price_part.type_inv) ∙ c.price_part.ensures
     ∙ ap (λ (z : ℤ). price_part (get_or a.averages i no_price).0 (get_or a.finals i no_price).0 z (c.loop-k.k % 3)) unread)
-
-pub returns : goal.returns
-returns c = written_all c.loop-k.invariant (omega arith)

@@ -9,9 +9,6 @@ use Rattle.ledger.proofs.settle.raise_counts.Goals as goal
 pub loop-i-init : goal.loop-i-init
 loop-i-init c = filled_none most_distributors 0 _
 
-pub overflow_add-raised : goal.overflow_add-raised
-overflow_add-raised c = omega (arith, c.requires.within c.loop-i.i (omega arith))
-
 pub loop-i-preserved : goal.loop-i-preserved
 loop-i-preserved c =
     filled_next most_distributors 0 c.loop-i.i _ c.loop-i.raised _ (omega (arith, c.requires.few)) c.loop-i.invariant refl

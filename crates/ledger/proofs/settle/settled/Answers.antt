@@ -1,7 +1,6 @@
 -- The checks in their order; a month that passes them is settled.
 use mathlib.Core.Path.{sym}
 use borrow.Author.Tests.{not-true, not-false}
-use native.Mathlib.Omega.{arith}
 use Rattle.numbers.specs.Checks.{verdict_of}
 use Rattle.settlement.proofs.MonthLaws.{positions_within}
 use Rattle.ledger.specs.Settle.{SettlementCall, settlement_call_of, positions_of, settlement_checks, settlement_verdict}

@@ -6,7 +6,6 @@ use Rattle.numbers.specs.Sizes.{most_distributors}
 use Rattle.std.proofs.lemmas.Iterator.{YieldsList-from_range}
 use Rattle.std.proofs.lemmas.Iterator.Search.{all_from_yields_List}
 use Rattle.numbers.proofs.ChainLaws.{all_ranged}
-use Rattle.ledger.specs.Ledger.{count_at}
 use Rattle.ledger.specs.Sound.{balance_sound, each_balance}
 use Rattle.ledger.proofs.sound.each_balance_sound.Goals as goal
 

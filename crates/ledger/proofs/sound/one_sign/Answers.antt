@@ -1,7 +1,7 @@
 -- The chains' answers are the definition's, distributor by distributor.
 use Rattle.std.proofs.Common.{rules}
 use borrow.Author.Tests.{tests}
-use mathlib.Core.Path.{◌≡◌, ◌∙◌, ap, ap₂}
+use mathlib.Core.Path.{◌∙◌, ap, ap₂}
 use mathlib.Core.Bool.{Bool, not, ◌&&◌}
 use native.Mathlib.Omega.{arith}
 use lib.IntN.{pos}

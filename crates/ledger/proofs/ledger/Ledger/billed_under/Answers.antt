@@ -2,7 +2,6 @@
 use mathlib.Core.Path.{◌≡◌}
 use mathlib.Core.Bool.{true}
 use Prim.Native.Nat.{◌<◌}
-use native.Mathlib.Omega.{arith}
 use Rattle.ledger.specs.Billed.{is_split, charges_for, billed_under}
 use Rattle.ledger.proofs.BilledLaws.{split_after, sound_divided}
 use Rattle.ledger.proofs.ledger.Ledger.billed_under.Goals as goal
@@ -15,9 +14,6 @@ module _ (c : Then-month-self) where
 
   later : 1 < c.args.self.day
   later = split_after c.args.self.month c.args.self.day c.args.month split
-
-pub overflow_sub-self : goal.overflow_sub-self
-overflow_sub-self c = omega (arith, later (goal.at.overflow_sub-self c).Then-month-self)
 
 pub split_charges-requires : goal.split_charges-requires
 split_charges-requires c =
