@@ -7,7 +7,7 @@
 ghost use Rattle.std.specs.Prelude.{◌<◌};
 
 use answers::line::values_line;
-use ledger::fix::{FixingAnswer, fix};
+use ledger::fix::fix;
 use ledger::open::open;
 use series::table::{CPI, MONTHS, WORDS};
 use supply::line::{LINE_WORDS, POWER_START};
@@ -61,8 +61,8 @@ fn sectors() -> [u64; 24] {
 
 // Prints the first bytes of a text.
 fn print(text: &[u8], count: usize) {
-    if count <= text.len() {
-        io::write_all(STDOUT_FILENO, &text[..count]);
+    if let Some(shown) = text.get(..count) {
+        io::write_all(STDOUT_FILENO, shown);
     }
 }
 
@@ -90,19 +90,10 @@ fn main() {
         &mut prices,
         &mut power,
     );
-    let answer = outcome.answer;
-    if let FixingAnswer::Accepted {
-        limit,
-        surcharge,
-        rounds,
-        residue,
-    } = answer
-    {
+    if let Ok(values) = outcome.answer {
         let mut text = io::buffer();
-        let values = values_line(limit, surcharge, rounds, residue);
-        let end = write_line(&mut text, 0, values);
-        let column = [0u64; 0];
-        let end = write_rows(&mut text, end, &prices, 3, false, &column);
+        let end = write_line(&mut text, 0, values_line(values));
+        let end = write_rows(&mut text, end, &prices, 3, false, &[]);
         print(&text, end);
     }
 }

@@ -12,7 +12,7 @@ use Rattle.numbers.specs.Checks.{check, verdict_of}
 use Rattle.numbers.specs.Required.{ValuesWithin}
 use Rattle.numbers.specs.Sizes.{distributor_readings}
 use Rattle.numbers.specs.declared.refusal.Refusal.TheVariants.{WrongSheetLength, ZeroReading}
-use Rattle.std.specs.Prelude.{Ok, Err}
+use Rattle.std.specs.Prelude.{Ok}
 use Rattle.numbers.proofs.SumLaws.{sum_same}
 use Rattle.numbers.proofs.ListLaws.{list_length, list_at}
 use Rattle.numbers.proofs.CheckLaws.{FirstPass, passed_test, all_passed, passed_alone}

@@ -13,8 +13,9 @@ use Rattle.sheet.specs.Sheet.{whole_check, reading_checks, distributor_checks, s
 use Rattle.sheet.specs.Example.{example_readings, example_sheet, zero_then_short, short_before_zero}
 
 unfoldable sheet_computed : ℕ
-unfolding numbers_computed number_bytes number_at presence_bit bit_map reading_bytes distributor_bytes sheet_bytes bit_of
-    reading_place map_place reading_by reading_at sheet_readings whole_check reading_checks distributor_checks sheet_checks
+unfolding numbers_computed number_bytes number_at presence_bit bit_map reading_bytes distributor_bytes sheet_bytes
+    bit_of reading_place map_place reading_by reading_at sheet_readings whole_check reading_checks distributor_checks
+    sheet_checks
 sheet_computed = 0
 
 pub example_written : sheet_bytes 2 example_readings ≡ example_sheet

@@ -1,3 +1,4 @@
+pub mod AnswerLaws
 pub mod StandLaws
 pub mod NumberLaws
 pub mod BitLaws

@@ -48,7 +48,8 @@ module _ (readings : List ℕ) where
 
   pub map_bit : (b : ℕ) → b < distributor_readings → bit_of (bit_map readings) b ≡ presence_bit (get_or readings b 0)
   unfolding bit_map
-  map_bit b p = bit_of_bits (λ j. presence_bit (get_or readings j 0)) 32 (λ j q. presence_most (get_or readings j 0)) b p
+  map_bit b p =
+      bit_of_bits (λ j. presence_bit (get_or readings j 0)) 32 (λ j q. presence_most (get_or readings j 0)) b p
 
 -- the map at a place has the bits of a distributor's readings
 pub record Mapped (sheet : List ℕ) (place : ℕ) (readings : List ℕ) : Type 0 where

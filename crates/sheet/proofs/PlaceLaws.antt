@@ -2,8 +2,8 @@
 -- lies within the sheet. Assumes nothing.
 use mathlib.Core.Path.{◌≡◌, ◌∙◌, ap}
 use mathlib.Core.List.{List, [], ◌∷◌}
-use Rattle.std.specs.Prelude.{None, Ok, Err}
-use Prim.Native.Nat.{ℕ, zero, suc, ◌+◌, ◌-◌, ◌*◌, ◌/◌, ◌%◌, ◌^◌, ◌≤◌, ◌<◌}
+use Rattle.std.specs.Prelude.{None, Ok}
+use Prim.Native.Nat.{ℕ, zero, suc, ◌+◌, ◌-◌, ◌*◌, ◌/◌, ◌%◌, ◌^◌, ◌≤◌}
 use native.Mathlib.Numerals.{add-one}
 use native.Mathlib.Nat.{pow-suc, div-div-eq-div-mul, zero-add, suc-add}
 use native.Mathlib.Omega.{arith}
@@ -41,12 +41,11 @@ module _ (sheet : List ℕ) (place : ℕ) where
 
   -- a walk over the bits of the map that stands at the place: what holds where it comes to bit b
   pub record Walked (bits at b : ℕ) : Type 0 where
-    pub most : b ≤ distributor_readings
     pub rest : bits ≡ number_at sheet place / 2 ^ b
     pub stands : at ≡ reading_place sheet place b
 
   pub walked_none : (bits at : ℕ) → bits ≡ number_at sheet place → at ≡ place + number_size → Walked bits at 0
-  walked_none bits at e p = record { most = omega arith; rest = omega arith; stands = omega (arith, first_place) }
+  walked_none bits at e p = record { rest = omega arith; stands = omega (arith, first_place) }
 
   module _ {bits at b : ℕ} (w : Walked bits at b) where
     pub walked_bit : bits % 2 ≡ bit_at sheet place b
@@ -56,11 +55,9 @@ module _ (sheet : List ℕ) (place : ℕ) where
     pub walked_next : at + bits % 2 * number_size ≡ reading_place sheet place (b + 1)
     walked_next = omega (arith, w.stands, walked_bit, next_place b)
 
-    pub walked_more : (next : ℕ) → next ≡ at + bits % 2 * number_size → b < distributor_readings →
-        Walked (bits / 2) next (b + 1)
-    walked_more next e p =
+    pub walked_more : (next : ℕ) → next ≡ at + bits % 2 * number_size → Walked (bits / 2) next (b + 1)
+    walked_more next e =
         record {
-          most = omega arith;
           rest = rw (w.rest, add-one, pow-suc) (div-div-eq-div-mul (number_at sheet place) (2 ^ b) 2);
           stands = e ∙ walked_next;
         }
@@ -89,7 +86,8 @@ maps_rise sheet i n p =
     rw e at (map_up sheet i (n - i))
 
 -- a number that stands whole in the sheet
-pub whole_within : (sheet : List ℕ) (place : ℕ) → (whole_check sheet place).met ≡ None → place + number_size ≤ length sheet
+pub whole_within : (sheet : List ℕ) (place : ℕ) → (whole_check sheet place).met ≡ None →
+    place + number_size ≤ length sheet
 unfolding whole_check
 whole_within sheet place h =
     leb-true (place + number_size) (length sheet)

@@ -14,8 +14,8 @@ use Rattle.numbers.specs.Sizes.{most_distributors, distributor_readings}
 use Rattle.numbers.specs.Units.{between}
 use Rattle.numbers.specs.declared.refusal.Refusal.{Refusal}
 use Rattle.numbers.specs.declared.refusal.Refusal.TheVariants.{WrongCount, WrongLength, WrongSheetLength, ZeroReading}
-use Rattle.numbers.specs.Refusal.{Verdict}
-use Rattle.std.specs.Prelude.{Ok, Err}
+use Rattle.numbers.specs.Refusal.{answer_by}
+use Rattle.std.specs.Prelude.{Result, Ok, Err}
 use Rattle.numbers.proofs.CheckLaws.{AllTold, check_told, judged}
 use Rattle.numbers.proofs.JoinLaws.{verdict_after, refused_before, told_both, told_join}
 use Rattle.numbers.proofs.JoinLaws.{join_none, join_more, join_refused, join_passed, first_passed}
@@ -23,22 +23,9 @@ use Rattle.sheet.specs.Number.{number_size, number_at}
 use Rattle.sheet.specs.Sheet.{bit_at, reading_place, map_place, whole_check, reading_checks, distributor_checks}
 use Rattle.sheet.specs.Sheet.{sheet_readings, sheet_checks}
 use Rattle.sheet.specs.Read.{read_checks, read_list, ReadPromise}
-use Rattle.sheet.specs.Required.{place_by}
-use Rattle.sheet.specs.declared.read.Place.{Place}
-use Rattle.sheet.specs.declared.read.Place.TheVariants.{At, Wrong}
-use Rattle.sheet.proofs.PlaceLaws.{Walked, walked_bit, walked_more, reading_within, own_checks, each_checks}
-use Rattle.sheet.proofs.PlaceLaws.{places_within, next_map}
-
--- what a place says of the verdict that gave it
-pub place_at : (verdict : Verdict) (place next : ℕ) → At next ≡ place_by verdict place →
-    (verdict ≡ Ok tt) × (next ≡ place)
-place_at (Ok _) place next h = (refl, cc)
-place_at (Err refusal) place next h = absurd (let z : ◌≡◌ {A = ℕ} 0 1 = cc in omega arith)
-
-pub place_wrong : (verdict : Verdict) (place : ℕ) (refusal : Refusal) → Wrong refusal ≡ place_by verdict place →
-    verdict ≡ Err refusal
-place_wrong (Ok tt) place refusal h = absurd (let z : ◌≡◌ {A = ℕ} 0 1 = cc in omega arith)
-place_wrong (Err met) place refusal h = cc
+use Rattle.sheet.proofs.AnswerLaws.{answer_ok, answer_err}
+use Rattle.sheet.proofs.PlaceLaws.{Walked, walked_none, walked_bit, walked_more, reading_within, own_checks}
+use Rattle.sheet.proofs.PlaceLaws.{each_checks, places_within, next_map}
 
 -- a reading: absent, cut off, zero, and neither
 module _ (sheet : List ℕ) (place : ℕ) where
@@ -68,7 +55,8 @@ module _ (sheet : List ℕ) (place : ℕ) where
   map_refused p = rw (lt-leb (place + number_size) (length sheet) p)
 
   pub map_passes : place + number_size ≤ length sheet →
-      verdict_of (distributor_checks sheet place) ≡ verdict_of (join_below distributor_readings (own_checks sheet place))
+      verdict_of (distributor_checks sheet place)
+      ≡ verdict_of (join_below distributor_readings (own_checks sheet place))
   unfolding distributor_checks whole_check verdict_of
   map_passes p = rw (le-leb (place + number_size) (length sheet) p)
 
@@ -79,39 +67,49 @@ pub record Checked (sheet : List ℕ) (place bits at b : ℕ) : Type 0 where
   pub within : at ≤ length sheet
   pub passed : verdict_of (join_below b (own_checks sheet place)) ≡ Ok tt
 
-module _ (sheet : List ℕ) (place bits at b : ℕ) (h : Checked sheet place bits at b) (p : b < distributor_readings)
-    (after : Place) (e : after ≡ place_by (verdict_of (reading_checks (bits % 2) sheet at)) (at + bits % 2 * number_size))
-  where
+module _ (sheet : List ℕ) (place : ℕ) (whole : place + number_size ≤ length sheet) where
+  pub checked_none : (bits : ℕ) → bits ≡ number_at sheet place → Checked sheet place bits (place + number_size) 0
+  checked_none bits e =
+      record {
+        walked = walked_none sheet place bits (place + number_size) e refl;
+        within = whole;
+        passed = join_none (own_checks sheet place);
+      }
+
+  module _ {bits at b : ℕ} (h : Checked sheet place bits at b) where
+    -- what its checks answer of the next place
+    abbrev own_answer : Result ℕ Refusal
+    own_answer = answer_by (verdict_of (reading_checks (bits % 2) sheet at)) (at + bits % 2 * number_size)
+
     own_check : reading_checks (bits % 2) sheet at ≡ own_checks sheet place b
     own_check = ap₂ (λ bit a. reading_checks bit sheet a) (walked_bit sheet place h.walked) h.walked.stands
 
-    pub checked_more : (next : ℕ) → after ≡ At next → Checked sheet place (bits / 2) next (b + 1)
-    checked_more next t =
-        let w = place_at _ _ next (sym t ∙ e) in
+    pub checked_more : (next : ℕ) → Ok next ≡ own_answer → Checked sheet place (bits / 2) next (b + 1)
+    checked_more next e =
+        let w = answer_ok _ _ next e in
         record {
-          walked = walked_more sheet place h.walked next w.1 p;
+          walked = walked_more sheet place h.walked next w.1;
           within = rw w.1 (reading_within (bits % 2) sheet at (omega arith) h.within w.0);
           passed = join_more (own_checks sheet place) b h.passed (ap verdict_of (sym own_check) ∙ w.0);
         }
 
-    pub checked_wrong : (refusal : Refusal) → after ≡ Wrong refusal → place + number_size ≤ length sheet →
-        Wrong refusal ≡ place_by (verdict_of (distributor_checks sheet place))
+    -- what all checks answer of the place after the readings
+    pub checked_wrong : (refusal : Refusal) → Err refusal ≡ own_answer → b < distributor_readings →
+        Err refusal ≡ answer_by (verdict_of (distributor_checks sheet place))
         (reading_place sheet place distributor_readings)
-    checked_wrong refusal t q =
-        let met = place_wrong _ _ refusal (sym t ∙ e) in
+    checked_wrong refusal e p =
         rw (
-          map_passes sheet place q,
+          map_passes sheet place whole,
           join_refused (own_checks sheet place) b distributor_readings refusal p h.passed
-              (ap verdict_of (sym own_check) ∙ met),
+              (ap verdict_of (sym own_check) ∙ answer_err _ _ refusal e),
         ) refl
 
-pub checked_all : (sheet : List ℕ) (place bits at b : ℕ) → Checked sheet place bits at b → distributor_readings ≤ b →
-    place + number_size ≤ length sheet →
-    At at ≡ place_by (verdict_of (distributor_checks sheet place)) (reading_place sheet place distributor_readings)
-checked_all sheet place bits at b h p q =
-    let e : b ≡ distributor_readings = omega (arith, h.walked.most) in
-    let passed : verdict_of (join_below distributor_readings (own_checks sheet place)) ≡ Ok tt = rw e at h.passed in
-    rw (map_passes sheet place q, passed) (ap At (h.walked.stands ∙ ap (reading_place sheet place) e))
+    pub checked_all : b ≡ distributor_readings →
+        Ok at ≡ answer_by (verdict_of (distributor_checks sheet place))
+        (reading_place sheet place distributor_readings)
+    checked_all e =
+        let passed : verdict_of (join_below distributor_readings (own_checks sheet place)) ≡ Ok tt = rw e at h.passed in
+        rw (map_passes sheet place whole, passed) (ap Ok (h.walked.stands ∙ ap (reading_place sheet place) e))
 
 -- a sheet: a distributor's refusal, bytes left, and neither
 module _ (n : ℕ) (sheet : List ℕ) where
@@ -132,54 +130,47 @@ module _ (n : ℕ) (sheet : List ℕ) where
         verdict_after (join_below n (each_checks sheet)) _ h ∙ rw (le-leb (length sheet) (map_place sheet n) p) refl
 
 -- the loop over the distributors: the map of distributor i stands within the sheet, and the checks before it pass
-pub record SheetChecked (n : ℕ) (sheet : List ℕ) (at i : ℕ) : Type 0 where
-  pub most : i ≤ n
+pub record SheetChecked (sheet : List ℕ) (at i : ℕ) : Type 0 where
   pub stands : at ≡ map_place sheet i
   pub within : at ≤ length sheet
   pub passed : verdict_of (join_below i (each_checks sheet)) ≡ Ok tt
 
-pub sheet_none : (n : ℕ) (sheet : List ℕ) → SheetChecked n sheet 0 0
+pub sheet_none : (sheet : List ℕ) → SheetChecked sheet 0 0
 unfolding map_place
-sheet_none n sheet =
-    record { most = omega arith; stands = refl; within = omega arith; passed = join_none (each_checks sheet) }
+sheet_none sheet = record { stands = refl; within = omega arith; passed = join_none (each_checks sheet) }
 
-module _ (n : ℕ) (sheet : List ℕ) (at i : ℕ) (h : SheetChecked n sheet at i) where
-  module _ (p : i < n) (after : Place)
-      (e : after ≡ place_by (verdict_of (distributor_checks sheet at)) (reading_place sheet at distributor_readings)) where
-    each_check : verdict_of (each_checks sheet i) ≡ verdict_of (distributor_checks sheet at)
-    each_check = ap (λ a. verdict_of (distributor_checks sheet a)) (sym h.stands)
+module _ {sheet : List ℕ} {at i : ℕ} (h : SheetChecked sheet at i) where
+  -- what its checks answer of the place after its readings
+  abbrev each_answer : Result ℕ Refusal
+  each_answer =
+      answer_by (verdict_of (distributor_checks sheet at)) (reading_place sheet at distributor_readings)
 
-    pub sheet_more : (next : ℕ) → after ≡ At next → SheetChecked n sheet next (i + 1)
-    sheet_more next t =
-        let w : (verdict_of (distributor_checks sheet at) ≡ Ok tt) × (next ≡ reading_place sheet at distributor_readings) =
-        place_at _ _ next (sym t ∙ e) in
-        record {
-          most = omega arith;
-          stands = w.1 ∙ ap (λ a. reading_place sheet a distributor_readings) h.stands ∙ sym (next_map sheet i);
-          within = rw w.1 (places_within sheet at w.0 distributor_readings (omega arith));
-          passed = join_more (each_checks sheet) i h.passed (each_check ∙ w.0);
-        }
+  each_check : verdict_of (each_checks sheet i) ≡ verdict_of (distributor_checks sheet at)
+  each_check = ap (λ a. verdict_of (distributor_checks sheet a)) (sym h.stands)
 
-    pub sheet_wrong : (refusal : Refusal) → after ≡ Wrong refusal →
-        Err refusal ≡ verdict_of (sheet_checks n sheet)
-    sheet_wrong refusal t =
-        let met = place_wrong _ _ refusal (sym t ∙ e) in
-        sym (sheet_refused n sheet refusal
-        (join_refused (each_checks sheet) i n refusal p h.passed (each_check ∙ met)))
+  pub sheet_more : (next : ℕ) → Ok next ≡ each_answer → SheetChecked sheet next (i + 1)
+  sheet_more next e =
+      let w = answer_ok _ _ next e in
+      record {
+        stands = w.1 ∙ ap (λ a. reading_place sheet a distributor_readings) h.stands ∙ sym (next_map sheet i);
+        within = rw w.1 (places_within sheet at w.0 distributor_readings (omega arith));
+        passed = join_more (each_checks sheet) i h.passed (each_check ∙ w.0);
+      }
 
-  -- all distributors passed
-  module _ (p : n ≤ i) where
-    end : i ≡ n
-    end = omega (arith, h.most)
+  pub sheet_wrong : (n : ℕ) (refusal : Refusal) → Err refusal ≡ each_answer → i < n →
+      Err refusal ≡ verdict_of (sheet_checks n sheet)
+  sheet_wrong n refusal e p =
+      sym (sheet_refused n sheet refusal
+      (join_refused (each_checks sheet) i n refusal p h.passed (each_check ∙ answer_err _ _ refusal e)))
 
-    all : verdict_of (join_below n (each_checks sheet)) ≡ Ok tt
-    all = rw end at h.passed
+-- all distributors passed
+pub sheet_left : (n : ℕ) (sheet : List ℕ) (at : ℕ) → SheetChecked sheet at n → at < length sheet →
+    Err WrongSheetLength ≡ verdict_of (sheet_checks n sheet)
+sheet_left n sheet at h p = sym (left_refused n sheet h.passed (omega (arith, h.stands)))
 
-    pub sheet_left : at < length sheet → Err WrongSheetLength ≡ verdict_of (sheet_checks n sheet)
-    sheet_left q = sym (left_refused n sheet all (omega (arith, h.stands, ap (map_place sheet) end)))
-
-    pub sheet_all : length sheet ≤ at → Ok tt ≡ verdict_of (sheet_checks n sheet)
-    sheet_all q = sym (sheet_passes n sheet all (omega (arith, h.stands, ap (map_place sheet) end)))
+pub sheet_all : (n : ℕ) (sheet : List ℕ) (at : ℕ) → SheetChecked sheet at n → length sheet ≤ at →
+    Ok tt ≡ verdict_of (sheet_checks n sheet)
+sheet_all n sheet at h p = sym (sheet_passes n sheet h.passed (omega (arith, h.stands)))
 
 -- each check has the number of its refusal
 reading_told : (bit : ℕ) (sheet : List ℕ) (place : ℕ) → AllTold (reading_checks bit sheet place)
@@ -217,12 +208,14 @@ read_told n sheet lent = (
 )
 
 -- where all checks pass the last map's end lies within the sheet
-pub maps_within : (n : ℕ) (sheet : List ℕ) → verdict_of (sheet_checks n sheet) ≡ Ok tt → map_place sheet n ≤ length sheet
+pub maps_within : (n : ℕ) (sheet : List ℕ) → verdict_of (sheet_checks n sheet) ≡ Ok tt →
+    map_place sheet n ≤ length sheet
 unfolding sheet_checks map_place
 maps_within zero sheet h = omega arith
 maps_within (suc i) sheet h =
     places_within sheet (map_place sheet i)
-    (join_passed (each_checks sheet) (suc i) (first_passed (join_below (suc i) (each_checks sheet)) _ h) i (omega arith))
+    (join_passed (each_checks sheet) (suc i) (first_passed (join_below (suc i) (each_checks sheet)) _ h) i
+    (omega arith))
     distributor_readings (omega arith)
 
 -- the open call: its verdict, check by check, and its promise

@@ -12,27 +12,26 @@ use Rattle.numbers.specs.Sizes.{distributor_readings, most_reading, most_distrib
 use Rattle.numbers.specs.Units.{between}
 use Rattle.numbers.specs.declared.refusal.Refusal.TheVariants.{WrongCount, WrongReading}
 use Rattle.numbers.specs.Refusal.{Verdict}
-use Rattle.std.specs.Prelude.{Ok, Err}
+use Rattle.std.specs.Prelude.{Ok}
 use Rattle.numbers.proofs.UnitLaws.{values_within}
 use Rattle.numbers.proofs.CheckLaws.{FirstPass, passed_test, verdict_from, all_passed}
 use Rattle.sheet.specs.Sheet.{sheet_bytes, sheet_readings, sheet_checks}
 use Rattle.sheet.specs.Read.{read_checks, read_list, ReadPromise}
-use Rattle.sheet.specs.Write.{write_checks, write_verdict, used_bytes, written_first, written_buffer}
+use Rattle.sheet.specs.Write.{write_checks, write_verdict, written_first, written_buffer}
 use Rattle.sheet.specs.Write.{WritePromise}
 use Rattle.sheet.proofs.WrittenLaws.{written_passes, written_read}
 use Rattle.sheet.proofs.CanonicalLaws.{canonical}
 use Rattle.sheet.proofs.ReadLaws.{read_due}
-use Rattle.sheet.proofs.WriteLaws.{lengths_due}
+use Rattle.sheet.proofs.WriteLaws.{writable, written_passed}
 
 -- what an accepted write says
 module _ (n : ℕ) (readings buffer : List ℕ) (used : ℕ) (left : List ℕ)
-    (promise : WritePromise n readings buffer (Ok tt) used left) where
+    (promise : WritePromise n readings buffer (Ok used) left) where
   accepted : write_verdict n readings buffer ≡ Ok tt
-  accepted = sym promise.judged.answered
+  accepted = (written_passed n readings buffer used left promise).0
 
   used_is : used ≡ length (sheet_bytes n readings)
-  unfolding used_bytes
-  used_is = promise.sized ∙ ap (λ v. cond (is_passed v) (length (sheet_bytes n readings)) 0) accepted
+  used_is = (written_passed n readings buffer used left promise).1
 
   left_is : left ≡ sheet_bytes n readings ++ drop (length (sheet_bytes n readings)) buffer
   unfolding written_buffer written_first
@@ -51,8 +50,7 @@ module _ (n : ℕ) (readings buffer : List ℕ) (used : ℕ) (left : List ℕ)
   count_passed = passed_test WrongCount _ tests.0
 
   readings_long : length readings ≡ n * distributor_readings
-  unfolding write_verdict
-  readings_long = (lengths_due n readings buffer accepted).read
+  readings_long = (writable n readings buffer accepted).read
 
   readings_within : ValuesWithin most_reading readings
   unfolding write_checks FirstPass

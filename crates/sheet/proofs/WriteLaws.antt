@@ -2,8 +2,8 @@
 -- nothing.
 use mathlib.Core.Path.{◌≡◌, refl, sym, ◌∙◌, ap}
 use mathlib.Core.Bool.{true, false, cond}
-use mathlib.Core.List.{List, [], ◌∷◌, ◌++◌}
-use Prim.Native.Nat.{ℕ, ◌+◌, ◌*◌, ◌^◌, ◌≤◌, ◌<◌}
+use mathlib.Core.List.{List, ◌++◌}
+use Prim.Native.Nat.{ℕ, ◌+◌, ◌*◌, ◌^◌, ◌≤◌}
 use native.Mathlib.Numerals.{add-one}
 use native.Mathlib.Nat.{pow-suc, pow-le-pow_right, mul-le-mul_right}
 use native.Mathlib.Omega.{arith}
@@ -11,8 +11,8 @@ use lib.Dec.{eqb, leb}
 use lib.ListN.{length, get_or, length-append}
 use borrow.Author.Tests.{eqb-true, leb-true}
 use Rattle.numbers.specs.Bounded.{sum_below, join_below}
-use Rattle.numbers.specs.Checks.{verdict_of, answered_by}
-use Rattle.numbers.specs.Refusal.{is_passed, accepted, verdict_answered}
+use Rattle.numbers.specs.Checks.{verdict_of}
+use Rattle.numbers.specs.Refusal.{is_passed}
 use Rattle.numbers.specs.Sizes.{most_distributors, distributor_readings, most_reading}
 use Rattle.numbers.specs.Units.{between, all_between}
 use Rattle.numbers.specs.declared.refusal.Refusal.{Refusal}
@@ -20,61 +20,58 @@ use Rattle.numbers.specs.declared.refusal.Refusal.TheVariants.{WrongCount, Wrong
 use Rattle.numbers.specs.Refusal.{Verdict}
 use Rattle.std.specs.Prelude.{Ok, Err}
 use Rattle.numbers.proofs.BoolLaws.{and_left, and_right}
-use Rattle.numbers.proofs.CheckLaws.{FirstPass, AllTold, passed_test, all_passed, check_told, verdict_told}
+use Rattle.numbers.proofs.CheckLaws.{FirstPass, AllTold, passed_test, all_passed, check_told, answers_by}
 use Rattle.numbers.proofs.UnitLaws.{between_high}
 use Rattle.numbers.proofs.SumLaws.{sum_step}
 use Rattle.numbers.proofs.JoinLaws.{join_step, join_most}
 use Rattle.sheet.specs.Number.{number_size, number_bytes}
 use Rattle.sheet.specs.Sheet.{readings_of, presence_bit, bit_map, reading_bytes, distributor_bytes, sheet_bytes}
-use Rattle.sheet.specs.Write.{most_distributor_bytes, write_lengths, write_checks, write_verdict, used_bytes}
+use Rattle.sheet.specs.Write.{most_distributor_bytes, write_lengths, write_checks, write_verdict}
 use Rattle.sheet.specs.Write.{written_first, written_buffer, WritePromise}
 use Rattle.sheet.specs.Required.{Writable, FirstWritten}
 use Rattle.sheet.proofs.NumberLaws.{number_size_lem}
 use Rattle.sheet.proofs.BitLaws.{bits_below}
 use Rattle.sheet.proofs.MapLaws.{presence_most, reading_size}
 use Rattle.sheet.proofs.FrontLaws.{front_long}
+use Rattle.sheet.proofs.AnswerLaws.{answer_ok}
 
 -- the loop over the bits of a map
 pub record BitsAdded (readings : List ℕ) (map power b : ℕ) : Type 0 where
-  pub most : b ≤ distributor_readings
   pub raised : power ≡ 2 ^ b
   pub sum : map ≡ sum_below b (λ j. presence_bit (get_or readings j 0) * 2 ^ j)
 
 pub bits_none : (readings : List ℕ) → BitsAdded readings 0 1 0
 unfolding sum_below
-bits_none readings = record { most = omega arith; raised = refl; sum = refl }
+bits_none readings = record { raised = refl; sum = refl }
 
-module _ (readings : List ℕ) (map power b : ℕ) (h : BitsAdded readings map power b) where
-  pub power_most : power ≤ 2 ^ 32
-  power_most = rw h.raised (pow-le-pow_right (omega arith) h.most)
+module _ {readings : List ℕ} {map power b : ℕ} (h : BitsAdded readings map power b) where
+  module _ (most : b ≤ distributor_readings) where
+    pub power_most : power ≤ 2 ^ 32
+    power_most = rw h.raised (pow-le-pow_right (omega arith) most)
 
-  pub product_most : presence_bit (get_or readings b 0) * power ≤ 2 ^ 32
-  product_most = omega (arith, power_most, mul-le-mul_right power (presence_most (get_or readings b 0)))
+    pub product_most : presence_bit (get_or readings b 0) * power ≤ 2 ^ 32
+    product_most = omega (arith, power_most, mul-le-mul_right power (presence_most (get_or readings b 0)))
 
-  pub map_most : map ≤ 2 ^ 32
-  map_most =
-      omega (
-        arith,
-        power_most,
-        h.raised,
-        h.sum,
-        bits_below (λ j. presence_bit (get_or readings j 0)) b (λ j p. presence_most (get_or readings j 0)),
-      )
+    pub map_most : map ≤ 2 ^ 32
+    map_most =
+        omega (
+          arith,
+          power_most,
+          h.raised,
+          h.sum,
+          bits_below (λ j. presence_bit (get_or readings j 0)) b (λ j p. presence_most (get_or readings j 0)),
+        )
 
-  pub bits_more : b < distributor_readings →
-      BitsAdded readings (map + presence_bit (get_or readings b 0) * power) (power * 2) (b + 1)
-  bits_more p =
+  pub bits_more : BitsAdded readings (map + presence_bit (get_or readings b 0) * power) (power * 2) (b + 1)
+  bits_more =
       record {
-        most = omega arith;
         raised = rw (h.raised, add-one) (sym (pow-suc 2 b));
         sum = rw (sum_step b (λ j. presence_bit (get_or readings j 0) * 2 ^ j), h.sum, h.raised) refl;
       }
 
-  pub bits_all : distributor_readings ≤ b → map ≡ bit_map readings
+  pub bits_all : b ≡ distributor_readings → map ≡ bit_map readings
   unfolding bit_map
-  bits_all p =
-      let e : b ≡ distributor_readings = omega (arith, h.most) in
-      h.sum ∙ ap (λ k. sum_below k (λ j. presence_bit (get_or readings j 0) * 2 ^ j)) e
+  bits_all e = h.sum ∙ ap (λ k. sum_below k (λ j. presence_bit (get_or readings j 0) * 2 ^ j)) e
 
 -- the bytes of the readings before b
 abbrev pub bytes_before : List ℕ → ℕ → List ℕ
@@ -134,17 +131,17 @@ module _ (n : ℕ) (readings buffer : List ℕ) where
       go (Ok _) e = p (lengths_due e)
       go (Err refusal) e = q
 
-  pub used_few : used_bytes n readings buffer ≤ 5280
-  unfolding used_bytes
-  used_few =
-      by_verdict (λ used. used ≤ 5280) (length (sheet_bytes n readings)) 0
-      (λ w. omega (arith, sheet_most n readings, w.few)) (omega arith)
+  -- what is used of a buffer by a call that is accepted
+  module _ (h : write_verdict n readings buffer ≡ Ok tt) where
+    pub writable : Writable n readings buffer
+    unfolding write_verdict
+    writable = lengths_due h
 
-  pub used_within : used_bytes n readings buffer ≤ length buffer
-  unfolding used_bytes
-  used_within =
-      by_verdict (λ used. used ≤ length buffer) (length (sheet_bytes n readings)) 0
-      (λ w. omega (arith, sheet_most n readings, w.room)) (omega arith)
+    pub used_few : length (sheet_bytes n readings) ≤ 5280
+    used_few = omega (arith, sheet_most n readings, writable.few)
+
+    pub used_within : length (sheet_bytes n readings) ≤ length buffer
+    used_within = omega (arith, sheet_most n readings, writable.room)
 
   pub buffer_length : length (written_buffer n readings buffer) ≡ length buffer
   unfolding written_buffer written_first
@@ -183,41 +180,30 @@ module _ (n : ℕ) (readings buffer : List ℕ) where
   unfolding write_verdict write_checks verdict_of
   write_passes h l r = rw (h, l, r)
 
-  told : (used : ℕ) (verdict : Verdict) → verdict ≡ write_verdict n readings buffer →
-      (verdict ≡ Ok tt → used ≡ length (sheet_bytes n readings)) →
-      verdict_answered (used ∷ []) verdict
-      ≡ answered_by (write_checks n readings buffer) (length (sheet_bytes n readings) ∷ [])
-  unfolding write_verdict
-  told used verdict e u =
-      go verdict u
-      ∙ ap (verdict_answered (length (sheet_bytes n readings) ∷ [])) e
-      ∙ verdict_told (write_checks n readings buffer) (length (sheet_bytes n readings) ∷ []) write_told
-    where
-      go : (v : Verdict) → (v ≡ Ok tt → used ≡ length (sheet_bytes n readings)) →
-          verdict_answered (used ∷ []) v ≡ verdict_answered (length (sheet_bytes n readings) ∷ []) v
-      go (Ok _) h = ap (λ k. accepted (k ∷ [])) (h refl)
-      go (Err refusal) h = refl
-
   pub write_refused : (refusal : Refusal) → write_verdict n readings buffer ≡ Err refusal →
-      WritePromise n readings buffer (Err refusal) 0 buffer
-  unfolding used_bytes written_buffer
+      WritePromise n readings buffer (Err refusal) buffer
+  unfolding write_verdict written_buffer
   write_refused refusal h =
       record {
-        judged = record {
-          answered = sym h;
-          numbered = told 0 (Err refusal) (sym h)
-              (λ e. absurd (let z : ◌≡◌ {A = ℕ} 0 1 = cc in omega arith));
-        };
-        sized = rw h;
+        judged = answers_by _ (write_checks n readings buffer) _ write_told (Err refusal) (rw h);
         listed = rw h;
       }
 
   pub write_accepted : (used : ℕ) (left : List ℕ) → write_verdict n readings buffer ≡ Ok tt →
-      FirstWritten (sheet_bytes n readings) buffer used left → WritePromise n readings buffer (Ok tt) used left
-  unfolding used_bytes written_buffer
+      FirstWritten (sheet_bytes n readings) buffer used left → WritePromise n readings buffer (Ok used) left
+  unfolding write_verdict written_buffer
   write_accepted used left h w =
       record {
-        judged = record { answered = sym h; numbered = told used (Ok tt) (sym h) (λ e. w.sized) };
-        sized = rw h w.sized;
+        judged = answers_by _ (write_checks n readings buffer) _ write_told (Ok used) (rw h (ap Ok w.sized));
         listed = rw h w.listed;
       }
+
+  -- and what an accepted answer says
+  module _ (used : ℕ) (left : List ℕ) (promise : WritePromise n readings buffer (Ok used) left) where
+    pub written_passed : (write_verdict n readings buffer ≡ Ok tt) × (used ≡ length (sheet_bytes n readings))
+    unfolding write_verdict
+    written_passed = answer_ok _ _ used promise.judged.answered
+
+    pub written_within : used ≤ length left
+    written_within =
+        omega (arith, written_passed, used_within written_passed.0, ap length promise.listed, buffer_length)

@@ -10,7 +10,7 @@ use Rattle.numbers.specs.Bounded.{list_below, join_below}
 use Rattle.numbers.specs.Checks.{verdict_of}
 use Rattle.numbers.specs.Required.{ValuesWithin}
 use Rattle.numbers.specs.Sizes.{distributor_readings, most_reading}
-use Rattle.std.specs.Prelude.{Ok, Err}
+use Rattle.std.specs.Prelude.{Ok}
 use Rattle.numbers.proofs.JoinLaws.{join_same, all_join}
 use Rattle.numbers.proofs.ListLaws.{list_length, list_at}
 use Rattle.sheet.specs.Number.{number_size, number_bytes}
@@ -62,7 +62,8 @@ module _ (sheet : List ℕ) (place : ℕ) (readings : List ℕ) (s : Stands shee
   mapped : Mapped sheet place readings
   mapped =
       record {
-        bit = λ b p. ap (λ map. bit_of map b) (number_back sheet place (bit_map readings) (map_below readings) map_stands)
+        bit = λ b p.
+            ap (λ map. bit_of map b) (number_back sheet place (bit_map readings) (map_below readings) map_stands)
             ∙ map_bit readings b p;
       }
 

@@ -2,7 +2,8 @@
 -- 4 × sector + kind in 01's order, the lowest bit being sector 0, billed AT. After it stand only the readings whose bit
 -- is set, 4 bytes each, low byte first, in bit order. Absent readings are zero." The readings of a distributor stand in
 -- that order too, so reading b has bit b. Assumes nothing.
-use Rattle.std.specs.Prelude.{cond, List, [], ◌∷◌, ◌++◌, ℕ, zero, suc, ◌+◌, ◌*◌, ◌/◌, ◌%◌, ◌^◌, eqb, leb, ltb, length, get_or, take, drop}
+use Rattle.std.specs.Prelude.{cond, List, [], ◌∷◌, ◌++◌, ℕ, zero, suc, ◌+◌, ◌*◌, ◌/◌, ◌%◌, ◌^◌, eqb, leb, ltb, length}
+use Rattle.std.specs.Prelude.{get_or, take, drop}
 use Rattle.numbers.specs.Bounded.{sum_below, list_below, join_below}
 use Rattle.numbers.specs.Checks.{Check, check}
 use Rattle.numbers.specs.Sizes.{distributor_readings}

@@ -16,10 +16,11 @@ use numbers::refusal::Refusal;
 use numbers::sizes::{DISTRIBUTOR_READINGS, MOST_DISTRIBUTORS};
 use numbers::units::is_between;
 
-// The place after a reading, by its bit and its place.
+// The place after a reading, by its bit and its place. Sheet and place stay two parameters, since the definitions take
+// the two and each function has a bound of its own on the place; the bit is a number, as it is in a map.
 fn place_after(bit: u64, sheet: &[u8], place: usize) -> Result<usize, Refusal>
-    requires fact_1 { bit ≤ 1 }
-    requires fact_2 { place ≤ length sheet.now }
+    requires bit_below_two { bit ≤ 1 }
+    requires within { place ≤ length sheet.now }
     ensures { result ≡ answer_by (verdict_of (reading_checks bit sheet.now place)) (place + bit * number_size) }
 {
     if bit == 0 {
@@ -67,9 +68,10 @@ fn sheet_verdict(n: usize, sheet: &[u8]) -> Result<(), Refusal>
 }
 
 // A reading by its bit and its place.
+#[tactic(auto, unfolding(crate::specs::Sheet::reading_by))]
 fn reading_by(bit: u64, sheet: &[u8], place: usize) -> u64
-    requires fact_1 { bit ≤ 1 }
-    requires fact_2 { place + bit * number_size ≤ length sheet.now }
+    requires bit_below_two { bit ≤ 1 }
+    requires within { place + bit * number_size ≤ length sheet.now }
     ensures { result ≡ reading_by bit sheet.now place }
 {
     if bit == 0 {
@@ -80,35 +82,32 @@ fn reading_by(bit: u64, sheet: &[u8], place: usize) -> u64
 
 // Writes the readings of the distributor whose map stands at a place: the place after them.
 fn write_readings(sheet: &[u8], place: usize, readings: &mut [u64]) -> usize
-    requires fact_1 { length readings.old ≡ distributor_readings }
-    requires fact_2 { reading_place sheet.now place distributor_readings ≤ length sheet.now }
+    requires long { length readings.old ≡ distributor_readings }
+    requires within { reading_place sheet.now place distributor_readings ≤ length sheet.now }
     ensures value { result ≡ reading_place sheet.now place distributor_readings }
     ensures readings_after { readings.new ≡ list_below distributor_readings (reading_at sheet.now place) }
 {
     let mut bits = number_at(sheet, place);
     let mut at = place + NUMBER_SIZE;
-    let mut b: usize = 0;
-    while b < DISTRIBUTOR_READINGS {
+    for reading in readings.iter_mut() {
         let bit = bits % 2;
-        readings[b] = reading_by(bit, sheet, at);
+        *reading = reading_by(bit, sheet, at);
         at += bit as usize * NUMBER_SIZE;
         bits /= 2;
-        b += 1;
     }
     at
 }
 
-// The readings of a sheet that passed, in one loop that cannot fail.
+// The readings of a sheet that passed, in one loop that cannot fail. (No clause of `chunks_exact_mut` says what the
+// list holds afterwards.)
 fn write_all(n: usize, sheet: &[u8], readings: &mut [u64])
     requires { WholeSheet n sheet.now readings.old }
     ensures { readings.new ≡ sheet_readings n sheet.now }
 {
     let mut at: usize = 0;
-    let mut i: usize = 0;
-    while i < n {
+    for i in 0..n {
         let from = i * DISTRIBUTOR_READINGS;
         at = write_readings(sheet, at, &mut readings[from..from + DISTRIBUTOR_READINGS]);
-        i += 1;
     }
 }
 

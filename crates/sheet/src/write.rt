@@ -1,5 +1,5 @@
 // Writing a month sheet: no requires. Causes 1, 3 and 12; the sheet is written only when all of them are passed.
-ghost use Rattle.std.specs.Prelude.{◌≡◌, ◌*◌, ◌≤◌, length};
+ghost use Rattle.std.specs.Prelude.{◌≡◌, ◌*◌, ◌/◌, ◌≤◌, length};
 ghost use Rattle.numbers.specs.Sizes.{most_distributors, distributor_readings};
 ghost use Rattle.sheet.specs.Number.{number_size};
 ghost use Rattle.sheet.specs.Sheet.{presence_bit, bit_map, reading_bytes, present_bytes, distributor_bytes};
@@ -13,13 +13,14 @@ use numbers::sizes::{DISTRIBUTOR_READINGS, MOST_DISTRIBUTORS, MOST_READING};
 use numbers::units::{all_between, is_between};
 
 // The most bytes of a distributor: a map and its readings.
-const DISTRIBUTOR_BYTES: usize = 132;
+pub const DISTRIBUTOR_BYTES: usize = NUMBER_SIZE * (1 + DISTRIBUTOR_READINGS);
 
 // The bit of a reading.
+#[tactic(auto, unfolding(crate::specs::Sheet::presence_bit))]
 fn presence_bit(reading: u64) -> u64
     ensures { result ≡ presence_bit reading }
 {
-    if reading == 0 { 0 } else { 1 }
+    u64::from(reading != 0)
 }
 
 // The bit map of a distributor's readings.
@@ -29,16 +30,15 @@ fn bit_map(readings: &[u64]) -> u64
 {
     let mut map: u64 = 0;
     let mut power: u64 = 1;
-    let mut b: usize = 0;
-    while b < DISTRIBUTOR_READINGS {
-        map += presence_bit(readings[b]) * power;
+    for &reading in readings {
+        map += presence_bit(reading) * power;
         power *= 2;
-        b += 1;
     }
     map
 }
 
 // Writes a reading, where it is present, as the first bytes of the lent ones: how many they are.
+#[tactic(auto, unfolding(crate::specs::Sheet::reading_bytes, crate::specs::Write::written_first))]
 fn write_reading(reading: u64, into: &mut [u8]) -> usize
     requires { number_size ≤ length into.old }
     ensures { FirstWritten (reading_bytes reading) into.old result into.new }
@@ -52,48 +52,42 @@ fn write_reading(reading: u64, into: &mut [u8]) -> usize
 
 // Writes those of a distributor's readings that are present as the first bytes of the lent ones: how many they are.
 fn write_present(readings: &[u64], into: &mut [u8]) -> usize
-    requires fact_1 { length readings.now ≡ distributor_readings }
-    requires fact_2 { distributor_readings * number_size ≤ length into.old }
+    requires long { length readings.now ≡ distributor_readings }
+    requires room { distributor_readings * number_size ≤ length into.old }
     ensures { FirstWritten (present_bytes readings.now) into.old result into.new }
 {
     let mut at: usize = 0;
-    let mut b: usize = 0;
-    while b < DISTRIBUTOR_READINGS {
-        at += write_reading(readings[b], &mut into[at..]);
-        b += 1;
+    for &reading in readings {
+        at += write_reading(reading, &mut into[at..]);
     }
     at
 }
 
 // Writes a distributor's map and readings as the first bytes of the lent ones: how many they are.
 fn write_distributor(readings: &[u64], into: &mut [u8]) -> usize
-    requires fact_1 { length readings.now ≡ distributor_readings }
-    requires fact_2 { most_distributor_bytes ≤ length into.old }
-    ensures { FirstWritten (distributor_bytes readings.now) into.old result
-        into.new }
+    requires long { length readings.now ≡ distributor_readings }
+    requires room { most_distributor_bytes ≤ length into.old }
+    ensures { FirstWritten (distributor_bytes readings.now) into.old result into.new }
 {
     write_number(bit_map(readings), into);
     NUMBER_SIZE + write_present(readings, &mut into[NUMBER_SIZE..])
 }
 
 // Writes the sheet, in one loop that cannot fail: how many bytes it has.
-fn write_distributors(n: usize, readings: &[u64], buffer: &mut [u8]) -> usize
-    requires { Writable n readings.now buffer.old }
-    ensures { FirstWritten (sheet_bytes n readings.now) buffer.old result
+fn write_distributors(readings: &[u64], buffer: &mut [u8]) -> usize
+    requires { Writable (length readings.now / distributor_readings) readings.now buffer.old }
+    ensures { FirstWritten (sheet_bytes (length readings.now / distributor_readings) readings.now) buffer.old result
         buffer.new }
 {
     let mut at: usize = 0;
-    let mut i: usize = 0;
-    while i < n {
-        let from = i * DISTRIBUTOR_READINGS;
-        let own = &readings[from..from + DISTRIBUTOR_READINGS];
+    for own in readings.chunks_exact(DISTRIBUTOR_READINGS) {
         at += write_distributor(own, &mut buffer[at..]);
-        i += 1;
     }
     at
 }
 
 // Whether readings and buffer have their lengths.
+#[tactic(auto, unfolding(crate::specs::Write::write_lengths))]
 fn lengths_right(n: usize, readings: &[u64], buffer: &[u8]) -> bool
     requires { n ≤ most_distributors }
     ensures { result ≡ write_lengths n readings.now buffer.now }
@@ -101,8 +95,8 @@ fn lengths_right(n: usize, readings: &[u64], buffer: &[u8]) -> bool
     (readings.len() == n * DISTRIBUTOR_READINGS) & (n * DISTRIBUTOR_BYTES <= buffer.len())
 }
 
-// The sheet of the readings of n distributors, 32 words each, first in a buffer of at least 132 bytes for each: how many
-// bytes it has. Where it is refused the buffer is as it was.
+// The sheet of the readings of n distributors, 32 words each, first in a buffer of at least 132 bytes for each: how
+// many bytes it has. Where it is refused the buffer is as it was.
 pub fn write_sheet(n: usize, readings: &[u64], buffer: &mut [u8]) -> Result<usize, Refusal>
     ensures { WritePromise n readings.now buffer.old result buffer.new }
 {
@@ -115,5 +109,5 @@ pub fn write_sheet(n: usize, readings: &[u64], buffer: &mut [u8]) -> Result<usiz
     if !all_between(0, MOST_READING, readings) {
         return Err(Refusal::WrongReading);
     }
-    Ok(write_distributors(n, readings, buffer))
+    Ok(write_distributors(readings, buffer))
 }

@@ -1,82 +1,79 @@
 // The calls that are timed: each is given the same ledger and the same lent lists every time.
-ghost use Rattle.std.specs.Prelude.{◌≤◌};
-
-use crate::arguments::Task;
-use crate::load::{LOSSES, Load, READINGS};
+use crate::arguments::Kinds;
+use crate::load::Load;
 use crate::report::PRICES;
-use ledger::fix::{FixingOutcome, fix, fixing_number};
-use ledger::ledger::{Ledger, Outcome};
+use ledger::fix::{FixingValues, fix};
+use ledger::ledger::Ledger;
 use ledger::open::open;
 use ledger::settle::settle;
-use numbers::refusal::verdict_number;
 use numbers::sizes::MOST_DISTRIBUTORS;
-use supply::market::FixingNumbers;
 
-// How many calls were accepted, the last fixing and the ledger of the last settlement.
+// The lists that the calls write.
+#[derive(Clone, Copy)]
+pub(crate) struct Written {
+    pub prices: [i64; PRICES],
+    pub power: [u64; MOST_DISTRIBUTORS],
+    pub transfers: [i64; MOST_DISTRIBUTORS],
+}
+
+// How many calls of each kind were accepted, and what the last of them gave.
 #[derive(Clone, Copy)]
 pub(crate) struct Results {
     pub fixings: u64,
     pub settlements: u64,
-    pub fixing: FixingOutcome,
-    pub settled: Ledger,
-}
-
-// What an answer's number adds to the count of accepted calls.
-fn accepted(number: u64) -> u64
-    ensures { result ≤ 1 }
-{
-    if number == 0 { 1 } else { 0 }
-}
-
-// The settlement of the load, for the fixing's month; the two lists have one lifetime, so that both are lent out of one
-// struct.
-fn settle_load<'a>(
-    ledger: Ledger,
-    numbers: FixingNumbers,
-    readings: &'a [u64; READINGS],
-    losses: &'a [u64; LOSSES],
-    transfers: &mut [i64; MOST_DISTRIBUTORS],
-) -> Outcome {
-    settle(ledger, numbers.month, readings, losses, transfers)
+    pub values: Option<FixingValues>,
+    pub settled: Option<Ledger>,
 }
 
 // Makes one fixing that is not counted, for the ledger of the settlements, then the calls.
-pub(crate) fn make_calls(
-    load: Load,
-    task: Task,
-    prices: &mut [i64; PRICES],
-    power: &mut [u64; MOST_DISTRIBUTORS],
-    transfers: &mut [i64; MOST_DISTRIBUTORS],
-) -> Results {
+pub(crate) fn make_calls(load: &Load, kinds: Kinds, count: u64, written: &mut Written) -> Results {
     let opened = open(MOST_DISTRIBUTORS).ledger;
     let numbers = load.numbers;
-    let series = load.series;
-    let lines = load.lines;
-    let sectors = load.sectors;
-    let mut fixing = fix(opened, numbers, &series, &lines, &sectors, prices, power);
-    let fixed = fixing.ledger;
-    let mut settled = fixed;
-    let mut fixings: u64 = 0;
-    let mut settlements: u64 = 0;
-    let mut run: u64 = 0;
-    while run < task.count {
-        if task.fixings {
-            fixing = fix(opened, numbers, &series, &lines, &sectors, prices, power);
-            let answer = fixing.answer;
-            fixings += accepted(fixing_number(answer));
+    let mut results = Results {
+        fixings: 0,
+        settlements: 0,
+        values: None,
+        settled: None,
+    };
+    let fixed = fix(
+        opened,
+        numbers,
+        &load.series,
+        &load.lines,
+        &load.sectors,
+        &mut written.prices,
+        &mut written.power,
+    )
+    .ledger;
+    for _ in 0..count {
+        if kinds.fixings {
+            let fixing = fix(
+                opened,
+                numbers,
+                &load.series,
+                &load.lines,
+                &load.sectors,
+                &mut written.prices,
+                &mut written.power,
+            );
+            if let Ok(values) = fixing.answer {
+                results.fixings += 1;
+                results.values = Some(values);
+            }
         }
-        if task.settlements {
-            let settlement = settle_load(fixed, numbers, &load.readings, &load.losses, transfers);
-            let verdict = settlement.verdict;
-            settled = settlement.ledger;
-            settlements += accepted(verdict_number(verdict));
+        if kinds.settlements {
+            let settlement = settle(
+                fixed,
+                numbers.month,
+                &load.readings,
+                &load.losses,
+                &mut written.transfers,
+            );
+            if settlement.answer.is_ok() {
+                results.settlements += 1;
+                results.settled = Some(settlement.ledger);
+            }
         }
-        run += 1;
     }
-    Results {
-        fixings,
-        settlements,
-        fixing,
-        settled,
-    }
+    results
 }

@@ -1,10 +1,11 @@
 // The two loads, word by word as bench/plain.rs makes them: 40 distributors and 256 lines. The even one has words alike
 // and no charges; the mixed one has words of every size, absent sectors, two rounds and transfers.
-ghost use Rattle.std.specs.Prelude.{◌*◌, ◌<◌, ◌≤◌, length};
+ghost use Rattle.std.specs.Prelude.{◌*◌, ◌<◌};
 ghost use Rattle.supply.specs.Line.{line_words, most_lines};
 
 use numbers::sizes::{MOST_DISTRIBUTORS, PLACES};
 use series::table::{MONTHS, WORDS};
+use std::array::from_fn;
 use supply::line::{LINE_WORDS, MOST_LINES, POWER_START, TERM_WORDS, TERMS_START};
 use supply::market::FixingNumbers;
 
@@ -39,13 +40,25 @@ pub(crate) struct Load {
     pub losses: [u64; LOSSES],
 }
 
-#[derive(Clone, Copy)]
-enum List {
-    Series,
-    Lines,
-    Sectors,
-    Readings,
-    Losses,
+// What a word of a line is of: the line's own, a term or power; and its place there.
+enum Part {
+    Own(u64),
+    Term { term: u64, word: u64 },
+    Power(u64),
+}
+
+// Six words of the line's own, five for each of four terms, then four for power.
+fn part_of(word: u64) -> Part {
+    if word < OWN_WORDS {
+        return Part::Own(word);
+    }
+    if POWER_PLACE <= word {
+        return Part::Power(word - POWER_PLACE);
+    }
+    Part::Term {
+        term: (word - OWN_WORDS) / WORDS_OF_TERM,
+        word: (word - OWN_WORDS) % WORDS_OF_TERM,
+    }
 }
 
 // A word of an even line's own: base price and energy rise from line to line.
@@ -116,7 +129,7 @@ fn window(place: u64) -> u64 {
 
 // A word of a term of a mixed line, 0 past the line's last term.
 fn mixed_term(line: u64, term: u64, word: u64) -> u64
-    requires { (line < most_lines) × (term < 4) }
+    requires { line < most_lines }
 {
     let terms = line % 5;
     if terms <= term {
@@ -143,31 +156,26 @@ fn mixed_power(line: u64, word: u64) -> u64
     }
 }
 
-// A word of a line: six of its own, five for each of four terms, then four for power.
-fn line_word(mixed: bool, line: u64, word: u64) -> u64
-    requires { line < most_lines }
+// A word of the lines of a load, by its place.
+fn even_line(place: usize) -> u64
+    requires { place < most_lines * line_words }
 {
-    if word < OWN_WORDS {
-        return if mixed {
-            mixed_head(line, word)
-        } else {
-            even_head(line, word)
-        };
+    let line = place as u64 / WORDS_OF_LINE;
+    match part_of(place as u64 % WORDS_OF_LINE) {
+        Part::Own(word) => even_head(line, word),
+        Part::Term { term, word } => even_term(term, word),
+        Part::Power(word) => even_power(word),
     }
-    if POWER_PLACE <= word {
-        let part = word - POWER_PLACE;
-        return if mixed {
-            mixed_power(line, part)
-        } else {
-            even_power(part)
-        };
-    }
-    let term = (word - OWN_WORDS) / WORDS_OF_TERM;
-    let part = (word - OWN_WORDS) % WORDS_OF_TERM;
-    if mixed {
-        mixed_term(line, term, part)
-    } else {
-        even_term(term, part)
+}
+
+fn mixed_line(place: usize) -> u64
+    requires { place < most_lines * line_words }
+{
+    let line = place as u64 / WORDS_OF_LINE;
+    match part_of(place as u64 % WORDS_OF_LINE) {
+        Part::Own(word) => mixed_head(line, word),
+        Part::Term { term, word } => mixed_term(line, term, word),
+        Part::Power(word) => mixed_power(line, word),
     }
 }
 
@@ -200,74 +208,47 @@ fn mixed_reading(place: u64) -> u64
     }
 }
 
-fn even_word(list: List, place: u64) -> u64
+fn mixed_loss(place: u64) -> u64
     requires { place < most_lines * line_words }
 {
-    match list {
-        List::Series => 10000,
-        List::Lines => line_word(false, place / WORDS_OF_LINE, place % WORDS_OF_LINE),
-        List::Sectors => 10000,
-        List::Readings => 1000,
-        List::Losses => 10500,
+    10000 + 97 * place % 1501
+}
+
+// Words alike, but for the lines.
+fn even_load() -> Load {
+    Load {
+        numbers: FixingNumbers {
+            month: 20,
+            day: 1,
+            dollar: 100000,
+            reference_factor: 10000,
+            first_month: 0,
+        },
+        series: [10000; WORDS],
+        lines: from_fn(even_line),
+        sectors: [10000; PLACES],
+        readings: [1000; READINGS],
+        losses: [10500; LOSSES],
     }
 }
 
-fn mixed_word(list: List, place: u64) -> u64
-    requires { place < most_lines * line_words }
-{
-    match list {
-        List::Series => mixed_series(place),
-        List::Lines => line_word(true, place / WORDS_OF_LINE, place % WORDS_OF_LINE),
-        List::Sectors => mixed_sector(place),
-        List::Readings => mixed_reading(place),
-        List::Losses => 10000 + 97 * place % 1501,
-    }
-}
-
-// Fills a list with its words.
-fn fill(mixed: bool, list: List, words: &mut [u64])
-    requires { length words.old ≤ most_lines * line_words }
-{
-    let mut at: usize = 0;
-    while at < words.len() {
-        let place = at as u64;
-        words[at] = if mixed {
-            mixed_word(list, place)
-        } else {
-            even_word(list, place)
-        };
-        at += 1;
-    }
-}
-
-fn numbers_of(mixed: bool) -> FixingNumbers {
-    FixingNumbers {
-        month: if mixed { 30 } else { 20 },
-        day: 1,
-        dollar: if mixed { 85000 } else { 100000 },
-        reference_factor: 10000,
-        first_month: 0,
+fn mixed_load() -> Load {
+    Load {
+        numbers: FixingNumbers {
+            month: 30,
+            day: 1,
+            dollar: 85000,
+            reference_factor: 10000,
+            first_month: 0,
+        },
+        series: from_fn(|place| mixed_series(place as u64)),
+        lines: from_fn(mixed_line),
+        sectors: from_fn(|place| mixed_sector(place as u64)),
+        readings: from_fn(|place| mixed_reading(place as u64)),
+        losses: from_fn(|place| mixed_loss(place as u64)),
     }
 }
 
 pub(crate) fn build_load(mixed: bool) -> Load {
-    let mut series = [0u64; WORDS];
-    let mut lines = [0u64; LINES];
-    let mut sectors = [0u64; PLACES];
-    let mut readings = [0u64; READINGS];
-    let mut losses = [0u64; LOSSES];
-    fill(mixed, List::Series, &mut series);
-    fill(mixed, List::Lines, &mut lines);
-    fill(mixed, List::Sectors, &mut sectors);
-    fill(mixed, List::Readings, &mut readings);
-    fill(mixed, List::Losses, &mut losses);
-    let numbers = numbers_of(mixed);
-    Load {
-        numbers,
-        series,
-        lines,
-        sectors,
-        readings,
-        losses,
-    }
+    if mixed { mixed_load() } else { even_load() }
 }

@@ -9,8 +9,8 @@ mod load;
 mod report;
 mod sheets;
 
-use arguments::{Arguments, Task, read_arguments};
-use calls::make_calls;
+use arguments::{Calls, read_arguments};
+use calls::{Written, make_calls};
 use load::build_load;
 use numbers::sizes::MOST_DISTRIBUTORS;
 use report::{PRICES, print_results, print_sheet};
@@ -19,34 +19,25 @@ use sheets::write_and_read;
 // The file descriptor of standard error.
 const STDERR_FILENO: i32 = 2;
 
-// A sheet of the load's readings, written and read.
-fn run_sheets(mixed: bool, count: u64) {
-    let load = build_load(mixed);
-    let readings = load.readings;
-    let read_back = write_and_read(readings, count);
-    print_sheet(read_back.used, read_back.sum);
-}
-
-// The calls on a ledger.
-fn run_calls(task: Task) {
-    let load = build_load(task.mixed);
-    let mut prices = [0i64; PRICES];
-    let mut power = [0u64; MOST_DISTRIBUTORS];
-    let mut transfers = [0i64; MOST_DISTRIBUTORS];
-    let results = make_calls(load, task, &mut prices, &mut power, &mut transfers);
-    print_results(results, prices, transfers);
-}
-
 fn main(rt: HostRuntime) {
-    let arguments = read_arguments(&rt);
-    match arguments {
-        Arguments::Asked(task) => run_calls(task),
-        Arguments::Sheet { mixed, count } => run_sheets(mixed, count),
-        Arguments::Unusable => {
-            io::write_all(
-                STDERR_FILENO,
-                b"usage: timing even|mixed fix|settle|both|sheet COUNT\n",
-            );
+    let Some(task) = read_arguments(&rt) else {
+        io::write_all(
+            STDERR_FILENO,
+            b"usage: timing even|mixed fix|settle|both|sheet COUNT\n",
+        );
+        return;
+    };
+    let load = build_load(task.mixed);
+    match task.calls {
+        Calls::OfSheet => print_sheet(write_and_read(&load.readings, task.count)),
+        Calls::OfLedger(kinds) => {
+            let mut written = Written {
+                prices: [0; PRICES],
+                power: [0; MOST_DISTRIBUTORS],
+                transfers: [0; MOST_DISTRIBUTORS],
+            };
+            let results = make_calls(&load, kinds, task.count, &mut written);
+            print_results(results, written);
         }
     }
 }

@@ -25,8 +25,8 @@ done_length sheet i =
 long : (l : At-loop-i) →
     length l.loop-i.readings ≡ length l.args.readings.now
 long l =
-    front_long (join_below l.loop-i.i (own l.args.sheet.now)) _ l.loop-i.invariant.2
-    (omega (arith, done_length l.args.sheet.now l.loop-i.i, l.loop-i.invariant.0, l.requires.long))
+    front_long (join_below l.loop-i.i (own l.args.sheet.now)) _ l.loop-i.invariant.written
+    (omega (arith, done_length l.args.sheet.now l.loop-i.i, l.requires.long))
 
 -- so there is room for one distributor more
 fits : (c : In-loop-i) →
@@ -35,13 +35,13 @@ fits c = omega (arith, long (goal.at.slice_bounds-write_readings-end c).At-loop-
 
 pub loop-i-init : goal.loop-i-init
 unfolding map_place join_below
-loop-i-init c = (omega arith, refl, refl)
+loop-i-init c = record { stands = refl; written = refl }
 
 pub write_readings-at-requires : goal.write_readings-at-requires
 write_readings-at-requires c =
     record {
-      fact_1 = mid_len _ _ _ (fits (goal.at.write_readings-at-requires c).In-loop-i) ∙ omega arith;
-      fact_2 = rw (c.loop-i.invariant.1, ← next_map c.args.sheet.now c.loop-i.i)
+      long = mid_len _ _ _ (fits (goal.at.write_readings-at-requires c).In-loop-i) ∙ omega arith;
+      within = rw (c.loop-i.invariant.stands, ← next_map c.args.sheet.now c.loop-i.i)
           (omega (arith, c.requires.ends, maps_rise c.args.sheet.now (c.loop-i.i + 1) c.args.n (omega arith)));
     }
 
@@ -52,28 +52,27 @@ loop-i-preserved c =
     let done = join_below i (own sheet) in
     let found = c.args.readings.now in
     let written : c.write_readings-at.new.readings ≡ own sheet i =
-    c.write_readings-at.ensures.readings_after ∙ ap (λ a. list_below distributor_readings (reading_at sheet a)) c.loop-i.invariant.1 in (
-      omega arith,
-      c.write_readings-at.ensures.value ∙ ap (λ a. reading_place sheet a distributor_readings) c.loop-i.invariant.1
-          ∙ sym (next_map sheet i),
-      ap (put_mid (i * 32) (i * 32 + 32 - i * 32) c.loop-i.readings) written
-          ∙ front_more done found c.loop-i.invariant.2 (own sheet i) (i * 32) (i * 32 + 32 - i * 32)
+    c.write_readings-at.ensures.readings_after
+    ∙ ap (λ a. list_below distributor_readings (reading_at sheet a)) c.loop-i.invariant.stands in
+    record {
+      stands = c.write_readings-at.ensures.value
+          ∙ ap (λ a. reading_place sheet a distributor_readings) c.loop-i.invariant.stands
+          ∙ sym (next_map sheet i);
+      written = ap (put_mid (i * 32) (i * 32 + 32 - i * 32) c.loop-i.readings) written
+          ∙ front_more done found c.loop-i.invariant.written (own sheet i) (i * 32) (i * 32 + 32 - i * 32)
           (sym (done_length sheet i))
           (omega (arith, list_length (reading_at sheet (map_place sheet i)) distributor_readings))
-          ∙ ap (λ all. all ++ drop (length all) found) (sym (join_step (own sheet) i)),
-    )
+          ∙ ap (λ all. all ++ drop (length all) found) (sym (join_step (own sheet) i));
+    }
 
 pub returns : goal.returns
 unfolding sheet_readings
 returns c =
     let sheet = c.args.sheet.now in
-    let e : c.loop-i.i ≡ c.args.n = omega (arith, c.loop-i.invariant.0) in
-    front_all (join_below c.loop-i.i (own sheet)) _ c.loop-i.invariant.2
+    let e : c.loop-i.i ≡ c.args.n = omega arith in
+    front_all (join_below c.loop-i.i (own sheet)) _ c.loop-i.invariant.written
     (omega (arith, done_length sheet c.loop-i.i, c.requires.long))
     ∙ ap (λ k. join_below k (own sheet)) e
 
 pub slice_bounds-write_readings-end : goal.slice_bounds-write_readings-end
 slice_bounds-write_readings-end c = fits c
-
-pub shape_of-readings : goal.shape_of-readings
-shape_of-readings c = long (goal.at.shape_of-readings c).At-loop-i

@@ -1,7 +1,7 @@
 -- The invariant: the readings of the distributors passed are written, and the map of the next stands at the place.
 use mathlib.Core.Path.{◌≡◌}
 use mathlib.Core.List.{List, ◌++◌}
-use Prim.Native.Nat.{ℕ, ◌-◌, ◌≤◌}
+use Prim.Native.Nat.{ℕ}
 use lib.ListN.{length, drop}
 use Rattle.numbers.specs.Bounded.{list_below, join_below}
 use Rattle.numbers.specs.Sizes.{distributor_readings}
@@ -13,9 +13,8 @@ abbrev pub own : List ℕ → ℕ → List ℕ
 own sheet i = list_below distributor_readings (reading_at sheet (map_place sheet i))
 
 abbrev pub invariant-loop-i : goal.invariant-loop-i
-invariant-loop-i l =
-    (l.i ≤ l.n) × (l.at ≡ map_place l.sheet l.i) ×
-    (l.readings ≡ join_below l.i (own l.sheet) ++ drop (length (join_below l.i (own l.sheet))) l.initial.readings)
-
-abbrev pub decreases-loop-i : goal.decreases-loop-i
-decreases-loop-i l = l.n - l.i
+invariant-loop-i l = record {
+  stands : l.at ≡ map_place l.sheet l.i;
+  written : l.readings
+      ≡ join_below l.i (own l.sheet) ++ drop (length (join_below l.i (own l.sheet))) l.initial.readings;
+}

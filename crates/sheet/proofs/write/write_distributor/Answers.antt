@@ -4,14 +4,14 @@ use mathlib.Core.List.{List, ◌++◌}
 use Prim.Native.Nat.{ℕ, ◌-◌, ◌≤◌}
 use native.Mathlib.Omega.{arith}
 use lib.ListN.{length, drop, length-append}
-use borrow.Rule.Slice.PartMut.{mid_len, put_mid}
+use borrow.Rule.Slice.PartMut.{put_mid}
 use Rattle.numbers.specs.Sizes.{distributor_readings}
 use Rattle.sheet.specs.Number.{number_size, number_bytes}
 use Rattle.sheet.specs.Sheet.{bit_map, present_bytes, distributor_bytes}
 use Rattle.sheet.specs.Write.{written_first}
 use Rattle.sheet.proofs.FrontLaws.{front_long, front_onto}
 use Rattle.sheet.proofs.NumberLaws.{number_size_lem}
-use Rattle.sheet.proofs.WriteLaws.{before_most, distributor_most}
+use Rattle.sheet.proofs.WriteLaws.{before_most}
 use Rattle.sheet.proofs.write.write_distributor.Goals as goal
 use Rattle.sheet.proofs.write.write_distributor.Goals.{After-write_number, After-write_present}
 
@@ -33,21 +33,10 @@ module _ (w : After-write_number) where
   long : length w.write_number.new.into ≡ length w.args.into.now
   long =
       front_long m w.args.into.now front
-      (omega (arith, number_size_lem (bit_map w.args.readings.now), w.requires.fact_2))
+      (omega (arith, number_size_lem (bit_map w.args.readings.now), w.requires.room))
 
   room : 132 ≤ length w.write_number.new.into
-  room = omega (arith, long, w.requires.fact_2)
-
-pub write_present-requires : goal.write_present-requires
-write_present-requires c =
-    record {
-      fact_1 = c.requires.fact_1;
-      fact_2 = omega (
-        arith,
-        room (goal.at.write_present-requires c).After-write_number,
-        mid_len number_size (length c.write_number.new.into) c.write_number.new.into (omega arith),
-      );
-    }
+  room = omega (arith, long, w.requires.room)
 
 -- and after the readings
 module _ (p : After-write_present) where
@@ -71,14 +60,6 @@ pub overflow_add-result : goal.overflow_add-result
 overflow_add-result c =
     omega (arith, c.write_present.ensures.sized, before_most c.args.readings.now distributor_readings)
 
-pub shape_of-into : goal.shape_of-into
-unfolding distributor_bytes
-shape_of-into c =
-    let readings = c.args.readings.now in
-    ap length (whole (goal.at.shape_of-into c).After-write_present (front (goal.at.shape_of-into c).After-write_number))
-    ∙ front_long (map readings ++ present_bytes readings) c.args.into.now refl
-    (omega (arith, distributor_most readings, c.requires.fact_2))
-
 pub returns : goal.returns
 unfolding distributor_bytes written_first
 returns c =
@@ -93,12 +74,3 @@ returns c =
           );
       listed = whole (goal.at.returns c).After-write_present (front (goal.at.returns c).After-write_number);
     }
-
-pub slice_bounds-write_present-count : goal.slice_bounds-write_present-count
-slice_bounds-write_present-count c = omega (arith, room (goal.at.slice_bounds-write_present-count c).After-write_number)
-
-pub slice_bounds-write_present-start : goal.slice_bounds-write_present-start
-slice_bounds-write_present-start c = omega (arith, room (goal.at.slice_bounds-write_present-start c).After-write_number)
-
-pub slice_bounds-write_present-end : goal.slice_bounds-write_present-end
-slice_bounds-write_present-end c = omega (arith, room (goal.at.slice_bounds-write_present-end c).After-write_number)

@@ -1,124 +1,159 @@
 -- The invariant: the bytes of the distributors passed are written, and the rest is as it was.
 use mathlib.Core.Path.{◌≡◌, refl, sym, ◌∙◌, ap}
-use mathlib.Core.List.{List, ◌++◌}
-use Prim.Native.Nat.{ℕ, ◌+◌, ◌*◌, ◌-◌, ◌≤◌}
+use mathlib.Core.List.{List, [], ◌∷◌, ◌++◌}
+use Prim.Native.Nat.{ℕ, ◌+◌, ◌*◌, ◌/◌, ◌-◌, ◌≤◌}
 use native.Mathlib.Omega.{arith}
-use lib.ListN.{length, take, drop, length-append}
+use lib.ListN.{length, take, drop, length-append, length-drop}
+use lib.Seq.{drop-drop, take_at, drop_at}
 use borrow.Rule.Slice.PartMut.{mid_len, put_mid}
 use Rattle.numbers.specs.Bounded.{join_below}
 use Rattle.numbers.specs.Sizes.{distributor_readings}
 use Rattle.sheet.specs.Sheet.{readings_of, distributor_bytes, sheet_bytes}
 use Rattle.sheet.specs.Write.{most_distributor_bytes, written_first}
 use Rattle.sheet.specs.Required.{FirstWritten}
-use Rattle.sheet.proofs.FrontLaws.{front_long, front_onto}
+use Rattle.sheet.proofs.FrontLaws.{front_onto}
 use Rattle.sheet.proofs.WriteLaws.{distributor_most, sheet_most, sheet_step}
 use Rattle.sheet.proofs.write.write_distributors.Goals as goal
-use Rattle.sheet.proofs.write.write_distributors.Goals.{After-write_distributor-at, At-loop-i, In-loop-i}
+use Rattle.sheet.proofs.write.write_distributors.Goals.{In-Some}
 
-module _ (l : At-loop-i) where
+-- the readings of a distributor come off what is left, and that of the next distributors is left
+module _ (readings own left : List ℕ) (i : ℕ)
+    (e : drop (i * distributor_readings) readings ≡ own ++ left) (long : length own ≡ distributor_readings) where
+  own_is : own ≡ readings_of readings i
+  own_is = sym (take_at own left distributor_readings long) ∙ ap (take distributor_readings) (sym e)
+
+  left_is : left ≡ drop ((i + 1) * distributor_readings) readings
+  left_is =
+      let next : i * distributor_readings + distributor_readings ≡ (i + 1) * distributor_readings = omega arith in
+      sym (drop_at own left distributor_readings long) ∙ ap (drop distributor_readings) (sym e)
+      ∙ drop-drop distributor_readings (i * distributor_readings) readings ∙ ap (λ k. drop k readings) next
+
+  one_more : (i + 1) * distributor_readings ≤ length readings
+  one_more =
+      omega (arith, long, ap length e, length-append own left, length-drop (i * distributor_readings) readings)
+
+module _ (c : In-Some) where
   abbrev readings : List ℕ
-  readings = l.args.readings.now
+  readings = c.args.readings.now
 
-  few : l.loop-i.at ≤ l.loop-i.i * most_distributor_bytes
-  few = omega (arith, l.loop-i.invariant.1, sheet_most l.loop-i.i readings)
+  abbrev i : ℕ
+  i = length c.loop-own.yielded
 
-  -- the buffer keeps its length
-  long : length l.loop-i.buffer ≡ length l.args.buffer.now
-  long =
-      front_long (sheet_bytes l.loop-i.i readings) l.args.buffer.now l.loop-i.invariant.2
-      (omega (arith, few, l.loop-i.invariant.0, l.loop-i.invariant.1, l.requires.room))
+  chunk : drop (i * distributor_readings) readings ≡ c.in-Some.own.now ++ c.next.new.self.rest.now
+  chunk = sym c.loop-own.invariant.rest ∙ c.in-Some.ensures.steps.1.0
 
--- there is room for one distributor more, and its readings are there
-room : (c : In-loop-i) →
-    c.loop-i.at + most_distributor_bytes ≤ length c.loop-i.buffer
-room c =
-    let l = (goal.at.slice_bounds-own-end c).At-loop-i in
-    omega (arith, few l, long l, c.requires.room)
+  width : length c.in-Some.own.now ≡ distributor_readings
+  width = c.in-Some.ensures.steps.1.1 ∙ c.loop-own.invariant.width
 
-own_within : (c : In-loop-i) →
-    c.loop-i.i * distributor_readings + distributor_readings ≤ length c.args.readings.now
-own_within c = omega (arith, c.requires.read)
+  own : c.in-Some.own.now ≡ readings_of readings i
+  own = own_is readings c.in-Some.own.now c.next.new.self.rest.now i chunk width
 
-pub loop-i-init : goal.loop-i-init
+  more : (i + 1) * distributor_readings ≤ length readings
+  more = one_more readings c.in-Some.own.now c.next.new.self.rest.now i chunk width
+
+  left : c.next.new.self.rest.now ≡ drop ((i + 1) * distributor_readings) readings
+  left = left_is readings c.in-Some.own.now c.next.new.self.rest.now i chunk width
+
+  -- there is room for one distributor more
+  room : c.loop-own.at + most_distributor_bytes ≤ length c.loop-own.buffer
+  room =
+      omega (arith, more, c.loop-own.invariant.used, sheet_most i readings, c.requires.room)
+
+pub loop-own-init : goal.loop-own-init
 unfolding sheet_bytes join_below
-loop-i-init c = (omega arith, refl, refl)
+loop-own-init c =
+    let e = c.into_iter-own-iterator.ensures.into_iter_gives in
+    record {
+      width = rw e c.chunks_exact-own-items.ensures.size;
+      most = omega arith;
+      rest = rw e c.chunks_exact-own-items.ensures.rest;
+      used = refl;
+      written = refl;
+    }
 
 pub write_distributor-at-requires : goal.write_distributor-at-requires
 write_distributor-at-requires c =
-    let l = (goal.at.write_distributor-at-requires c).At-loop-i in
-    let i = (goal.at.write_distributor-at-requires c).In-loop-i in
+    let s = (goal.at.write_distributor-at-requires c).In-Some in
     record {
-      fact_1 = mid_len (c.loop-i.i * 32) (c.loop-i.i * 32 + 32) (readings l) (own_within i) ∙ omega arith;
-      fact_2 = omega (arith, room i, mid_len c.loop-i.at (length c.loop-i.buffer) c.loop-i.buffer (omega arith));
+      long = width s;
+      room = omega (arith, room s, mid_len c.loop-own.at (length c.loop-own.buffer) c.loop-own.buffer (omega arith));
     }
 
--- what was written of one distributor more
-module _ (w : After-write_distributor-at) where
+-- one distributor more is written
+module _ (s : In-Some) (used : ℕ) (into : List ℕ)
+    (w : FirstWritten (distributor_bytes s.in-Some.own.now)
+    (take (length s.loop-own.buffer - s.loop-own.at) (drop s.loop-own.at s.loop-own.buffer)) used into) where
   abbrev bytes : List ℕ
-  bytes = distributor_bytes (readings_of w.args.readings.now w.loop-i.i)
-
-  own : take (w.loop-i.i * 32 + 32 - w.loop-i.i * 32) (drop (w.loop-i.i * 32) w.args.readings.now)
-      ≡ readings_of w.args.readings.now w.loop-i.i
-  own =
-      let size : w.loop-i.i * 32 + 32 - w.loop-i.i * 32 ≡ distributor_readings = omega arith in
-      ap (λ k. take k (drop (w.loop-i.i * 32) w.args.readings.now)) size
+  bytes = distributor_bytes (readings_of (readings s) (i s))
 
   written : FirstWritten bytes
-      (take (length w.loop-i.buffer - w.loop-i.at) (drop w.loop-i.at w.loop-i.buffer))
-      w.write_distributor-at.result w.write_distributor-at.new.into
-  written = rw own at w.write_distributor-at.ensures
+      (take (length s.loop-own.buffer - s.loop-own.at) (drop s.loop-own.at s.loop-own.buffer)) used into
+  written = rw (own s) at w
+
+  few : s.loop-own.at + used ≤ (i s + 1) * most_distributor_bytes
+  few =
+      omega (
+        arith,
+        s.loop-own.invariant.used,
+        sheet_most (i s) (readings s),
+        written.sized,
+        distributor_most (readings_of (readings s) (i s)),
+      )
+
+  used_more : s.loop-own.at + used ≡ length (sheet_bytes (i s + 1) (readings s))
+  used_more =
+      omega (
+        arith,
+        s.loop-own.invariant.used,
+        written.sized,
+        length-append (sheet_bytes (i s) (readings s)) bytes,
+        ap length (sheet_step (i s) (readings s)),
+      )
+
+  written_more : put_mid s.loop-own.at (length s.loop-own.buffer - s.loop-own.at) s.loop-own.buffer into
+      ≡ sheet_bytes (i s + 1) (readings s)
+      ++ drop (length (sheet_bytes (i s + 1) (readings s))) s.args.buffer.now
+  unfolding written_first
+  written_more =
+      ap (put_mid s.loop-own.at (length s.loop-own.buffer - s.loop-own.at) s.loop-own.buffer) written.listed
+      ∙ front_onto (sheet_bytes (i s) (readings s)) s.args.buffer.now s.loop-own.invariant.written bytes s.loop-own.at
+      (length s.loop-own.buffer - s.loop-own.at) s.loop-own.invariant.used refl
+      ∙ ap (λ all. all ++ drop (length all) s.args.buffer.now) (sym (sheet_step (i s) (readings s)))
 
 pub overflow_add-at : goal.overflow_add-at
 overflow_add-at c =
-    omega (
-      arith,
-      few (goal.at.overflow_add-at c).At-loop-i,
-      c.loop-i.invariant.0,
-      c.requires.few,
-      (written (goal.at.overflow_add-at c).After-write_distributor-at).sized,
-      distributor_most (readings_of (readings (goal.at.overflow_add-at c).At-loop-i) c.loop-i.i),
-    )
+    let s = (goal.at.overflow_add-at c).In-Some in
+    omega (arith, few s _ _ c.write_distributor-at.ensures, more s, c.requires.few)
 
-pub loop-i-preserved : goal.loop-i-preserved
-unfolding written_first
-loop-i-preserved c =
-    let w = (goal.at.loop-i-preserved c).After-write_distributor-at in
-    let l = (goal.at.loop-i-preserved c).At-loop-i in
-    let at = c.loop-i.at in
-    let buffer = c.loop-i.buffer in
-    let done = sheet_bytes c.loop-i.i (readings l) in
-    let found = c.args.buffer.now in
-    let next = sym (sheet_step c.loop-i.i (readings l)) in (
-      omega arith,
-      omega (arith, c.loop-i.invariant.1, (written w).sized, length-append done (bytes w), ap length next),
-      ap (put_mid at (length buffer - at) buffer) (written w).listed
-          ∙ front_onto done found c.loop-i.invariant.2 (bytes w) at (length buffer - at) c.loop-i.invariant.1 refl
-          ∙ ap (λ all. all ++ drop (length all) found) next,
-    )
+pub loop-own-preserved : goal.loop-own-preserved
+loop-own-preserved c =
+    let s = (goal.at.loop-own-preserved c).In-Some in
+    let w = c.write_distributor-at.ensures in
+    rw (length-append c.loop-own.yielded (c.in-Some.own ∷ []))
+    record {
+      width = c.in-Some.ensures.steps.0 ∙ c.loop-own.invariant.width;
+      most = more s;
+      rest = left s;
+      used = used_more s _ _ w;
+      written = written_more s _ _ w;
+    }
 
 pub returns : goal.returns
 unfolding written_first
 returns c =
-    let l = (goal.at.returns c).At-loop-i in
-    let e : c.loop-i.i ≡ c.args.n = omega (arith, c.loop-i.invariant.0) in
+    let readings = c.args.readings.now in
+    let e : length c.loop-own.yielded ≡ length readings / distributor_readings =
+    omega (
+      arith,
+      c.loop-own.invariant.most,
+      c.in-None.ensures.steps.1,
+      c.loop-own.invariant.width,
+      ap length c.loop-own.invariant.rest,
+      length-drop (length c.loop-own.yielded * distributor_readings) readings,
+    ) in
     record {
-      sized = c.loop-i.invariant.1 ∙ ap (λ i. length (sheet_bytes i (readings l))) e;
+      sized = c.loop-own.invariant.used ∙ ap (λ n. length (sheet_bytes n readings)) e;
       listed =
-          c.loop-i.invariant.2
-          ∙ ap (λ i. sheet_bytes i (readings l) ++ drop (length (sheet_bytes i (readings l))) c.args.buffer.now) e;
+          c.loop-own.invariant.written
+          ∙ ap (λ n. sheet_bytes n readings ++ drop (length (sheet_bytes n readings)) c.args.buffer.now) e;
     }
-
-pub slice_bounds-own-end : goal.slice_bounds-own-end
-slice_bounds-own-end c = own_within c
-
-pub slice_bounds-write_distributor-count : goal.slice_bounds-write_distributor-count
-slice_bounds-write_distributor-count c = omega (arith, room (goal.at.slice_bounds-write_distributor-count c).In-loop-i)
-
-pub slice_bounds-write_distributor-start : goal.slice_bounds-write_distributor-start
-slice_bounds-write_distributor-start c = omega (arith, room (goal.at.slice_bounds-write_distributor-start c).In-loop-i)
-
-pub slice_bounds-write_distributor-end : goal.slice_bounds-write_distributor-end
-slice_bounds-write_distributor-end c = omega (arith, room (goal.at.slice_bounds-write_distributor-end c).In-loop-i)
-
-pub shape_of-buffer : goal.shape_of-buffer
-shape_of-buffer c = long (goal.at.shape_of-buffer c).At-loop-i
