@@ -1,4 +1,4 @@
-// What the commands of a journal answer: lines as values, and the writers of an answer, stated byte by byte.
+// What the commands of a journal answer: the writers of its lines and of whole answers, stated byte by byte.
 
 #![tactic(auto)]
 

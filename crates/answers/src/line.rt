@@ -1,133 +1,119 @@
 // The lines of answers.
 ghost use Rattle.std.specs.Prelude.{◌≡◌};
-ghost use Rattle.answers.specs.Answer.{outcome_line, used_line, error_line, changed_line, refusal_line};
-ghost use Rattle.answers.specs.Answer.{values_line, fixed_line, fixing_line};
+ghost use Rattle.numbers.specs.Refusal.{refusal_answered};
+ghost use Rattle.text.specs.Buffer.{written};
+ghost use Rattle.answers.specs.Answer.{refused_text, outcome_line, used_line, error_line, changed_line, place_text};
+ghost use Rattle.answers.specs.Answer.{values_line, fixing_line};
 
-use ledger::fix::FixingAnswer;
-use numbers::refusal::{Refusal, refusal_number};
-use numbers::units::{PesoPrice, UnsignedPesos};
-use text::line::{ITEMS, Item, Shown};
-use text::name::NAME;
+use ledger::fix::FixingValues;
+use numbers::refusal::Refusal;
+use text::buffer::Text;
+use text::number::write_item;
 
-// No item.
-const NOTHING: Item = Item(*b"            ", Shown::Nothing);
-
-// The line of a command that was accepted, or refused with this number.
-pub fn outcome_line(name: [u8; NAME], number: u64) -> [Item; ITEMS]
-    ensures { result ≡ outcome_line name number }
+// A refused command and the number of its refusal.
+fn write_refused<const SIZE: usize>(text: &mut Text<SIZE>, name: &[u8], refusal: Refusal)
+    ensures { text.new ≡ written SIZE (refused_text name.now refusal) text.old }
 {
-    let command = Item(name, Shown::Word);
-    if number == 0 {
-        let accepted = Item(*b"accepted    ", Shown::Word);
-        return [command, accepted, NOTHING, NOTHING, NOTHING, NOTHING];
-    }
-    let refused = Item(*b"refused     ", Shown::Number(number));
-    [command, refused, NOTHING, NOTHING, NOTHING, NOTHING]
+    text.push_all(name);
+    write_item(text, b" refused", u64::from(refusal));
 }
 
-// The line of a sheet that was written with so many bytes, or refused with this number.
-pub fn used_line(name: [u8; NAME], number: u64, used: u64) -> [Item; ITEMS]
-    ensures { result ≡ used_line name number used }
+// The line of a command that was accepted or refused.
+pub fn write_outcome<const SIZE: usize>(
+    text: &mut Text<SIZE>,
+    name: &[u8],
+    answer: Result<(), Refusal>,
+)
+    ensures { text.new ≡ written SIZE (outcome_line name.now answer) text.old }
 {
-    if number == 0 {
-        let command = Item(name, Shown::Word);
-        let accepted = Item(*b"accepted    ", Shown::Word);
-        let used = Item(*b"used        ", Shown::Number(used));
-        return [command, accepted, used, NOTHING, NOTHING, NOTHING];
+    match answer {
+        Ok(()) => {
+            text.push_all(name);
+            text.push_all(b" accepted\n");
+        }
+        Err(refusal) => {
+            write_refused(text, name, refusal);
+            text.push(b'\n');
+        }
     }
-    outcome_line(name, number)
+}
+
+// The line of a sheet that was written with so many bytes, or refused.
+pub fn write_used<const SIZE: usize>(
+    text: &mut Text<SIZE>,
+    name: &[u8],
+    answer: Result<usize, Refusal>,
+)
+    ensures { text.new ≡ written SIZE (used_line name.now answer) text.old }
+{
+    match answer {
+        Ok(used) => {
+            text.push_all(name);
+            write_item(text, b" accepted used", used as u64);
+            text.push(b'\n');
+        }
+        Err(refusal) => write_outcome(text, name, Err(refusal)),
+    }
 }
 
 // The line of a journal that cannot be read at this byte.
-pub fn error_line(at: usize) -> [Item; ITEMS]
-    ensures { result ≡ error_line at }
+pub fn write_error<const SIZE: usize>(text: &mut Text<SIZE>, at: usize)
+    ensures { text.new ≡ written SIZE (error_line at) text.old }
 {
-    let mut line = [NOTHING; ITEMS];
-    line[0] = Item(*b"journal     ", Shown::Word);
-    line[1] = Item(*b"error       ", Shown::Word);
-    line[2] = Item(*b"at          ", Shown::Word);
-    line[3] = Item(*b"byte        ", Shown::Number(at as u64));
-    line
+    write_item(text, b"journal error at byte", at as u64);
+    text.push(b'\n');
 }
 
 // The line of a list that a refused call changed.
-pub(crate) fn changed_line() -> [Item; ITEMS]
-    ensures { result ≡ changed_line }
+pub(crate) fn write_changed_line<const SIZE: usize>(text: &mut Text<SIZE>)
+    ensures { text.new ≡ written SIZE changed_line text.old }
 {
-    let mut line = [NOTHING; ITEMS];
-    line[0] = Item(*b"changed     ", Shown::Word);
-    line
+    text.push_all(b"changed\n");
 }
 
-// The line of a refusal, with its place where it has one.
-fn refusal_line(name: [u8; NAME], refusal: Refusal) -> [Item; ITEMS]
-    ensures { result ≡ refusal_line name refusal }
+// The place of a refusal, where it has one.
+fn write_place<const SIZE: usize>(text: &mut Text<SIZE>, refusal: Refusal)
+    ensures { text.new ≡ written SIZE (place_text (refusal_answered refusal).values) text.old }
 {
-    let command = Item(name, Shown::Word);
-    let number = refusal_number(refusal);
-    let refused = Item(*b"refused     ", Shown::Number(number));
     match refusal {
         Refusal::MonthMissing { line, term } => {
-            let line = Item(*b"line        ", Shown::Number(line as u64));
-            let term = Item(*b"term        ", Shown::Number(term as u64));
-            [command, refused, line, term, NOTHING, NOTHING]
+            write_item(text, b" line", line as u64);
+            write_item(text, b" term", term as u64);
         }
-        Refusal::OutOfBounds { line } => {
-            let line = Item(*b"line        ", Shown::Number(line as u64));
-            [command, refused, line, NOTHING, NOTHING, NOTHING]
-        }
-        _ => [command, refused, NOTHING, NOTHING, NOTHING, NOTHING],
+        Refusal::OutOfBounds { line } => write_item(text, b" line", line as u64),
+        _ => (),
     }
 }
 
 // The values of an accepted fixing, as a line of their own.
-pub fn values_line(
-    limit: PesoPrice,
-    surcharge: PesoPrice,
-    rounds: u64,
-    residue: UnsignedPesos,
-) -> [Item; ITEMS]
-    ensures { result ≡ values_line limit surcharge rounds residue }
+pub fn write_values<const SIZE: usize>(text: &mut Text<SIZE>, values: FixingValues)
+    ensures { text.new ≡ written SIZE (values_line values) text.old }
 {
-    let mut line = [NOTHING; ITEMS];
-    line[0] = Item(*b"limit       ", Shown::Number(limit.0));
-    line[1] = Item(*b"surcharge   ", Shown::Number(surcharge.0));
-    line[2] = Item(*b"rounds      ", Shown::Number(rounds));
-    line[3] = Item(*b"residue     ", Shown::Number(residue.0));
-    line
+    write_item(text, b"limit", values.limit.0);
+    write_item(text, b" surcharge", values.surcharge.0);
+    write_item(text, b" rounds", values.rounds);
+    write_item(text, b" residue", values.residue.0);
+    text.push(b'\n');
 }
 
-// The line of an accepted fixing.
-fn fixed_line(
-    name: [u8; NAME],
-    limit: PesoPrice,
-    surcharge: PesoPrice,
-    rounds: u64,
-    residue: UnsignedPesos,
-) -> [Item; ITEMS]
-    ensures { result ≡ fixed_line name limit surcharge rounds residue }
-{
-    let values = values_line(limit, surcharge, rounds, residue);
-    let command = Item(name, Shown::Word);
-    let accepted = Item(*b"accepted    ", Shown::Word);
-    let limit = values[0];
-    let surcharge = values[1];
-    let rounds = values[2];
-    let residue = values[3];
-    [command, accepted, limit, surcharge, rounds, residue]
-}
-
-// The line of a fixing.
-pub fn fixing_line(name: [u8; NAME], answer: FixingAnswer) -> [Item; ITEMS]
-    ensures { result ≡ fixing_line name answer }
+// The line of a fixing: its values, or its refusal with the place.
+pub fn write_fixing<const SIZE: usize>(
+    text: &mut Text<SIZE>,
+    name: &[u8],
+    answer: Result<FixingValues, Refusal>,
+)
+    ensures { text.new ≡ written SIZE (fixing_line name.now answer) text.old }
 {
     match answer {
-        FixingAnswer::Accepted {
-            limit,
-            surcharge,
-            rounds,
-            residue,
-        } => fixed_line(name, limit, surcharge, rounds, residue),
-        FixingAnswer::Refused(refusal) => refusal_line(name, refusal),
+        Ok(values) => {
+            text.push_all(name);
+            text.push_all(b" accepted ");
+            write_values(text, values);
+        }
+        Err(refusal) => {
+            write_refused(text, name, refusal);
+            write_place(text, refusal);
+            text.push(b'\n');
+        }
     }
 }

@@ -2,86 +2,79 @@
 -- Assumes nothing.
 use mathlib.Core.Path.{◌≡◌, refl, sym, ◌∙◌, ap}
 use mathlib.Core.List.{List, [], ◌∷◌, ◌++◌, append_assoc, append-nil}
-use Prim.Native.Nat.{ℕ, suc, ◌+◌, ◌≤◌, ◌<◌}
+use Prim.Native.Nat.{ℕ, zero, suc, ◌+◌, ◌-◌, ◌≤◌, ◌<◌}
 use native.Mathlib.Numerals.{add-one}
 use native.Mathlib.Omega.{arith}
-use lib.ListN.{length, get_or, take, drop, set, length-set, drop_of_length-le}
-use lib.Seq.{take-suc-set, drop-cons}
-use borrow.Author.Tests.{lt-ltb, le-ltb}
-use Rattle.text.specs.Buffer.{Buffer, buffer_of, written_byte, written}
+use lib.ListN.{length, get_or, take, drop, length-append, length-take}
+use lib.Seq.{take_all}
+use Rattle.std.proofs.lemmas.List.{drop_more, drop_all}
+use Rattle.std.specs.List.{flat_map}
+use Rattle.text.specs.Buffer.{written}
 use Rattle.text.specs.Text.{text_below}
 
--- one text after another
-pub written_more : (a b : List ℕ) (buffer : Buffer) → written b (written a buffer) ≡ written (a ++ b) buffer
-unfolding written
-written_more [] b buffer = refl
-written_more (byte ∷ a) b buffer = written_more a b (written_byte byte buffer)
+-- a part of two texts
+take_both : (n : ℕ) (a b : List ℕ) → take n (a ++ b) ≡ take n a ++ take (n - length a) b
+take_both zero a b = grind arith
+take_both (suc n) [] b =
+    let left : suc n - 0 ≡ suc n = omega arith in
+    rw left
+take_both (suc n) (byte ∷ a) b =
+    let left : suc n - suc (length a) ≡ n - length a = omega arith in
+    rw left (ap (λ (text : List ℕ). byte ∷ text) (take_both n a b))
 
--- what two calls have written, and a call after a single byte
-pub written_after : (a b : List ℕ) (buffer next last : Buffer) → next ≡ written a buffer → last ≡ written b next →
-    last ≡ written (a ++ b) buffer
-written_after a b buffer next last p q = q ∙ ap (written b) p ∙ written_more a b buffer
+module _ (size : ℕ) where
+  -- no text
+  pub written_none : (held : List ℕ) → written size [] held ≡ held
+  unfolding written
+  written_none held =
+      let none : take {A = ℕ} (size - length held) [] ≡ [] = take_all (size - length held) [] (omega arith) in
+      rw none (append-nil held)
 
-pub byte_after : (byte : ℕ) (b : List ℕ) (buffer next last : Buffer) → next ≡ written_byte byte buffer →
-    last ≡ written b next → last ≡ written (byte ∷ b) buffer
-unfolding written
-byte_after byte b buffer next last p q = q ∙ ap (written b) p
+  -- one text after another
+  pub written_more : (a b held : List ℕ) → written size b (written size a held) ≡ written size (a ++ b) held
+  unfolding written
+  written_more a b held =
+      let part = take (size - length held) a in
+      let room : size - length (held ++ part) ≡ size - length held - length a =
+      simp (length-append, length-take) (omega arith) in
+      rw (room, take_both (size - length held) a b) (append_assoc held part (take (size - length held - length a) b))
 
--- a byte where there is room, and where there is none
-pub byte_room : (byte : ℕ) (bytes : List ℕ) (count : ℕ) → count < length bytes →
-    written_byte byte (buffer_of bytes count) ≡ buffer_of (set bytes count byte) (suc count)
-unfolding written_byte
-byte_room byte bytes count p = rw (lt-ltb count (length bytes) p)
+  -- what two calls have written
+  pub written_after : (a b held next last : List ℕ) → next ≡ written size a held → last ≡ written size b next →
+      last ≡ written size (a ++ b) held
+  written_after a b held next last p q = q ∙ ap (written size b) p ∙ written_more a b held
 
-pub byte_full : (byte : ℕ) (bytes : List ℕ) (count : ℕ) → length bytes ≤ count →
-    written_byte byte (buffer_of bytes count) ≡ buffer_of bytes count
-unfolding written_byte
-byte_full byte bytes count p = rw (le-ltb count (length bytes) p)
+  -- what is left of a list, each of whose items is written as a text, when one more is written; and nothing is left
+  module _ {A : Type 0} (f : A → List ℕ) (items : List A) (i : ℕ) where
+    pub items_more : (d : A) (held next : List ℕ) → i < length items → next ≡ written size (f (get_or items i d)) held →
+        written size (flat_map f (drop (i + 1) items)) next ≡ written size (flat_map f (drop i items)) held
+    items_more d held next p e =
+        written_after (f (get_or items i d)) (flat_map f (drop (i + 1) items)) held next _ e refl
+        ∙ ap (λ (rest : List A). written size (flat_map f rest) held) (sym (drop_more items i d p))
 
--- what is left of a text, when one more of its bytes is written
-pub written_next : (text : List ℕ) (k : ℕ) (buffer next : Buffer) → k < length text →
-    next ≡ written_byte (get_or text k 0) buffer → written (drop (k + 1) text) next ≡ written (drop k text) buffer
-unfolding written
-written_next text k buffer next p e = rw (e, add-one, drop-cons text k 0 p)
+    pub items_all : (held : List ℕ) → length items ≤ i → written size (flat_map f (drop i items)) held ≡ held
+    items_all held p =
+        ap (λ (rest : List A). written size (flat_map f rest) held) (drop_all i items p) ∙ written_none held
 
--- nothing is left
-pub written_all : (text : List ℕ) (k : ℕ) (buffer : Buffer) → length text ≤ k → written (drop k text) buffer ≡ buffer
-unfolding written
-written_all text k buffer p = rw (drop_of_length-le text p)
+  -- a text for which there is room stands whole after what was written before
+  pub text_stands : (text held : List ℕ) → length held + length text ≤ size → written size text held ≡ held ++ text
+  unfolding written
+  text_stands text held room = rw (take_all (size - length held) text (omega (arith, room)))
 
--- a byte after a text
-pub after_byte : (a : List ℕ) (byte : ℕ) (buffer next last : Buffer) → next ≡ written a buffer →
-    last ≡ written_byte byte next → last ≡ written (a ++ byte ∷ []) buffer
-unfolding written
-after_byte a byte buffer next last p q = q ∙ ap (written_byte byte) p ∙ written_more a (byte ∷ []) buffer
+  -- a full buffer stays as it is
+  pub text_full : (text held : List ℕ) → size ≤ length held → written size text held ≡ held
+  unfolding written
+  text_full text held full =
+      let none : size - length held ≡ 0 = omega (arith, full) in
+      rw none (append-nil held)
 
--- a loop that writes text after text: none of them, and one more
-module _ (f : ℕ → List ℕ) (buffer : Buffer) where
-  pub texts_none : buffer ≡ written (text_below 0 f) buffer
-  unfolding text_below written
-  texts_none = refl
+  -- a loop that writes text after text: none of them, and one more
+  module _ (f : ℕ → List ℕ) (held : List ℕ) where
+    pub texts_none : held ≡ written size (text_below 0 f) held
+    unfolding text_below
+    texts_none = sym (written_none held)
 
-  pub texts_more : (k : ℕ) (next last : Buffer) → next ≡ written (text_below k f) buffer → last ≡ written (f k) next →
-      last ≡ written (text_below (k + 1) f) buffer
-  unfolding text_below
-  texts_more k next last p q = rw add-one (written_after (text_below k f) (f k) buffer next last p q)
-
--- a text for which there is room stands whole after what was written before
-pub record Stands (before text : List ℕ) (buffer : Buffer) : Type 0 where
-  pub within : buffer.count ≤ length buffer.bytes
-  pub whole : take buffer.count buffer.bytes ≡ before ++ text
-
-pub text_stands : (text bytes : List ℕ) (count : ℕ) → count + length text ≤ length bytes →
-    Stands (take count bytes) text (written text (buffer_of bytes count))
-unfolding written
-text_stands [] bytes count room = record { within = omega (arith, room); whole = sym (append-nil (take count bytes)) }
-text_stands (byte ∷ text) bytes count room =
-    let here : count < length bytes = omega (arith, room) in
-    let rest = text_stands text (set bytes count byte) (suc count) (rw length-set (omega (arith, room))) in
-    rw (byte_room byte bytes count here)
-    (record {
-      within = rest.within;
-      whole =
-          rest.whole ∙ ap (λ first. first ++ text) (take-suc-set bytes count byte here) ∙ append_assoc
-          (take count bytes) (byte ∷ []) text;
-    })
+    pub texts_more : (k : ℕ) (next last : List ℕ) → next ≡ written size (text_below k f) held →
+        last ≡ written size (f k) next → last ≡ written size (text_below (k + 1) f) held
+    unfolding text_below
+    texts_more k next last p q = rw add-one (written_after (text_below k f) (f k) held next last p q)

@@ -1,23 +1,18 @@
 -- How long texts are at most. Assumes nothing.
+use mathlib.Core.Path.{◌≡◌}
 use mathlib.Core.Bool.{Bool, true, false, cond}
 use mathlib.Core.List.{List, [], ◌∷◌, ◌++◌}
 use Prim.Native.Nat.{ℕ, zero, suc, ◌+◌, ◌*◌, ◌-◌, ◌/◌, ◌%◌, ◌^◌, ◌≤◌, ◌<◌, min}
 use native.Mathlib.Nat.{suc-mul, le_trans, mul-le-mul_right}
 use native.Mathlib.Omega.{arith}
 use lib.Dec.{ltb}
-use lib.IntN.{ℤ, pos}
+use lib.IntN.{ℤ, pos, negsuc}
 use lib.ListN.{length, get_or, take, drop, length-append, length-take}
-use Rattle.numbers.specs.Signed.{word_of}
+use Rattle.std.proofs.lemmas.List.{drop_all}
 use Rattle.numbers.specs.Sizes.{most_distributors}
-use Rattle.text.specs.Line.{item_at, shown_text, item_text, next_by, next_text, line_text}
-use Rattle.text.specs.Row.{signed_words, column_text, row_text, rows_text}
-use Rattle.text.specs.Row.{number_row, number_rows_text, numbers_line}
-use Rattle.text.specs.Text.{blank, digit, minus, decimal_within, decimal, signed_decimal, word, word_by}
-use Rattle.text.specs.Text.{text_below, words_by}
-use Rattle.text.specs.declared.line.Item.{Item}
-use Rattle.text.specs.declared.line.Shown.{Shown}
-use Rattle.text.specs.declared.line.Shown.TheVariants.{Nothing, Word, Number}
-use Rattle.text.proofs.NameLaws.{name_size}
+use Rattle.text.specs.Row.{column_text, row_text, row_of, rows_text, numbers_line}
+use Rattle.text.specs.Text.{blank, digit, minus, decimal_within, decimal, integer, signed_decimal, word, word_by}
+use Rattle.text.specs.Text.{words_text, text_below, words_by}
 
 -- either of two texts
 pub choice_size : (test : Bool) (a b : List ℕ) (most : ℕ) → length a ≤ most → length b ≤ most →
@@ -35,6 +30,11 @@ digits_size (suc k) x =
 pub decimal_size : (x : ℕ) → length (decimal x) ≤ 20
 unfolding decimal
 decimal_size x = digits_size 20 x
+
+pub integer_size : (z : ℤ) → length (integer z) ≤ 21
+unfolding integer
+integer_size (pos n) = omega (arith, decimal_size n)
+integer_size (negsuc n) = omega (arith, decimal_size (suc n))
 
 signed_decimal_size : (x : ℕ) → length (signed_decimal x) ≤ 21
 unfolding signed_decimal
@@ -66,86 +66,54 @@ texts_size (suc k) most f h =
 pub words_size : (signed : Bool) (words : List ℕ) → length (words_by signed words) ≤ length words * 22
 unfolding words_by
 words_size signed words =
-    texts_size (length words) 22 (λ k. word_by signed (get_or words k 0)) (λ k p. word_by_size signed (get_or words k 0))
+    texts_size (length words) 22 (λ k. word_by signed (get_or words k 0))
+    (λ k p. word_by_size signed (get_or words k 0))
 
--- an item, alone and after a blank; a line of items
-shown_size : (shown : Shown) (name : List ℕ) → length (shown_text shown name) ≤ 33
-shown_size Nothing name = omega arith
-shown_size Word name = omega (arith, name_size name)
-shown_size (Number number) name = rw length-append (omega (arith, name_size name, word_size number))
+-- numbers that are shown in 21 bytes at most
+module _ {A : Type 0} (shown : A → List ℕ) (few : (x : A) → length (shown x) ≤ 21) where
+  numbers_size : (numbers : List A) → length (words_text shown numbers) ≤ length numbers * 22
+  unfolding words_text
+  numbers_size [] = omega arith
+  numbers_size (x ∷ rest) =
+      simp (length-append, suc-mul)
+      (omega (arith, few x, numbers_size rest))
 
-item_size : (item : Item) → length (item_text item) ≤ 33
-unfolding item_text
-item_size item = shown_size item.1 item.0
+  pub column_size : (column : List A) (i : ℕ) → length (column_text shown column i) ≤ 22
+  unfolding column_text
+  column_size column i =
+      let one : length (take 1 (drop i column)) ≤ 1 = rw length-take (omega arith) in
+      omega (arith, numbers_size (take 1 (drop i column)))
 
-next_size : (item : Item) → length (next_text item) ≤ 34
-unfolding next_text
-next_size item = go item.1
-  where
-    go : (shown : Shown) → length (next_by shown item) ≤ 34
-    go Nothing = omega arith
-    go Word = omega (arith, item_size item)
-    go (Number number) = omega (arith, item_size item)
+  pub numbers_line_size : (numbers : List A) → length (numbers_line shown numbers) ≤ 1 + length numbers * 22
+  unfolding numbers_line
+  numbers_line_size [] = omega arith
+  numbers_line_size (first ∷ rest) = simp length-append (omega (arith, few first, numbers_size rest))
 
-pub line_size : (items : List Item) → length (line_text items) ≤ 204
-unfolding line_text
-line_size items =
-    simp length-append
-    (omega (
-      arith,
-      item_size (item_at items 0),
-      texts_size 5 34 (λ k. next_text (item_at items (suc k))) (λ k p. next_size (item_at items (suc k))),
-    ))
+  -- rows, with a column whose numbers take so many bytes at most
+  module _ {B : Type 0} (column_shown : B → List ℕ) (column : List B) (most : ℕ)
+      (narrow : (i : ℕ) → length (column_text column_shown column i) ≤ most) where
+    row_size : (i width : ℕ) (numbers : List A) → length numbers ≤ width →
+        length (row_text shown column_shown i numbers column) ≤ 21 + most + width * 22
+    unfolding row_text
+    row_size i width numbers p =
+        simp length-append
+        (omega (arith, decimal_size i, numbers_size numbers, narrow i))
 
--- rows
-signed_words_size : (list : List ℤ) → length (signed_words list) ≤ length list * 22
-unfolding signed_words
-signed_words_size list =
-    texts_size (length list) 22 (λ k. word_by true (word_of (get_or list k (pos 0))))
-    (λ k p. word_by_size true (word_of (get_or list k (pos 0))))
+    pub rows_size : (list : List A) (width : ℕ) →
+        length (rows_text shown column_shown list width column) ≤ most_distributors * (21 + most + width * 22)
+    unfolding rows_text
+    rows_size list width =
+        let rows = min (length list / width) most_distributors in
+        let few_rows : rows ≤ most_distributors = omega arith in
+        le_trans
+        (texts_size rows (21 + most + width * 22)
+        (row_of shown column_shown list width column)
+        (λ i p. row_size i width (take width (drop (i * width) list)) (rw length-take (omega arith))))
+        (mul-le-mul_right (21 + most + width * 22) few_rows)
 
-column_size : (signed : Bool) (column : List ℕ) (i : ℕ) → length (column_text signed column i) ≤ 22
-unfolding column_text
-column_size signed column i =
-    choice_size (ltb i (length column)) (word_by signed (get_or column i 0)) [] 22
-    (word_by_size signed (get_or column i 0)) (omega arith)
-
-row_size : (i width : ℕ) (words : List ℤ) (signed : Bool) (column : List ℕ) → length words ≤ width →
-    length (row_text i words signed column) ≤ 43 + width * 22
-unfolding row_text
-row_size i width words signed column p =
-    simp length-append (omega (arith, decimal_size i, signed_words_size words, column_size signed column i))
-
-pub rows_size : (list : List ℤ) (width : ℕ) (signed : Bool) (column : List ℕ) →
-    length (rows_text list width signed column) ≤ most_distributors * (43 + width * 22)
-unfolding rows_text
-rows_size list width signed column =
-    let rows = min (length list / width) most_distributors in
-    let few : rows ≤ most_distributors = omega arith in
-    le_trans
-    (texts_size rows (43 + width * 22) (λ i. row_text i (take width (drop (i * width) list)) signed column)
-    (λ i p. row_size i width (take width (drop (i * width) list)) signed column (rw length-take (omega arith))))
-    (mul-le-mul_right (43 + width * 22) few)
-
--- rows of numbers without a sign, and a line of them
-number_row_size : (i width : ℕ) (numbers : List ℕ) → length numbers ≤ width →
-    length (number_row i numbers) ≤ 21 + width * 22
-unfolding number_row
-number_row_size i width numbers p =
-    simp length-append (omega (arith, decimal_size i, words_size false numbers))
-
-pub number_rows_size : (list : List ℕ) (width : ℕ) →
-    length (number_rows_text list width) ≤ most_distributors * (21 + width * 22)
-unfolding number_rows_text
-number_rows_size list width =
-    let rows = min (length list / width) most_distributors in
-    let few : rows ≤ most_distributors = omega arith in
-    le_trans
-    (texts_size rows (21 + width * 22) (λ i. number_row i (take width (drop (i * width) list)))
-    (λ i p. number_row_size i width (take width (drop (i * width) list)) (rw length-take (omega arith))))
-    (mul-le-mul_right (21 + width * 22) few)
-
-pub numbers_line_size : (numbers : List ℕ) → length (numbers_line numbers) ≤ 21 + length numbers * 22
-unfolding numbers_line
-numbers_line_size [] = omega arith
-numbers_line_size (first ∷ rest) = omega (arith, number_row_size first (length rest) rest (omega arith))
+-- no column
+pub column_none : {B : Type 0} (shown : B → List ℕ) (i : ℕ) → length (column_text shown [] i) ≤ 0
+unfolding column_text words_text
+column_none {B} shown i =
+    let none : drop {A = B} i [] ≡ [] = drop_all i [] (omega arith) in
+    rw none (omega arith)

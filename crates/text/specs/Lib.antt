@@ -1,4 +1,3 @@
 pub mod Text
 pub mod Buffer
-pub mod Line
 pub mod Row

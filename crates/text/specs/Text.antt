@@ -1,5 +1,7 @@
 -- Names and numbers as text, byte by byte. Assumes nothing.
-use Rattle.std.specs.Prelude.{Bool, cond, List, [], ◌∷◌, ◌++◌, ℕ, zero, suc, ◌+◌, ◌-◌, ◌/◌, ◌%◌, ◌^◌, ltb, eqb, length, get_or, take}
+use Rattle.std.specs.Prelude.{Bool, cond, List, [], ◌∷◌, ◌++◌, ℕ, zero, suc, ◌+◌, ◌-◌, ◌/◌, ◌%◌, ◌^◌, ltb, eqb}
+use Rattle.std.specs.Prelude.{length, get_or, take, ℤ, pos, negsuc}
+use Rattle.std.specs.List.{flat_map}
 use Prim.Native.Char.{code}
 use Prim.Native.String.{String}
 use Prim.Native.String.{[] as String·[], ◌∷◌ as ◌String·∷◌}
@@ -34,6 +36,15 @@ decimal x = decimal_within 20 x
 -- a number of either sign, held as a word of 64 bits: "decimal digits, with `-` in front where it is signed"
 unfoldable pub signed_decimal : ℕ → List ℕ
 signed_decimal x = cond (ltb x (2 ^ 63)) (decimal x) (minus ∷ decimal (2 ^ 64 - x))
+
+-- a number of either sign
+unfoldable pub integer : ℤ → List ℕ
+integer (pos n) = decimal n
+integer (negsuc n) = minus ∷ decimal (suc n)
+
+-- numbers, each after a blank, by how one is shown
+unfoldable pub words_text : {A : Type 0} → (A → List ℕ) → List A → List ℕ
+words_text shown numbers = flat_map (λ x. blank ∷ shown x) numbers
 
 -- a number after a blank
 unfoldable pub word : ℕ → List ℕ

@@ -1,9 +1,8 @@
-// Text for the programs, written into lent buffers: what a buffer holds is proved, and a program has only to print it.
+// Text for the programs, in buffers of fixed size: what a buffer holds is proved, and a program has only to print it.
 
 #![tactic(auto)]
 
-pub mod line;
+pub mod buffer;
 pub mod name;
 pub mod number;
 pub mod row;
-pub mod write;

@@ -1,31 +1,23 @@
 // Names: what a command, a list or a number is called. A name has 12 bytes, the last of them blank where it is shorter.
-ghost use Rattle.std.specs.Prelude.{◌≡◌, length};
+ghost use Rattle.std.specs.Prelude.{◌≡◌};
 ghost use Rattle.text.specs.Text.{name_text};
-ghost use Rattle.text.specs.Buffer.{buffer_of, written};
+ghost use Rattle.text.specs.Buffer.{written};
 
-use crate::write::write_text;
+use crate::buffer::Text;
 
 pub const NAME: usize = 12;
 
-// How many bytes a name has before its blanks.
-pub fn name_size(name: [u8; NAME]) -> usize
-    ensures { result ≡ length (name_text name) }
+// The bytes of a name before its blanks.
+pub fn name_bytes(name: &[u8; NAME]) -> &[u8]
+    ensures { result.now ≡ name_text name.now }
 {
-    let mut k: usize = 0;
-    while k < NAME {
-        if name[k] == b' ' {
-            return k;
-        }
-        k += 1;
-    }
-    k
+    let size = name.iter().position(|byte| *byte == b' ').unwrap_or(NAME);
+    &name[..size]
 }
 
 // Writes a name.
-pub fn write_name(buffer: &mut [u8], count: usize, name: [u8; NAME]) -> usize
-    ensures { buffer_of buffer.new result ≡ written (name_text name)
-        (buffer_of buffer.old count) }
+pub fn write_name<const SIZE: usize>(text: &mut Text<SIZE>, name: [u8; NAME])
+    ensures { text.new ≡ written SIZE (name_text name) text.old }
 {
-    let size = name_size(name);
-    write_text(buffer, count, &name[..size])
+    text.push_all(name_bytes(&name));
 }

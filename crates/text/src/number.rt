@@ -1,60 +1,92 @@
-// Numbers as text. A number of either sign is held as a word of 64 bits.
-ghost use Rattle.std.specs.Prelude.{◌≡◌};
-ghost use Rattle.text.specs.Text.{decimal, signed_decimal, word, word_by, words_by};
-ghost use Rattle.text.specs.Buffer.{buffer_of, written};
+// Numbers as text.
+ghost use Rattle.std.specs.Prelude.{◌≡◌, ℕ, List, ◌∷◌, ◌++◌};
+ghost use Rattle.text.specs.Text.{blank, decimal, integer, words_text};
+ghost use Rattle.text.specs.Buffer.{written};
 
-use crate::write::{write_byte, write_text};
+use crate::buffer::Text;
+use numbers::units::Pesos;
 
-// Writes x in decimal.
-pub(crate) fn write_decimal(buffer: &mut [u8], count: usize, x: u64) -> usize
-    ensures { buffer_of buffer.new result ≡ written (decimal x) (buffer_of buffer.old count) }
-{
-    let mut digits = [0u8; 20];
-    let size = io::decimal(x, &mut digits);
-    write_text(buffer, count, &digits[..size])
+// The most bytes of a number of 64 bits.
+pub const DIGITS: usize = 20;
+
+// A number that is shown in decimal, with a minus sign in front where it is below zero.
+pub trait Decimal: Copy {
+    ghost shown: { Self → List ℕ };
+
+    fn decimal(self) -> Text<DIGITS>
+        ensures { result ≡ shown self };
 }
 
-// Writes a number of either sign in decimal, with a minus sign where it is below zero.
-fn write_signed_decimal(buffer: &mut [u8], count: usize, x: u64) -> usize
-    ensures { buffer_of buffer.new result ≡ written (signed_decimal x) (buffer_of buffer.old count) }
-{
-    if x < 9223372036854775808 {
-        return write_decimal(buffer, count, x);
+impl Decimal for u64 {
+    ghost shown = { decimal };
+
+    fn decimal(self) -> Text<DIGITS> {
+        let mut digits = [0u8; DIGITS];
+        let size = io::decimal(self, &mut digits);
+        let mut text = Text::new();
+        text.push_all(&digits[..size]);
+        text
     }
-    let end = write_byte(buffer, count, b'-');
-    write_decimal(buffer, end, 18446744073709551615 - x + 1)
+}
+
+impl Decimal for u8 {
+    ghost shown = { decimal };
+
+    fn decimal(self) -> Text<DIGITS> {
+        u64::from(self).decimal()
+    }
+}
+
+impl Decimal for i64 {
+    ghost shown = { integer };
+
+    fn decimal(self) -> Text<DIGITS> {
+        if self >= 0 {
+            return self.unsigned_abs().decimal();
+        }
+        let mut text = Text::new();
+        text.push(b'-');
+        write_decimal(&mut text, self.unsigned_abs());
+        text
+    }
+}
+
+impl Decimal for Pesos {
+    ghost shown = { λ money. integer money.0 };
+
+    fn decimal(self) -> Text<DIGITS> {
+        self.0.decimal()
+    }
+}
+
+// Writes a number.
+pub(crate) fn write_decimal<const SIZE: usize, N: Decimal>(text: &mut Text<SIZE>, x: N)
+    ensures { text.new ≡ written SIZE (N.shown x) text.old }
+{
+    text.push_all(x.decimal().as_bytes());
 }
 
 // Writes a blank and a number.
-pub fn write_word(buffer: &mut [u8], count: usize, x: u64) -> usize
-    ensures { buffer_of buffer.new result ≡ written (word x) (buffer_of buffer.old count) }
+pub fn write_word<const SIZE: usize, N: Decimal>(text: &mut Text<SIZE>, x: N)
+    ensures { text.new ≡ written SIZE (blank ∷ N.shown x) text.old }
 {
-    let end = write_byte(buffer, count, b' ');
-    write_decimal(buffer, end, x)
+    text.push(b' ');
+    write_decimal(text, x);
 }
 
-// Writes a blank and a number, of either sign where it is signed.
-pub(crate) fn write_word_by(buffer: &mut [u8], count: usize, signed: bool, x: u64) -> usize
-    ensures { buffer_of buffer.new result ≡ written (word_by signed x)
-        (buffer_of buffer.old count) }
+// Writes a name, and a number after a blank.
+pub fn write_item<const SIZE: usize, N: Decimal>(text: &mut Text<SIZE>, name: &[u8], x: N)
+    ensures { text.new ≡ written SIZE (name.now ++ blank ∷ N.shown x) text.old }
 {
-    if signed {
-        let end = write_byte(buffer, count, b' ');
-        return write_signed_decimal(buffer, end, x);
-    }
-    write_word(buffer, count, x)
+    text.push_all(name);
+    write_word(text, x);
 }
 
 // Writes numbers, each after a blank.
-pub fn write_words(buffer: &mut [u8], count: usize, signed: bool, words: &[u64]) -> usize
-    ensures { buffer_of buffer.new result ≡ written (words_by signed words.now)
-        (buffer_of buffer.old count) }
+pub fn write_words<const SIZE: usize, N: Decimal>(text: &mut Text<SIZE>, numbers: &[N])
+    ensures { text.new ≡ written SIZE (words_text N.shown numbers.now) text.old }
 {
-    let mut end = count;
-    let mut k: usize = 0;
-    while k < words.len() {
-        end = write_word_by(buffer, end, signed, words[k]);
-        k += 1;
+    for number in numbers {
+        write_word(text, *number);
     }
-    end
 }

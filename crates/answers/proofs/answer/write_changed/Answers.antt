@@ -1,13 +1,13 @@
 -- The line, or nothing.
-use Rattle.text.specs.Buffer.{written}
+use Rattle.std.proofs.Common.{sym}
 use Rattle.answers.specs.Answer.{changed_text}
+use Rattle.text.proofs.BufferLaws.{written_none}
 use Rattle.answers.proofs.answer.write_changed.Goals as goal
 
-pub returns-then-unwritten : goal.returns-then-unwritten
-unfolding changed_text written
-returns-then-unwritten c = rw c.if-unwritten.true
-
-pub returns : goal.returns
+pub returns-then-not-unwritten : goal.returns-then-not-unwritten
 unfolding changed_text
-returns c =
-    rw c.if-unwritten.false (rw c.changed_line.ensures at c.write_line.ensures)
+returns-then-not-unwritten g c = rw c.if-not-unwritten.true c.write_changed_line.ensures
+
+pub returns-else-not-unwritten : goal.returns-else-not-unwritten
+unfolding changed_text
+returns-else-not-unwritten g c = rw c.if-not-unwritten.false (sym (written_none g.row.SIZE _))

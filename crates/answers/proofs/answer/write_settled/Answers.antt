@@ -3,15 +3,14 @@ use Rattle.text.proofs.BufferLaws.{written_after}
 use Rattle.answers.specs.Answer.{answer_text, settled_text}
 use Rattle.answers.proofs.answer.write_settled.Goals as goal
 
-pub returns-then-accepted : goal.returns-then-accepted
+pub returns-in-Ok : goal.returns-in-Ok
 unfolding answer_text settled_text
-returns-then-accepted c =
-    rw c.if-accepted.true
-    (written_after _ _ _ _ _ c.write_line-end.ensures c.write_rows.ensures)
+returns-in-Ok g c =
+    rw c.in-Ok.is (written_after g.row.SIZE _ _ _ _ _ (rw c.in-Ok.is at c.write_outcome.ensures) c.write_rows.ensures)
 
-pub returns : goal.returns
+pub returns-in-Err : goal.returns-in-Err
 unfolding answer_text settled_text
-returns c =
-    rw c.if-accepted.false
-    (written_after _ _ _ _ _ c.write_line-end.ensures
+returns-in-Err g c =
+    rw c.in-Err.is
+    (written_after g.row.SIZE _ _ _ _ _ (rw c.in-Err.is at c.write_outcome.ensures)
     (rw c.is_unwritten.ensures at c.write_changed.ensures))

@@ -1,9 +1,9 @@
 -- A blank, then the number.
-use Rattle.text.specs.Text.{word}
-use Rattle.text.proofs.BufferLaws.{byte_after}
-use borrow.Author.Rules.{rules}
+use Rattle.std.proofs.Common.{[], ◌∷◌}
+use Rattle.text.specs.Text.{blank}
+use Rattle.text.proofs.BufferLaws.{written_after}
 use Rattle.text.proofs.number.write_word.Goals as goal
 
 pub returns : goal.returns
-unfolding word
-returns c = search (rules, byte_after)
+returns g c =
+    written_after g.row.SIZE (blank ∷ []) (g.N.Decimal.shown c.args.x) _ _ _ c.push.ensures c.write_decimal.ensures

@@ -1,20 +1,23 @@
--- The invariant: the words before the k-th are written.
-use mathlib.Core.Path.{◌≡◌, refl}
-use native.Mathlib.Omega.{arith}
-use lib.ListN.{length}
-use Rattle.text.specs.Text.{words_by}
-use Rattle.text.proofs.BufferLaws.{texts_none, texts_more}
-use borrow.Author.Rules.{rules}
+-- The invariant: what is left of the numbers, written now, makes what all of them made at first.
+use Rattle.std.proofs.Common.{◌∷◌, ap, sym, ◌∙◌}
+use Rattle.text.specs.Buffer.{written}
+use Rattle.text.specs.Text.{blank, words_text}
+use Rattle.text.proofs.BufferLaws.{items_more, items_all}
 use Rattle.text.proofs.number.write_words.Goals as goal
 
-pub loop-k-init : goal.loop-k-init
-loop-k-init c = (omega arith, refl, texts_none _ _)
-
-pub loop-k-preserved : goal.loop-k-preserved
-loop-k-preserved c = (omega arith, search rules, texts_more _ _ c.loop-k.k _ _ c.loop-k.invariant.2 c.write_word_by-end.ensures)
+pub loop-number-preserved : goal.loop-number-preserved
+unfolding words_text
+loop-number-preserved g c =
+    let shown = g.N.Decimal.shown in
+    let numbers = c.args.numbers.now in
+    let i = c.loop-number.number-index in
+    let number = c.number-item.result in
+    items_more g.row.SIZE (λ x. blank ∷ shown x) numbers i number _ _ c.loop-number-test.true
+    (c.write_word.ensures ∙ ap (λ x. written g.row.SIZE (blank ∷ shown x) c.loop-number.text) c.number-item.is)
+    ∙ c.loop-number.invariant
 
 pub returns : goal.returns
-unfolding words_by
-returns c =
-    let e : c.loop-k.k ≡ length c.args.words.now = omega arith in
-    rw e at c.loop-k.invariant.2
+unfolding words_text
+returns g c =
+    sym (items_all g.row.SIZE (λ x. blank ∷ g.N.Decimal.shown x) c.args.numbers.now _ _ c.loop-number-test.false)
+    ∙ c.loop-number.invariant

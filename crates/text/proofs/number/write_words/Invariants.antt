@@ -1,15 +1,10 @@
--- The invariant: the words before the k-th are written.
-use mathlib.Core.Path.{◌≡◌}
-use Prim.Native.Nat.{◌≤◌, ◌-◌}
-use lib.ListN.{length, get_or}
-use Rattle.text.specs.Buffer.{buffer_of, written}
-use Rattle.text.specs.Text.{text_below, word_by}
+-- The invariant: what is left of the numbers, written now, makes what all of them made at first.
+use Rattle.std.proofs.Common.{◌≡◌, drop}
+use Rattle.text.specs.Buffer.{written}
+use Rattle.text.specs.Text.{words_text}
 use Rattle.text.proofs.number.write_words.Given as goal
 
-abbrev pub invariant-loop-k : goal.invariant-loop-k
-invariant-loop-k l =
-    (l.k ≤ length l.words) × (length l.buffer ≡ length l.initial.buffer) ×
-    (buffer_of l.buffer l.end ≡ written (text_below l.k (λ j. word_by l.signed (get_or l.words j 0))) (buffer_of l.initial.buffer l.count))
-
-abbrev pub decreases-loop-k : goal.decreases-loop-k
-decreases-loop-k l = length l.words - l.k
+abbrev pub invariant-loop-number : goal.invariant-loop-number
+invariant-loop-number g l =
+    written g.row.SIZE (words_text g.N.Decimal.shown (drop l.number-index l.numbers)) l.text
+    ≡ written g.row.SIZE (words_text g.N.Decimal.shown l.numbers) l.initial.text

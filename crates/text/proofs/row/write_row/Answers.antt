@@ -1,13 +1,16 @@
--- The number, the words, the column's word and the line end.
+-- The number, the numbers of the list, that of the column and the line end.
+use Rattle.std.proofs.Common.{[], ◌∷◌}
 use Rattle.text.specs.Row.{row_text}
-use Rattle.text.proofs.BufferLaws.{after_byte, written_after}
+use Rattle.text.specs.Text.{line_end}
+use Rattle.text.proofs.BufferLaws.{written_after}
 use Rattle.text.proofs.row.write_row.Goals as goal
 
 pub returns : goal.returns
 unfolding row_text
-returns c =
-    after_byte _ _ _ _ _
-    (written_after _ _ _ _ _
-    (written_after _ _ _ _ _ c.write_decimal-end.ensures c.write_signed_words-end.ensures)
-    c.write_column-end.ensures)
-    c.write_byte.ensures
+returns g c =
+    let size = g.row.SIZE in
+    written_after size _ (line_end ∷ []) _ _ _
+    (written_after size _ _ _ _ _
+    (written_after size _ _ _ _ _ c.write_decimal.ensures c.write_words.ensures)
+    c.write_column.ensures)
+    c.push.ensures
