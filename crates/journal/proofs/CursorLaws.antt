@@ -1,128 +1,121 @@
--- Laws of reading on in a text: the next word or number by its token, how far it reaches, and how large it is.
--- Assumes nothing.
-use mathlib.Core.Path.{◌≡◌, refl}
-use mathlib.Core.Bool.{Bool, true, false, cond, true≢false}
-use mathlib.Core.List.{List}
-use Prim.Native.Nat.{ℕ, ◌≤◌}
+-- Laws of reading on in a text: reading after reading, how far it reaches, and how large a number is. Assumes nothing.
+use mathlib.Core.Path.{◌≡◌, refl, ◌∙◌}
+use mathlib.Core.Bool.{Bool, true, false, cond}
+use mathlib.Core.List.{List, [], ◌∷◌, ◌++◌}
+use Prim.Native.Nat.{ℕ, zero, suc, ◌+◌, ◌≤◌, ◌<◌}
+use native.Mathlib.Numerals.{add-one}
 use native.Mathlib.Omega.{arith}
+use native.Mathlib.Decide.{ℕ_discrete}
 use lib.Dec.{leb}
-use lib.ListN.{length}
-use borrow.Author.Tests.{le-leb, leb-true}
-use Rattle.journal.specs.Token.{token_after}
-use Rattle.journal.specs.Word.{is_word}
+use lib.ListN.{length, length-append}
+use borrow.Author.Tests.{leb-true}
+use Rattle.std.specs.Prelude.{Result, Ok, Err, Option, Some, None, IfOk, bytes_eq}
+use Rattle.journal.specs.Token.{token_after, bytes_of}
 use Rattle.journal.specs.Number.{reading_in}
-use Rattle.journal.specs.Cursor.{read_to, broken_at, word_after, number_from, number_after}
-use Rattle.journal.specs.declared.number.Reading.{Reading}
-use Rattle.journal.specs.declared.number.Reading.TheVariants.{Number, Unreadable}
+use Rattle.journal.specs.Cursor.{unreadable, read_of, Reading, and_then, reads_below, token_read, word_after}
+use Rattle.journal.specs.Cursor.{at_most, number_after}
 use Rattle.journal.specs.declared.token.Token.{Token}
-use Rattle.journal.specs.declared.cursor.Cursor.{Cursor}
-use Rattle.journal.specs.declared.cursor.NumberRead.{NumberRead}
+use Rattle.journal.specs.declared.cursor.Unreadable.{Unreadable}
 use Rattle.journal.proofs.TokenLaws.{token_ordered, token_within, token_later}
 
-abbrev pub number_read : ℕ → Cursor → NumberRead
-number_read value next = record { value = value; next = next }
+-- what holds after two readings
+pub if_then : {A B : Type 0} (first : Result A Unreadable) (later : A → Result B Unreadable) (P : A → Type 0)
+    (Q : B → Type 0) → IfOk first P → ((x : A) → P x → IfOk (later x) Q) → IfOk (and_then first later) Q
+if_then (Ok x) later P Q h k = k x h
+if_then (Err broken) later P Q h k = tt
 
--- a reading of a number that is small enough
-pub number_small : (reading : Reading) (most : ℕ) (token : Token) (value : ℕ) → reading ≡ Number value →
-    value ≤ most → number_read value (read_to token.end) ≡ number_from reading most token
-number_small reading most token value e p = rw (e, le-leb value most p) refl
+pub if_any : {A : Type 0} (reading : Result A Unreadable) → IfOk reading (λ _. Unit {0})
+if_any (Ok x) = tt
+if_any (Err broken) = tt
 
--- nothing is read after what is broken
-module _ (text : List ℕ) (cursor : Cursor) (h : cursor.broken ≡ true) where
-  pub word_after_broken : (word : List ℕ) → cursor ≡ word_after text cursor word
-  unfolding word_after
-  word_after_broken word = rw h
+-- the readings below a bound: none, one more, and one that is broken
+module _ {A : Type 0} (readings : ℕ → ℕ → Reading A) (at : ℕ) where
+  pub reads_none : reads_below 0 readings at ≡ Ok (read_of [] at)
+  unfolding reads_below
+  reads_none = refl
 
-  pub number_after_broken : (signed : Bool) (most : ℕ) → number_read 0 cursor ≡ number_after text cursor signed most
-  unfolding number_after
-  number_after_broken signed most = rw h
+  module _ {k : ℕ} {values : List A} {next : ℕ} (h : reads_below k readings at ≡ Ok (read_of values next)) where
+    pub reads_more : {value : A} {last : ℕ} → readings k next ≡ Ok (read_of value last) →
+        reads_below (k + 1) readings at ≡ Ok (read_of (values ++ (value ∷ [])) last)
+    unfolding reads_below
+    reads_more e = rw (add-one, h, e) refl
 
--- what is read is the next token
-module _ (text : List ℕ) (cursor : Cursor) (h : cursor.broken ≡ false) (token : Token)
-    (e : token ≡ token_after text cursor.at) where
-  pub word_after_same : (word : List ℕ) → is_word text token.start token.end word ≡ true →
-      read_to token.end ≡ word_after text cursor word
-  unfolding word_after
-  word_after_same word w = rw (h, ← e, w)
+    pub reads_broken : {broken : Unreadable} → readings k next ≡ Err broken → (j : ℕ) → k < j →
+        reads_below j readings at ≡ Err broken
+    unfolding reads_below
+    reads_broken e zero p = absurd (omega arith)
+    reads_broken {broken} e (suc j) p = go (λ q. reads_broken e j q) (ℕ_discrete k j)
+      where
+        go : (k < j → reads_below j readings at ≡ Err broken) → Dec (k ≡ j) →
+            reads_below (suc j) readings at ≡ Err broken
+        go before (yes same) = rw (← same, h, e) refl
+        go before (no other) = rw (before (omega arith)) refl
 
-  pub word_after_other : (word : List ℕ) → is_word text token.start token.end word ≡ false →
-      broken_at token.start ≡ word_after text cursor word
-  unfolding word_after
-  word_after_other word w = rw (h, ← e, w)
+-- what holds of where each reading ends, if it is so of the place before
+pub reads_keep : {A : Type 0} (P : ℕ → Type 0) (k : ℕ) (readings : ℕ → ℕ → Reading A) →
+    ((j from : ℕ) → P from → IfOk (readings j from) (λ read. P read.next)) → (at : ℕ) → P at →
+    IfOk (reads_below k readings at) (λ read. P read.next)
+unfolding reads_below
+reads_keep P zero readings keep at p = p
+reads_keep P (suc k) readings keep at p =
+    if_then (reads_below k readings at) _ (λ read. P read.next) _ (reads_keep P k readings keep at p)
+    (λ before q. if_then (readings k before.next) _ (λ read. P read.next) _ (keep k before.next q) (λ last r. r))
 
-  pub number_after_token : (signed : Bool) (most : ℕ) →
-      number_from (reading_in signed text token.start token.end) most token ≡ number_after text cursor signed most
-  unfolding number_after
-  number_after_token signed most = rw (h, ← e)
+-- there are as many
+pub reads_length : {A : Type 0} (k : ℕ) (readings : ℕ → ℕ → Reading A) (at : ℕ) →
+    IfOk (reads_below k readings at) (λ read. length read.value ≡ k)
+unfolding reads_below
+reads_length zero readings at = refl
+reads_length (suc k) readings at =
+    if_then (reads_below k readings at) _ (λ read. length read.value ≡ k) _ (reads_length k readings at)
+    (λ before e. if_then (readings k before.next) _ (λ _. Unit {0}) _ (if_any (readings k before.next))
+    (λ last r. length-append before.value _ ∙ omega (arith, e)))
 
--- a cursor within the text and, where it is not broken, at a place or past it
-pub record Past (text : List ℕ) (place : ℕ) (cursor : Cursor) : Type 0 where
-  pub within : cursor.at ≤ length text
-  pub later : cursor.broken ≡ false → place ≤ cursor.at
+-- a place past another, within the text
+pub record Past (text : List ℕ) (place next : ℕ) : Type 0 where
+  pub within : next ≤ length text
+  pub later : place ≤ next
 
--- so is the cursor after one more word or number
-module _ {text : List ℕ} {place : ℕ} {cursor : Cursor} (o : Past text place cursor) where
+-- so is the place after one more word or number
+module _ {text : List ℕ} {place at : ℕ} (o : Past text place at) where
   abbrev token : Token
-  token = token_after text cursor.at
+  token = token_after text at
 
-  past_read : cursor.broken ≡ false → Past text place (read_to token.end)
-  past_read h = record {
-    within = token_within text cursor.at;
-    later = λ q. omega (
-      arith,
-      o.later h,
-      token_later text cursor.at o.within,
-      token_ordered text cursor.at,
-    );
+  past_read : Past text place token.end
+  past_read = record {
+    within = token_within text at;
+    later = omega (arith, o.later, token_later text at o.within, token_ordered text at);
   }
 
-  past_broken : Past text place (broken_at token.start)
-  past_broken = record {
-    within = omega (arith, token_ordered text cursor.at, token_within text cursor.at);
-    later = λ q. absurd (true≢false q);
-  }
-
-  pub then_word : (word : List ℕ) → Past text place (word_after text cursor word)
+  pub then_word : (word : List ℕ) → IfOk (word_after text at word) (Past text place)
   unfolding word_after
-  then_word word = go cursor.broken refl (is_word text token.start token.end word)
+  then_word word = go (bytes_eq (bytes_of text token) word)
     where
-      go : (b : Bool) → cursor.broken ≡ b → (same : Bool) →
-          Past text place (cond b cursor (cond same (read_to token.end) (broken_at token.start)))
-      go true h same = o
-      go false h true = past_read h
-      go false h false = past_broken
+      go : (same : Bool) → IfOk (cond same (Ok token.end) (Err (unreadable token.start))) (Past text place)
+      go true = past_read
+      go false = tt
 
-  pub then_number : (signed : Bool) (most : ℕ) → Past text place (number_after text cursor signed most).next
+  pub then_number : (signed : Bool) (most : ℕ) →
+      IfOk (number_after text at signed most) (λ read. Past text place read.next)
   unfolding number_after
-  then_number signed most = go cursor.broken refl (reading_in signed text token.start token.end)
+  then_number signed most = go (at_most (reading_in signed (bytes_of text token)) most)
     where
-      within : cursor.broken ≡ false → (value : ℕ) (b : Bool) →
-          Past text place (cond b (number_read value (read_to token.end)) (number_read 0 (broken_at token.start))
-          ).next
-      within h value true = past_read h
-      within h value false = past_broken
-
-      go : (b : Bool) → cursor.broken ≡ b → (reading : Reading) →
-          Past text place (cond b (number_read 0 cursor) (number_from reading most token)).next
-      go true h reading = o
-      go false h (Number value) = within h value (leb value most)
-      go false h Unreadable = past_broken
+      go : (reading : Option ℕ) → IfOk (token_read token reading) (λ read. Past text place read.next)
+      go (Some value) = past_read
+      go None = tt
 
 -- a number is not above the most
-pub number_most : (text : List ℕ) (cursor : Cursor) (signed : Bool) (most : ℕ) →
-    (number_after text cursor signed most).value ≤ most
+pub number_most : (text : List ℕ) (at : ℕ) (signed : Bool) (most : ℕ) →
+    IfOk (number_after text at signed most) (λ read. read.value ≤ most)
 unfolding number_after
-number_most text cursor signed most =
-    let token : Token = token_after text cursor.at in
-    go token cursor.broken (reading_in signed text token.start token.end)
+number_most text at signed most =
+    let next : Token = token_after text at in go next (reading_in signed (bytes_of text next))
   where
-    within : (token : Token) (value : ℕ) (b : Bool) → leb value most ≡ b →
-        (cond b (number_read value (read_to token.end)) (number_read 0 (broken_at token.start))).value ≤ most
-    within token value true h = leb-true value most h
-    within token value false h = omega arith
+    within : (t : Token) (value : ℕ) (b : Bool) → leb value most ≡ b →
+        IfOk (token_read t (cond b (Some value) None)) (λ read. read.value ≤ most)
+    within t value true h = leb-true value most h
+    within t value false h = tt
 
-    go : (token : Token) (b : Bool) (reading : Reading) →
-        (cond b (number_read 0 cursor) (number_from reading most token)).value ≤ most
-    go token true reading = omega arith
-    go token false (Number value) = within token value (leb value most) refl
-    go token false Unreadable = omega arith
+    go : (t : Token) (reading : Option ℕ) → IfOk (token_read t (at_most reading most)) (λ read. read.value ≤ most)
+    go t (Some value) = within t value (leb value most) refl
+    go t None = tt

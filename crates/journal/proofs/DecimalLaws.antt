@@ -1,43 +1,42 @@
 -- A number that stands in a text as its decimal digits is read as that number. Assumes nothing.
-use mathlib.Core.Path.{◌≡◌, refl, sym, ◌∙◌, ap, ap₂}
-use mathlib.Core.Bool.{Bool, true, false, cond, and-false}
+use mathlib.Core.Path.{◌≡◌, refl, ◌∙◌, ap, ap₂}
+use mathlib.Core.Bool.{Bool, true, false, cond}
 use mathlib.Core.List.{List, [], ◌∷◌, ◌++◌}
 use Prim.Native.Nat.{ℕ, zero, suc, ◌+◌, ◌*◌, ◌-◌, ◌/◌, ◌%◌, ◌^◌, ◌<◌, ◌≤◌}
-use native.Mathlib.Nat.{zero-add, add-zero, pow-suc}
+use native.Mathlib.Nat.{pow-suc}
 use native.Mathlib.Omega.{arith}
 use native.Mathlib.Decide.{dec_lt}
 use lib.Dec.{ltb}
-use lib.ListN.{length, drop, length-append, get_or-append}
+use lib.ListN.{length, take, length-append, get_or-append}
 use lib.Seq.{get_or-append_seam}
-use borrow.Author.Tests.{le-leb, lt-ltb, le-ltb, eq-eqb, ne_eqb}
+use borrow.Author.Tests.{le-leb, lt-ltb, le-ltb, ne_eqb}
 use Rattle.numbers.proofs.BoolLaws.{by_last}
 use Rattle.text.specs.Text.{digit, minus, decimal_within, decimal, signed_decimal}
 use Rattle.journal.specs.Token.{byte_at, ends_token}
 use Rattle.journal.specs.Number.{is_digit, digit_taken, digits_read, number_in, is_minus, signed_in, reading_in}
-use Rattle.journal.specs.declared.number.Reading.TheVariants.{Number}
+use Rattle.std.specs.Prelude.{Some, option_and_then, bytes_eq}
 use Rattle.journal.proofs.NumberLaws.{digit_least}
-use Rattle.journal.proofs.SignedLaws.{above_small, below_small, signed_minus, signed_plain}
-use Rattle.journal.proofs.TextLaws.{byte_first, byte_of, one_after, Plain}
+use Rattle.journal.proofs.SignedLaws.{word_below}
+use Rattle.journal.proofs.TextLaws.{Plain}
 
 -- a token of digits, and the number that they write
 pub record Digits (token : List ℕ) (x : ℕ) : Type 0 where
   pub some : 0 < length token
   pub each : (i : ℕ) → i < length token → is_digit (byte_at token i) ≡ true
-  pub read : digits_read (length token) token 0 ≡ Number x
+  pub read : digits_read (length token) token ≡ Some x
 
--- digits are read alike wherever they stand
-read_same : (text : List ℕ) (start : ℕ) (token tail : List ℕ) → drop start text ≡ token ++ tail → (k : ℕ) →
-    k ≤ length token → digits_read k text start ≡ digits_read k token 0
+-- the first digits are read alike whatever follows
+read_first : (a b : List ℕ) (k : ℕ) → k ≤ length a → digits_read k (a ++ b) ≡ digits_read k a
 unfolding digits_read
-read_same text start token tail h zero p = refl
-read_same text start token tail h (suc k) p =
-    ap₂ digit_taken (read_same text start token tail h k (omega arith))
-    (byte_of text start token tail h k p ∙ ap (λ (i : ℕ). byte_at token i) (sym (zero-add k)))
+read_first a b zero p = refl
+read_first a b (suc k) p =
+    ap₂ (λ read byte. option_and_then (digit_taken byte) read) (read_first a b k (omega arith))
+    (get_or-append a b 0 k p)
 
 digit_is : (d : ℕ) → d < 10 → is_digit (digit d) ≡ true
 digit_is d p = rw (le-leb 48 (48 + d) (omega arith), le-leb (48 + d) 57 (omega arith))
 
-digit_taken_lem : (y d : ℕ) → d < 10 → y * 10 + d < 2 ^ 64 → digit_taken (Number y) (digit d) ≡ Number (y * 10 + d)
+digit_taken_lem : (y d : ℕ) → d < 10 → y * 10 + d < 2 ^ 64 → digit_taken (digit d) y ≡ Some (y * 10 + d)
 digit_taken_lem y d p q =
     let value : 48 + d - 48 ≡ d = omega arith in
     rw (digit_is d p, value, lt-ltb (y * 10 + d) (2 ^ 64) q) refl
@@ -45,7 +44,7 @@ digit_taken_lem y d p q =
 one_digit : (d : ℕ) → d < 10 → Digits (digit d ∷ []) d
 unfolding digits_read
 one_digit d p =
-    record { some = omega arith; each = each; read = digit_taken_lem 0 d p (omega arith) ∙ ap Number (omega arith) }
+    record { some = omega arith; each = each; read = digit_taken_lem 0 d p (omega arith) ∙ ap Some (omega arith) }
   where
     each : (i : ℕ) → i < 1 → is_digit (byte_at (digit d ∷ []) i) ≡ true
     each zero q = digit_is d p
@@ -57,8 +56,7 @@ unfolding digits_read
 more_digits a y d t p q =
     let more : List ℕ = a ++ digit d ∷ [] in
     let size : length more ≡ suc (length a) = length-append a (digit d ∷ []) ∙ omega arith in
-    let last : byte_at more (0 + length a) ≡ digit d = ap (λ (i : ℕ). byte_at more i) (zero-add (length a))
-    ∙ get_or-append_seam a (digit d) [] 0 in
+    let last : byte_at more (length a) ≡ digit d = get_or-append_seam a (digit d) [] 0 in
     record {
       some = omega (arith, size);
       each = λ i r. by_last (length a) (λ (j : ℕ). is_digit (byte_at more j) ≡ true)
@@ -66,8 +64,9 @@ more_digits a y d t p q =
           (ap is_digit (get_or-append_seam a (digit d) [] 0) ∙ digit_is d p)
           i (omega (arith, size));
       read =
-          ap (λ (n : ℕ). digits_read n more 0) size
-          ∙ ap₂ digit_taken (read_same more 0 a (digit d ∷ []) refl (length a) (omega arith) ∙ t.read) last
+          ap (λ (n : ℕ). digits_read n more) size
+          ∙ ap₂ (λ read byte. option_and_then (digit_taken byte) read)
+          (read_first a (digit d ∷ []) (length a) (omega arith) ∙ t.read) last
           ∙ digit_taken_lem y d p q;
     }
 
@@ -106,45 +105,32 @@ digit_plain byte h =
 pub digits_plain : (token : List ℕ) (x : ℕ) → Digits token x → Plain token
 digits_plain token x t = record { some = t.some; plain = λ i p. digit_plain (byte_at token i) (t.each i p) }
 
--- digits that stand in a text are read as their number
-module _ (text : List ℕ) (start end : ℕ) (token tail : List ℕ) (h : drop start text ≡ token ++ tail)
-    (e : end ≡ start + length token) (x : ℕ) (t : Digits token x) where
-  pub number_in_lem : number_in text start end ≡ Number x
+-- digits are read as their number
+module _ (token : List ℕ) (x : ℕ) (t : Digits token x) where
+  pub number_in_lem : number_in token ≡ Some x
   unfolding number_in
-  number_in_lem =
-      let size : end - start ≡ length token = omega arith in
-      rw (lt-ltb start end (omega (arith, t.some)), size)
-      (read_same text start token tail h (length token) (omega arith) ∙ t.read)
+  number_in_lem = rw (ne_eqb (length token) 0 (λ q. omega (arith, t.some))) t.read
 
-  not_minus : is_minus text start end ≡ false
+  not_minus : is_minus token ≡ false
   unfolding is_minus
-  not_minus =
-      let first : byte_at text start ≡ byte_at token 0 = ap (λ (i : ℕ). byte_at text i) (sym (add-zero start)) ∙ byte_of
-      text start token tail h 0 t.some in
-      let least : 48 ≤ byte_at token 0 = digit_least (byte_at token 0) (t.each 0 t.some) in
-      rw (ne_eqb (byte_at text start) 45 (λ q. omega (arith, first)), and-false (ltb start end))
+  not_minus = go token (digit_least (byte_at token 0) (t.each 0 t.some))
+    where
+      go : (bytes : List ℕ) → 48 ≤ byte_at bytes 0 → bytes_eq (take 1 bytes) (minus ∷ []) ≡ false
+      go [] least = refl
+      go (byte ∷ bytes) least = rw (ne_eqb byte minus (λ q. omega arith)) refl
 
-  above_in : x < 2 ^ 63 → signed_in text start end ≡ Number x
-  above_in p = sym (signed_plain text start end not_minus) ∙ sym (above_small _ x number_in_lem p)
+  above_in : x < 2 ^ 63 → signed_in token ≡ Some x
+  unfolding signed_in
+  above_in p = rw (not_minus, number_in_lem, lt-ltb x (2 ^ 63) p) refl
 
--- and with a minus in front as the word of the number below zero
-module _ (text : List ℕ) (start end : ℕ) (token tail : List ℕ) (h : drop start text ≡ minus ∷ (token ++ tail))
-    (e : end ≡ start + suc (length token)) (size : ℕ) (t : Digits token size) where
-  is_minus_lem : is_minus text start end ≡ true
+  -- and with a minus in front as the word of the number below zero
+  is_minus_lem : is_minus (minus ∷ token) ≡ true
   unfolding is_minus
-  is_minus_lem =
-      rw (
-        lt-ltb start end (omega arith),
-        eq-eqb (byte_at text start) 45
-            (byte_first text start (minus ∷ (token ++ tail)) h),
-      )
+  is_minus_lem = refl
 
-  below_in : 0 < size → size ≤ 2 ^ 63 → signed_in text start end ≡ Number (2 ^ 64 - 1 - (size - 1))
-  below_in p q =
-      sym (signed_minus text start end is_minus_lem)
-      ∙ sym (below_small _ size
-      (number_in_lem text (start + 1) end token tail (one_after text start minus (token ++ tail) h) (omega arith) size t)
-      p q)
+  below_in : 0 < x → x ≤ 2 ^ 63 → signed_in (minus ∷ token) ≡ Some (2 ^ 64 - 1 - (x - 1))
+  unfolding signed_in
+  below_in p q = rw (is_minus_lem, number_in_lem, le-leb x (2 ^ 63) q, word_below x p) refl
 
 minus_plain : (token : List ℕ) → Plain token → Plain (minus ∷ token)
 minus_plain token t = record { some = omega arith; plain = byte }
@@ -170,22 +156,14 @@ module _ (x : ℕ) (p : x < 2 ^ 64) where
           (minus_plain (decimal (2 ^ 64 - x)) (digits_plain _ _ (large (omega arith))))
 
   -- and is read as that number
-  pub text_in : (text : List ℕ) (start end : ℕ) (signed : Bool) (tail : List ℕ) →
-      drop start text ≡ cond signed (signed_decimal x) (decimal x) ++ tail →
-      end ≡ start + length (cond signed (signed_decimal x) (decimal x)) → reading_in signed text start end ≡ Number x
+  pub text_in : (signed : Bool) → reading_in signed (cond signed (signed_decimal x) (decimal x)) ≡ Some x
   unfolding reading_in signed_decimal
-  text_in text start end false tail h e = number_in_lem text start end (decimal x) tail h e x (decimal_digits x p)
-  text_in text start end true tail h e = go (dec_lt x (2 ^ 63)) h e
+  text_in false = number_in_lem (decimal x) x (decimal_digits x p)
+  text_in true = go (dec_lt x (2 ^ 63))
     where
-      go : Dec (x < 2 ^ 63) →
-          drop start text ≡ cond (ltb x (2 ^ 63)) (decimal x) (minus ∷ decimal (2 ^ 64 - x)) ++ tail →
-          end ≡ start + length (cond (ltb x (2 ^ 63)) (decimal x) (minus ∷ decimal (2 ^ 64 - x))) →
-          signed_in text start end ≡ Number x
-      go (yes q) h e =
-          above_in text start end (decimal x) tail (rw (lt-ltb x (2 ^ 63) q) at h) (rw (lt-ltb x (2 ^ 63) q) at e) x
-          (decimal_digits x p) q
-      go (no q) h e =
+      go : Dec (x < 2 ^ 63) → signed_in (cond (ltb x (2 ^ 63)) (decimal x) (minus ∷ decimal (2 ^ 64 - x))) ≡ Some x
+      go (yes q) = rw (lt-ltb x (2 ^ 63) q) (above_in (decimal x) x (decimal_digits x p) q)
+      go (no q) =
           let many : 2 ^ 63 ≤ x = omega arith in
-          below_in text start end (decimal (2 ^ 64 - x)) tail (rw (le-ltb x (2 ^ 63) many) at h)
-          (rw (le-ltb x (2 ^ 63) many) at e) (2 ^ 64 - x) (large many) (omega arith) (omega arith)
-          ∙ ap Number (omega arith)
+          rw (le-ltb x (2 ^ 63) many)
+          (below_in (decimal (2 ^ 64 - x)) (2 ^ 64 - x) (large many) (omega arith) (omega arith) ∙ ap Some (omega arith))

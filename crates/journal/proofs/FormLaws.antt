@@ -2,97 +2,128 @@
 -- Assumes nothing.
 use mathlib.Core.Path.{◌≡◌, refl, sym, ◌∙◌, ap, ap₂}
 use mathlib.Core.Bool.{Bool, true, false}
-use mathlib.Core.List.{List, [], ◌∷◌, ◌++◌, append_assoc}
+use mathlib.Core.List.{List, [], ◌∷◌, ◌++◌, append_assoc, append-nil}
 use Prim.Native.Nat.{ℕ, zero, suc, ◌+◌, ◌-◌, ◌≤◌, ◌<◌}
 use native.Mathlib.Numerals.{add-one}
 use native.Mathlib.Omega.{arith}
-use lib.ListN.{length, get_or, take, drop, set, replicate, length-drop, take-append-drop}
-use lib.Seq.{length-take-le, length_front, drop-append-le, take-append-le, take-append_seam, drop_at}
-use borrow.Rule.Slice.PartMut.{put_mid, mid_len, same_len_mid}
+use native.Mathlib.Nat.{add-zero}
+use native.Mathlib.Decide.{dec_lt}
+use lib.ListN.{length, get_or, take, drop, set, replicate, length-drop, length-set, take-append-drop}
+use lib.ListN.{get_or-replicate, get_or-eq_default}
+use lib.Seq.{length-take-le, drop-append-le, take-append-le, take-append_seam, drop_at, get_or-set_same, get_or-set_other}
+use borrow.Rule.Slice.PartMut.{put_mid, mid_len}
+use Rattle.std.specs.Prelude.{Ok, Err, IfOk, MatchResult}
+use Rattle.std.proofs.lemmas.Result.{IfOk-at_ok}
 use Rattle.numbers.proofs.BoolLaws.{by_last}
 use Rattle.numbers.proofs.SumLaws.{sum_step, sum_mono}
-use Rattle.numbers.proofs.ListLaws.{list_at, list_same, filled_none, filled_next, filled_at}
-use Rattle.numbers.specs.Bounded.{sum_below, filled_below}
-use Rattle.text.specs.Text.{name_text}
-use Rattle.journal.specs.Cursor.{most_word}
-use Rattle.journal.specs.List.{list_after, list_words}
-use Rattle.journal.specs.Form.{part_count, part_at, held_of, held_in, bound_by, bound_of, count_by, count_of, room_of}
-use Rattle.journal.specs.Form.{place_of, part_read, part_by, part_after, form_after, held_at, form_parts, number_of}
-use Rattle.journal.specs.Form.{start_of, end_of, words_in, parts_in, FormHeld, PartFollows, FormFollows}
-use Rattle.journal.specs.declared.cursor.Cursor.{Cursor}
-use Rattle.journal.specs.declared.cursor.NumberRead.{NumberRead}
+use Rattle.numbers.proofs.ListLaws.{list_at, list_same}
+use Rattle.numbers.specs.Bounded.{sum_below, list_below}
+use Rattle.text.specs.Text.{name_text, text_below}
+use Rattle.journal.specs.Cursor.{read_of, Reading, reads_below, most_word}
+use Rattle.journal.specs.List.{list_after, ListFollows}
+use Rattle.journal.specs.Form.{part_count, part_at, Held, held_of, held_in, bound_by, bound_of, count_by, count_of}
+use Rattle.journal.specs.Form.{room_of, place_of, number_part, list_part, part_by, part_after, parts_after, form_after}
+use Rattle.journal.specs.Form.{placed, placed_none, number_of, start_of, end_of, words_in, parts_below, parts_in}
+use Rattle.journal.specs.Form.{FormHeld, PartFollows, FormFollows, FormBroken, part_text}
+use Rattle.journal.specs.declared.cursor.Read.{Read}
+use Rattle.journal.specs.declared.cursor.Unreadable.{Unreadable}
 use Rattle.journal.specs.declared.form.Kind.{Kind}
 use Rattle.journal.specs.declared.form.Kind.TheVariants.{Nothing, Number, List as Words, Signed, Length}
 use Rattle.journal.specs.declared.form.Part.{Part}
 use Rattle.journal.specs.declared.form.Parts.{Parts}
-use Rattle.journal.proofs.CursorLaws.{Past, then_number, number_most}
-use Rattle.journal.proofs.ListLaws.{count_most, list_most, words_length, then_count, then_list}
+use Rattle.journal.specs.declared.form.Placed.{Placed}
+use Rattle.journal.proofs.CursorLaws.{reads_more, reads_broken, reads_keep, Past, then_number}
+use Rattle.journal.proofs.CursorLaws.{number_most}
+use Rattle.journal.proofs.ListLaws.{count_most, list_most, then_count, then_list}
 
 -- a part by its kind, as the code reads it
-module _ {part : Part} {text : List ℕ} {cursor : Cursor} {read : NumberRead} {found left : List ℕ} (kind : Kind)
-    (k : part.1 ≡ kind) where
-  pub follows : (words : List ℕ) → part_read read words ≡ part_by kind (name_text part.0) text cursor →
-      left ≡ words ++ drop (count_by kind read.value) found → PartFollows part text cursor read found left
+module _ (part : Part) (text : List ℕ) (at : ℕ) (kind : Kind) (k : part.1 ≡ kind) where
+  pub follows : (found : List ℕ) (reading : Reading ℕ) → number_part reading ≡ part_by kind (name_text part.0) text at →
+      ((number : ℕ) → count_by kind number ≡ 0) →
+      MatchResult reading (λ read. PartFollows part text at read found found) (λ broken. part_after part text at ≡ Err broken)
   unfolding part_after
-  follows words e w = record { number = rw (k, ← e) refl; next = rw (k, ← e) refl; words = rw (k, ← e) w }
+  follows found (Ok read) e none =
+      record { words = []; after = rw (k, ← e) refl; lent = rw (k, none read.value) refl }
+  follows found (Err broken) e none = rw (k, ← e) refl
 
   -- a list into as many places as it may have words
-  pub follows_list : (longest : ℕ) (signed : Bool) (most : ℕ) → length found ≡ longest →
-      read ≡ list_after text cursor (name_text part.0) (length found) signed most →
-      left ≡ list_words text cursor (name_text part.0) (length found) signed most ++ drop read.value found →
-      part_read (list_after text cursor (name_text part.0) longest signed most)
-      (list_words text cursor (name_text part.0) longest signed most) ≡ part_by kind (name_text part.0) text cursor →
-      count_by kind read.value ≡ read.value → PartFollows part text cursor read found left
-  follows_list longest signed most room e w b n =
-      follows (list_words text cursor (name_text part.0) longest signed most)
-      (ap (λ r. part_read r (list_words text cursor (name_text part.0) longest signed most)) (rw room at e) ∙ b)
-      (rw (← n) at (rw room at w))
+  pub follows_list : (signed : Bool) (most : ℕ) (found left : List ℕ) (result : Reading ℕ) →
+      list_part (list_after text at (name_text part.0) (length found) signed most) ≡ part_by kind (name_text part.0) text
+      at → ((number : ℕ) → count_by kind number ≡ number) →
+      MatchResult result (λ read. ListFollows text at (name_text part.0) (length found) signed most read found left)
+      (λ broken. list_after text at (name_text part.0) (length found) signed most ≡ Err broken) →
+      MatchResult result (λ read. PartFollows part text at read found left) (λ broken. part_after part text at ≡ Err broken)
+  unfolding part_after
+  follows_list signed most found left (Ok read) e whole f =
+      record {
+        words = f.words;
+        after = rw (k, ← e, f.after, f.counted) refl;
+        lent = rw (k, whole read.value) f.lent;
+      }
+  follows_list signed most found left (Err broken) e whole f = rw (k, ← e, f) refl
 
 -- past a place still by a part
-then_part : {text : List ℕ} {place : ℕ} {cursor : Cursor} → Past text place cursor → (part : Part) →
-    Past text place (part_after part text cursor).next
+then_part : {text : List ℕ} {place at : ℕ} → Past text place at → (part : Part) →
+    IfOk (part_after part text at) (λ read. Past text place read.next)
 unfolding part_after
-then_part {text} {place} {cursor} o part = go part.1
+then_part {text} {place} {at} o part = go part.1
   where
-    go : (kind : Kind) → Past text place (part_by kind (name_text part.0) text cursor).next
-    go Nothing = o
-    go (Number most) = then_number o false most
-    go (Words longest most) = then_list o (name_text part.0) longest false most
-    go (Signed longest) = then_list o (name_text part.0) longest true most_word
-    go (Length longest) = then_count o (name_text part.0) longest
+    number : (reading : Reading ℕ) → IfOk reading (λ read. Past text place read.next) →
+        IfOk (number_part reading) (λ read. Past text place read.next)
+    number (Ok read) h = h
+    number (Err broken) h = tt
 
--- by the first k parts
-pub then_form : {text : List ℕ} {place : ℕ} {cursor : Cursor} → Past text place cursor → (form : List Part) (k : ℕ) →
-    Past text place (form_after k form text cursor)
-unfolding form_after
-then_form o form zero = o
-then_form o form (suc k) = then_part (then_form o form k) (part_at form k)
+    list : (reading : Reading (List ℕ)) → IfOk reading (λ read. Past text place read.next) →
+        IfOk (list_part reading) (λ read. Past text place read.next)
+    list (Ok read) h = h
+    list (Err broken) h = tt
+
+    go : (kind : Kind) → IfOk (part_by kind (name_text part.0) text at) (λ read. Past text place read.next)
+    go Nothing = o
+    go (Number most) = number _ (then_number o false most)
+    go (Words longest most) = list _ (then_list o (name_text part.0) longest false most)
+    go (Signed longest) = list _ (then_list o (name_text part.0) longest true most_word)
+    go (Length longest) = number _ (then_count o (name_text part.0) longest)
+
+-- by a form
+pub then_form : {text : List ℕ} {place at : ℕ} → Past text place at → (form : List Part) →
+    IfOk (form_after form text at) (λ read. Past text place read.next)
+unfolding form_after parts_after
+then_form {text} {place} {at} o form =
+    reads_keep (Past text place) part_count _ (λ j from p. then_part p (part_at form j)) at o
 
 -- a part's number is one that it takes, and it has as many words as its number says
-module _ (part : Part) (text : List ℕ) (cursor : Cursor) where
-  pub part_bounded : (part_after part text cursor).held.number ≤ bound_of part
-  unfolding part_after
-  part_bounded = go part.1
-    where
-      go : (kind : Kind) → (part_by kind (name_text part.0) text cursor).held.number ≤ bound_by kind
-      go Nothing = omega arith
-      go (Number most) = number_most text cursor false most
-      go (Words longest most) = list_most text cursor (name_text part.0) longest false most
-      go (Signed longest) = list_most text cursor (name_text part.0) longest true most_word
-      go (Length longest) = count_most text cursor (name_text part.0) longest
+record Sized (part : Part) (held : Held) : Type 0 where
+  bounded : held.number ≤ bound_of part
+  counted : length held.words ≡ count_of part held.number
 
-  pub part_counted : length (part_after part text cursor).held.words ≡ count_of part
-      (part_after part text cursor).held.number
-  unfolding part_after
-  part_counted = go part.1
-    where
-      go : (kind : Kind) → length (part_by kind (name_text part.0) text cursor).held.words ≡ count_by kind
-          (part_by kind (name_text part.0) text cursor).held.number
-      go Nothing = refl
-      go (Number most) = refl
-      go (Words longest most) = words_length text cursor (name_text part.0) longest false most
-      go (Signed longest) = words_length text cursor (name_text part.0) longest true most_word
-      go (Length longest) = refl
+part_sized : (part : Part) (text : List ℕ) (at : ℕ) → IfOk (part_after part text at) (λ read. Sized part read.value)
+unfolding part_after
+part_sized part text at = go part.1 refl
+  where
+    number : (most : ℕ) (reading : Reading ℕ) → bound_of part ≡ most → ((n : ℕ) → count_of part n ≡ 0) →
+        IfOk reading (λ read. read.value ≤ most) → IfOk (number_part reading) (λ read. Sized part read.value)
+    number most (Ok read) b none h = record { bounded = rw b h; counted = sym (none read.value) }
+    number most (Err broken) b none h = tt
+
+    list : (longest : ℕ) (reading : Reading (List ℕ)) → bound_of part ≡ longest → ((n : ℕ) → count_of part n ≡ n) →
+        IfOk reading (λ read. length read.value ≤ longest) → IfOk (list_part reading) (λ read. Sized part read.value)
+    list longest (Ok read) b whole h = record { bounded = rw b h; counted = sym (whole _) }
+    list longest (Err broken) b whole h = tt
+
+    go : (kind : Kind) → part.1 ≡ kind →
+        IfOk (part_by kind (name_text part.0) text at) (λ read. Sized part read.value)
+    go Nothing k = record { bounded = omega arith; counted = rw k refl }
+    go (Number most) k = number most _ (ap bound_by k) (λ n. ap (λ kind. count_by kind n) k) (number_most text at false most)
+    go (Words longest most) k =
+        list longest _ (ap bound_by k) (λ n. ap (λ kind. count_by kind n) k)
+        (list_most text at (name_text part.0) longest false most)
+    go (Signed longest) k =
+        list longest _ (ap bound_by k) (λ n. ap (λ kind. count_by kind n) k)
+        (list_most text at (name_text part.0) longest true most_word)
+    go (Length longest) k =
+        number longest _ (ap bound_by k) (λ n. ap (λ kind. count_by kind n) k)
+        (count_most text at (name_text part.0) longest)
 
 -- a number that a part takes gives no more words than there is room for
 count_room : (part : Part) (number : ℕ) → number ≤ bound_of part → count_of part number ≤ room_of part
@@ -139,149 +170,165 @@ after_first at words w r z p =
     ap (take (length w)) (drop_at (take at words) ((w ++ r) ++ z) at (length-take-le at words p) ∙ append_assoc w r z)
     ∙ take-append_seam w (r ++ z)
 
--- a part's words leave the lent ones as long as they were
-follows_long : (part : Part) (text : List ℕ) (cursor : Cursor) (read : NumberRead) (found left : List ℕ) →
-    PartFollows part text cursor read found left → length found ≡ room_of part → length left ≡ length found
-follows_long part text cursor read found left f room =
-    let words = (part_after part text cursor).held.words in
-    let count : length words ≡ count_of part read.value =
-    part_counted part text cursor ∙ ap (count_of part) (sym f.number) in
-    let few : count_of part read.value ≤ length found =
-    rw (room, f.number) (count_room part _ (part_bounded part text cursor)) in
-    rw f.words (length_front found words (count_of part read.value) (count ∙ sym (length-take-le _ found few)))
+abbrev pub parts_of : List Placed → Parts
+parts_of list = record { 0 = list }
 
-abbrev pub parts_by : List ℕ → List ℕ → List ℕ → Parts
-parts_by numbers starts ends = record { numbers = numbers; starts = starts; ends = ends }
+-- what stands there in lent words
+abbrev held_by : Placed → List ℕ → Held
+held_by p words = held_of p.number (take (p.end - p.start) (drop p.start words))
 
--- the first k parts are read: the cursor after them, their numbers, and each list where the longest before it would end
-pub record FormSoFar (form : List Part) (text : List ℕ) (cursor : Cursor) (numbers starts ends words : List ℕ)
-    (size : ℕ) (next : Cursor) (at k : ℕ) : Type 0 where
-  pub most : k ≤ part_count
-  pub long : length words ≡ size
-  pub place : at ≡ place_of form k
-  pub following : next ≡ form_after k form text cursor
-  pub counts : numbers ≡ filled_below part_count 0 k (λ j. (held_at form text cursor j).number)
-  pub begins : starts ≡ filled_below part_count 0 k (place_of form)
-  pub closes : ends ≡ filled_below part_count 0 k
-      (λ j. place_of form j + count_of (part_at form j) (held_at form text cursor j).number)
-  pub lists : (j : ℕ) → j < k →
-      take (length (held_at form text cursor j).words) (drop (place_of form j) words) ≡ (held_at form text cursor j).words
+-- a part lies up to a place: a number that it takes, and as many words as it says
+record Lies (part : Part) (p : Placed) (limit : ℕ) : Type 0 where
+  bounded : p.number ≤ bound_of part
+  counted : p.end ≡ p.start + count_of part p.number
+  within : p.end ≤ limit
 
-module _ (form : List Part) (text : List ℕ) (cursor : Cursor) where
-  -- the words of part j have room before those of part k
-  held_within : (j k : ℕ) → j < k → place_of form j + length (held_at form text cursor j).words ≤ place_of form k
-  unfolding held_at
-  held_within j k p =
-      let middle = form_after j form text cursor in
-      omega (
-        arith,
-        place_within form j k p,
-        part_counted (part_at form j) text middle,
-        count_room (part_at form j) _ (part_bounded (part_at form j) text middle),
-      )
+lies_on : {part : Part} {p : Placed} {limit : ℕ} → Lies part p limit → (more : ℕ) → limit ≤ more → Lies part p more
+lies_on l more h = record { bounded = l.bounded; counted = l.counted; within = omega (arith, l.within) }
 
+-- the first k parts are read, each list where the longest before it would end, and the other parts hold nothing
+pub record FormSoFar (form : List Part) (text : List ℕ) (from : ℕ) (parts : List Placed) (words : List ℕ)
+    (at place k : ℕ) : Type 0 where
+  pub long : length parts ≡ part_count
+  pub standing : place ≡ place_of form k
+  pub after : parts_after k form text from ≡ Ok (read_of (parts_below k (parts_of parts) words) at)
+  lies : (j : ℕ) → j < k → Lies (part_at form j) (get_or parts j placed_none) place
+  rest : (j : ℕ) → k ≤ j → get_or parts j placed_none ≡ placed_none
+
+module _ (form : List Part) (text : List ℕ) (from : ℕ) where
   pub form_none : (words : List ℕ) →
-      FormSoFar form text cursor (replicate part_count 0) (replicate part_count 0) (replicate part_count 0) words
-      (length words) cursor 0 0
-  unfolding place_of sum_below form_after
+      FormSoFar form text from (replicate part_count placed_none) words from 0 0
+  unfolding place_of sum_below parts_after reads_below parts_below list_below
   form_none words = record {
-    most = omega arith;
     long = refl;
-    place = refl;
-    following = refl;
-    counts = filled_none part_count 0 _;
-    begins = filled_none part_count 0 _;
-    closes = filled_none part_count 0 _;
-    lists = λ j p. absurd (omega arith);
+    standing = refl;
+    after = refl;
+    lies = λ j p. absurd (omega arith);
+    rest = λ j p. nothing_at j (dec_lt j part_count);
   }
+    where
+      nothing_at : (j : ℕ) → Dec (j < part_count) → get_or (replicate part_count placed_none) j placed_none ≡ placed_none
+      nothing_at j (yes p) = get_or-replicate part_count j placed_none placed_none p
+      nothing_at j (no p) = get_or-eq_default (replicate part_count placed_none) placed_none {n = j} (omega arith)
 
-  module _ {numbers starts ends words : List ℕ} {size : ℕ} {next : Cursor} {at k : ℕ}
-      (f : FormSoFar form text cursor numbers starts ends words size next at k)
-      (room : place_of form part_count ≤ size) where
-    pub form_fits : k < part_count → at + room_of (part_at form k) ≤ length words
-    form_fits p = rw f.long (omega (arith, f.place, place_within form k part_count p))
+  module _ {parts : List Placed} {words : List ℕ} {at place k : ℕ}
+      (f : FormSoFar form text from parts words at place k) where
+    pub form_fits : place_of form part_count ≤ length words → k < part_count →
+        place + room_of (part_at form k) ≤ length words
+    form_fits room p = omega (arith, f.standing, place_within form k part_count p)
 
-    module _ (p : k < part_count) (read : NumberRead) (left : List ℕ) (end : ℕ) (e : end ≡ at + room_of (part_at form k))
-        (q : PartFollows (part_at form k) text next read (take (end - at) (drop at words)) left) where
-      -- what was read is part k, and has no more words than there is room for
-      number_here : read.value ≡ (held_at form text cursor k).number
-      unfolding held_at
-      number_here = q.number ∙ ap (λ c. (part_after (part_at form k) text c).held.number) f.following
+    -- the words of these parts stand before the place, whatever is written after it
+    below_same : (after : List Placed) (n : ℕ) (left : List ℕ) → place ≤ length words →
+        ((j : ℕ) → j < k → get_or after j placed_none ≡ get_or parts j placed_none) →
+        parts_below k (parts_of parts) words ≡ parts_below k (parts_of after) (put_mid place n words left)
+    unfolding parts_below
+    below_same after n left here same =
+        list_same k _ _ (λ j r. let p : Placed = get_or parts j placed_none in let l = f.lies j r in
+        ap (held_of p.number) (sym (within_kept (p.end - p.start) p.start place words (left ++ drop n (drop place words))
+        (omega (arith, l.within, l.counted)) here))
+        ∙ ap (λ q. held_by q (put_mid place n words left)) (sym (same j r)))
 
-      pub few_words : at + count_of (part_at form k) read.value ≤ length words
-      few_words =
-          let few : count_of (part_at form k) read.value ≤ room_of (part_at form k) =
-          rw q.number (count_room (part_at form k) _ (part_bounded (part_at form k) text next)) in
-          omega (arith, form_fits p, few)
+    module _ (p : k < part_count) (end : ℕ) (e : end ≡ place + room_of (part_at form k)) (fits : end ≤ length words)
+        (left : List ℕ) where
+      here : place ≤ length words
+      here = omega (arith, fits, e)
 
-      pub form_more : (close : ℕ) → close ≡ at + count_of (part_at form k) read.value →
-          FormSoFar form text cursor (set numbers k read.value) (set starts k at) (set ends k close)
-          (put_mid at (end - at) words left) size read.next end (k + 1)
-      unfolding form_after held_at
-      form_more close c =
-          let fits : end ≤ length words = rw e (form_fits p) in
-          let here : at ≤ length words = omega (arith, fits, e) in
-          let size_is : length (take (end - at) (drop at words)) ≡ room_of (part_at form k) =
-          mid_len at end words fits ∙ omega (arith, e) in
-          record {
-            most = omega arith;
-            long = same_len_mid at (end - at) words left (follows_long _ _ _ _ _ _ q size_is) ∙ f.long;
-            place = e ∙ ap (λ a. a + room_of (part_at form k)) f.place ∙ sym (place_next form k);
-            following = rw add-one (q.next ∙ ap (λ c. (part_after (part_at form k) text c).next) f.following);
-            counts = filled_next part_count 0 k _ numbers read.value p f.counts number_here;
-            begins = filled_next part_count 0 k _ starts at p f.begins f.place;
-            closes = filled_next part_count 0 k _ ends close p f.closes
-                (c ∙ ap₂ (λ a n. a + count_of (part_at form k) n) f.place number_here);
-            lists = λ j r. by_last k
-                (λ i. take (length (held_at form text cursor i).words)
-                (drop (place_of form i) (put_mid at (end - at) words left)) ≡ (held_at form text cursor i).words)
-                (λ i s. within_kept (length (held_at form text cursor i).words) (place_of form i) at words
-                (left ++ drop (end - at) (drop at words)) (omega (arith, f.place, held_within i k s)) here
-                ∙ f.lists i s)
-                (rw (← f.place, q.words, f.following)
-                (after_first at words (part_after (part_at form k) text (form_after k form text cursor)).held.words
-                (drop (count_of (part_at form k) read.value) (take (end - at) (drop at words)))
-                (drop (end - at) (drop at words)) here))
-                j (omega arith);
-          }
+      -- a part that is broken breaks the form
+      pub form_broken : {broken : Unreadable} → part_after (part_at form k) text at ≡ Err broken →
+          FormBroken form text from broken (put_mid place (end - place) words left)
+      unfolding form_after parts_after
+      form_broken b = record {
+        after = reads_broken _ from f.after b part_count p;
+        k = k;
+        parts = parts_of parts;
+        next = at;
+        before = f.after ∙ ap (λ list. Ok (read_of list at)) (below_same parts (end - place) left here (λ j r. refl));
+        here = b;
+      }
 
-    pub form_whole : part_count ≤ k → (next₁ : Cursor) → next₁ ≡ next →
-        FormFollows form text cursor (record { parts = parts_by numbers starts ends; next = next₁ }) words
-    unfolding parts_in form_parts held_at
-    form_whole p next₁ x =
-        let all : k ≡ part_count = omega (arith, f.most) in
-        let number : (j : ℕ) → j < part_count → get_or numbers j 0 ≡ (held_at form text cursor j).number =
-        λ j q. rw (f.counts, all) (filled_at part_count 0 _ part_count j q q) in
-        let start : (j : ℕ) → j < part_count → get_or starts j 0 ≡ place_of form j =
-        λ j q. rw (f.begins, all) (filled_at part_count 0 (place_of form) part_count j q q) in
-        let end : (j : ℕ) → j < part_count →
-        get_or ends j 0 ≡ place_of form j + count_of (part_at form j) (held_at form text cursor j).number =
-        λ j q. rw (f.closes, all) (filled_at part_count 0 _ part_count j q q) in
-        let middle : ℕ → Cursor = λ j. form_after j form text cursor in
+      module _ (read : Read ℕ)
+          (q : PartFollows (part_at form k) text at read (take (end - place) (drop place words)) left) where
+        sized : Sized (part_at form k) (held_of read.value q.words)
+        sized = IfOk-at_ok (λ r. Sized (part_at form k) r.value) q.after (part_sized (part_at form k) text at)
+
+        -- it has no more words than there is room for
+        pub few_words : place + count_of (part_at form k) read.value ≤ end
+        few_words = omega (arith, e, count_room (part_at form k) read.value sized.bounded)
+
+        pub form_more : (close : ℕ) → close ≡ place + count_of (part_at form k) read.value →
+            FormSoFar form text from (set parts k (placed read.value place close)) (put_mid place (end - place) words left)
+            read.next end (k + 1)
+        unfolding parts_after parts_below list_below
+        form_more close c =
+            let new : List ℕ = put_mid place (end - place) words left in
+            let after : List Placed = set parts k (placed read.value place close) in
+            let same : (j : ℕ) → j < k → get_or after j placed_none ≡ get_or parts j placed_none =
+            λ j r. get_or-set_other parts k j (placed read.value place close) placed_none (λ t. absurd (omega arith)) in
+            let last : get_or after k placed_none ≡ placed read.value place close =
+            get_or-set_same parts k (placed read.value place close) placed_none (omega (arith, f.long)) in
+            let size : close - place ≡ length q.words = omega (arith, c, sized.counted) in
+            record {
+              long = length-set parts k _ ∙ f.long;
+              standing = e ∙ ap (λ a. a + room_of (part_at form k)) f.standing ∙ sym (place_next form k);
+              after =
+                  reads_more _ from f.after q.after
+                  ∙ ap (λ list. Ok (read_of list read.next))
+                  (rw add-one (ap₂ (λ first held. first ++ (held ∷ [])) (below_same after (end - place) left here same)
+                  (sym (ap (λ p. held_by p new) last
+                  ∙ ap (held_of read.value) (rw (size, q.lent)
+                  (after_first place words q.words
+                  (drop (count_of (part_at form k) read.value) (take (end - place) (drop place words)))
+                  (drop (end - place) (drop place words)) here))))));
+              lies = λ j r. by_last k (λ i. Lies (part_at form i) (get_or after i placed_none) end)
+                  (λ i s. rw (same i s) (lies_on (f.lies i s) end (omega (arith, e))))
+                  (rw last (record { bounded = sized.bounded; counted = c; within = omega (arith, c, few_words) })) j
+                  (omega arith);
+              rest = λ j r. get_or-set_other parts k j _ placed_none (λ t. absurd (omega arith)) ∙ f.rest j (omega arith);
+            }
+
+    -- past the last part there is nothing
+    form_past : length form ≤ k → FormSoFar form text from parts words at place (k + 1)
+    unfolding parts_after part_after parts_below list_below
+    form_past p =
+        let nothing : part_at form k ≡ record { 0 = []; 1 = Nothing } = get_or-eq_default form _ {n = k} p in
+        let none : get_or parts k placed_none ≡ placed_none = f.rest k (omega arith) in
         record {
-          parts = list_same part_count _ _ (λ j q.
-              let size_is : get_or ends j 0 - get_or starts j 0 ≡ length (held_at form text cursor j).words =
-              omega (arith, start j q, end j q, part_counted (part_at form j) text (middle j)) in
-              rw (number j q, size_is, start j q) (ap (held_of _) (f.lists j (rw all q))));
-          next = x ∙ f.following ∙ ap (λ m. form_after m form text cursor) all;
-          held = record {
-            bounded = λ j q. rw (number j q) (part_bounded (part_at form j) text (middle j));
-            counted = λ j q. rw (number j q, start j q, end j q) refl;
-            within = λ j q. omega (
-              arith,
-              end j q,
-              f.long,
-              room,
-              place_within form j part_count q,
-              count_room (part_at form j) _ (part_bounded (part_at form j) text (middle j)),
-            );
-          };
+          long = f.long;
+          standing = f.standing ∙ sym (place_next form k ∙ rw nothing (add-zero (place_of form k)));
+          after =
+              reads_more _ from f.after {value = held_of 0 []} {last = at} (rw nothing refl)
+              ∙ ap (λ list. Ok (read_of list at)) (rw (add-one, none) refl);
+          lies = λ j r. by_last k (λ i. Lies (part_at form i) (get_or parts i placed_none) place) f.lies
+              (rw (none, nothing) (record { bounded = omega arith; counted = refl; within = omega arith })) j (omega arith);
+          rest = λ j r. f.rest j (omega arith);
         }
+
+  form_ends : (n k : ℕ) → k + n ≡ part_count → {parts : List Placed} {words : List ℕ} {at place : ℕ} →
+      FormSoFar form text from parts words at place k → length form ≤ k →
+      FormSoFar form text from parts words at place part_count
+  form_ends zero k e f p = rw (← e, add-zero) f
+  form_ends (suc n) k e f p = form_ends n (k + 1) (omega arith) (form_past f p) (omega arith)
+
+  pub form_whole : {parts : List Placed} {words : List ℕ} {at place : ℕ} →
+      FormSoFar form text from parts words at place (length form) → length form ≤ part_count →
+      place_of form part_count ≤ length words →
+      FormFollows form text from (read_of (parts_of parts) at) words
+  unfolding form_after parts_in
+  form_whole f few room =
+      let whole = form_ends (part_count - length form) (length form) (omega arith) f (omega arith) in
+      record {
+        after = whole.after;
+        held = record {
+          bounded = λ j p. (whole.lies j p).bounded;
+          counted = λ j p. (whole.lies j p).counted;
+          within = λ j p. omega (arith, (whole.lies j p).within, whole.standing);
+        };
+      }
 
 -- what parts hold of part k
 module _ (parts : Parts) (words : List ℕ) (k : ℕ) (p : k < part_count) where
   pub part_held : held_in (parts_in parts words) k ≡ held_of (number_of parts k) (words_in parts words k)
-  unfolding parts_in
+  unfolding parts_in parts_below
   part_held = list_at (λ j. held_of (number_of parts j) (words_in parts words j)) part_count (held_of 0 []) k p
 
 -- a part of a form lies within the words, and has no more words than there is room for
@@ -303,6 +350,25 @@ part_none {form} {parts} words h k p e = go (words_in parts words k) (rw e at (p
     go : (l : List ℕ) → length l ≤ 0 → l ≡ []
     go [] q = refl
     go (x ∷ l) q = absurd (omega arith)
+
+-- past the last part of a form there is no text
+module _ (form : List Part) (parts : List Held) where
+  text_ends : (n k : ℕ) → k + n ≡ part_count → length form ≤ k →
+      text_below k (λ j. part_text (part_at form j) (held_in parts j))
+      ≡ text_below part_count (λ j. part_text (part_at form j) (held_in parts j))
+  unfolding text_below part_text
+  text_ends zero k e p =
+      ap (λ n. text_below n (λ j. part_text (part_at form j) (held_in parts j))) (sym (add-zero k) ∙ e)
+  text_ends (suc n) k e p =
+      let nothing : part_at form k ≡ record { 0 = []; 1 = Nothing } = get_or-eq_default form _ {n = k} p in
+      let text : ℕ → List ℕ = λ j. part_text (part_at form j) (held_in parts j) in
+      sym (ap (λ part. text_below k text ++ part_text part (held_in parts k)) nothing ∙ append-nil (text_below k text))
+      ∙ text_ends n (suc k) (omega arith) (omega arith)
+
+  pub text_whole : length form ≤ part_count →
+      text_below (length form) (λ j. part_text (part_at form j) (held_in parts j))
+      ≡ text_below part_count (λ j. part_text (part_at form j) (held_in parts j))
+  text_whole few = text_ends (part_count - length form) (length form) (omega arith) (omega arith)
 
 -- what is said of each of the twelve parts
 pub each_part : (P : ℕ → Type 0) → P 0 → P 1 → P 2 → P 3 → P 4 → P 5 → P 6 → P 7 → P 8 → P 9 → P 10 → P 11 →

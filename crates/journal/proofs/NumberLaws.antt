@@ -1,33 +1,26 @@
 -- Laws of the number that digits write. Assumes nothing.
-use mathlib.Core.Path.{◌≡◌, refl, sym}
-use mathlib.Core.Bool.{Bool, true, false}
+use mathlib.Core.Path.{◌≡◌}
+use mathlib.Core.Bool.{true}
 use mathlib.Core.List.{List}
-use Prim.Native.Nat.{ℕ, ◌+◌, ◌*◌, ◌^◌, ◌≤◌}
+use Prim.Native.Nat.{ℕ, zero, suc, ◌≤◌}
 use native.Mathlib.Omega.{arith}
-use native.Mathlib.Numerals.{add-one}
-use lib.Dec.{leb, ltb}
-use borrow.Author.Tests.{lt-ltb, le-ltb, leb-true, leb-false}
-use Rattle.numbers.proofs.BoolLaws.{and_left, and_right}
-use Rattle.journal.specs.Token.{byte_at}
-use Rattle.journal.specs.Number.{is_digit, digit_taken, digits_read}
-use Rattle.journal.specs.declared.number.Reading.{Reading}
+use native.Mathlib.Decide.{ℕ_discrete}
+use lib.Dec.{leb}
+use borrow.Author.Tests.{leb-true}
+use Rattle.std.specs.Prelude.{None}
+use Rattle.numbers.proofs.BoolLaws.{and_left}
+use Rattle.journal.specs.Number.{is_digit, digits_read}
 
 pub digit_least : (byte : ℕ) → is_digit byte ≡ true → 48 ≤ byte
 digit_least byte h = leb-true 48 byte (and_left (leb 48 byte) (leb byte 57) h)
 
-pub digit_most : (byte : ℕ) → is_digit byte ≡ true → byte ≤ 57
-digit_most byte h = leb-true byte 57 (and_right (leb 48 byte) (leb byte 57) h)
-
--- the last value that takes one more digit takes those up to 5
-pub fits_same : (value digit : ℕ) → value ≡ 1844674407370955161 → leb digit 5 ≡ ltb (value * 10 + digit) (2 ^ 64)
-fits_same value digit e = go (leb digit 5) refl
-  where
-    go : (b : Bool) → leb digit 5 ≡ b → b ≡ ltb (value * 10 + digit) (2 ^ 64)
-    go true h = sym (lt-ltb (value * 10 + digit) (2 ^ 64) (omega (arith, e, leb-true digit 5 h)))
-    go false h = sym (le-ltb (value * 10 + digit) (2 ^ 64) (omega (arith, e, leb-false digit 5 h)))
-
--- one more digit is read
-pub read_next : (text : List ℕ) (start k : ℕ) (reading : Reading) → reading ≡ digits_read k text start →
-    digit_taken reading (byte_at text (start + k)) ≡ digits_read (k + 1) text start
+-- where so many bytes are no number, more are none
+pub digits_none : (bytes : List ℕ) (k j : ℕ) → k ≤ j → digits_read k bytes ≡ None → digits_read j bytes ≡ None
 unfolding digits_read
-read_next text start k reading e = rw (add-one, e) refl
+digits_none bytes zero zero p h = h
+digits_none bytes (suc k) zero p h = absurd (omega arith)
+digits_none bytes k (suc j) p h = go (λ q. digits_none bytes k j q h) (ℕ_discrete k (suc j))
+  where
+    go : (k ≤ j → digits_read j bytes ≡ None) → Dec (k ≡ suc j) → digits_read (suc j) bytes ≡ None
+    go before (yes e) = rw e at h
+    go before (no n) = rw (before (omega arith))

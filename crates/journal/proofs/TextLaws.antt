@@ -6,13 +6,10 @@ use Prim.Native.Nat.{ℕ, suc, ◌+◌, ◌-◌, ◌<◌, ◌≤◌}
 use native.Mathlib.Nat.{add-zero}
 use native.Mathlib.Omega.{arith}
 use lib.ListN.{length, get_or, drop, length-drop, get_or-append}
-use lib.Seq.{drop-drop, drop-append_seam, get_or-drop}
-use borrow.Author.Tests.{eq-eqb}
-use Rattle.numbers.proofs.TestLaws.{all_of}
+use lib.Seq.{drop-drop, drop-append_seam, take-append_seam, get_or-drop}
 use Rattle.text.specs.Text.{blank, line_end}
 use Rattle.journal.specs.Token.{byte_at, ends_token, comment_after, start_from, token_start, end_from}
-use Rattle.journal.specs.Token.{token_end, token_after}
-use Rattle.journal.specs.Word.{same_byte, is_word}
+use Rattle.journal.specs.Token.{token_end, token_after, bytes_of}
 use Rattle.journal.proofs.TokenLaws.{end_here, end_on, start_here, start_on, token_from}
 
 module _ (text : List ℕ) (k : ℕ) (tail : List ℕ) (h : drop k text ≡ tail) where
@@ -147,10 +144,8 @@ module _ {text : List ℕ} {from : ℕ} {token tail : List ℕ} (t : TokenStands
   pub token_after_lem : drop end text ≡ tail
   token_after_lem = rw t.end (stands_after text start token tail t.start)
 
-  -- the token is the word that stands there
-  pub token_word : is_word text start end token ≡ true
-  unfolding is_word same_byte
-  token_word =
+  -- the token's bytes are those that stand there
+  pub token_bytes : bytes_of text (token_after text from) ≡ token
+  token_bytes =
       let size : end - start ≡ length token = omega (arith, t.end) in
-      rw (eq-eqb _ (length token) size)
-      (all_of (length token) _ (λ i p. eq-eqb _ _ (byte_of text start token tail t.start i p)))
+      rw (size, t.start) (take-append_seam token tail)

@@ -1,18 +1,18 @@
 -- The commands of a journal (docs/JOURNAL.md, "Input"): which one stands next, and the form of what follows its word.
 -- Assumes nothing.
-use Rattle.std.specs.Prelude.{Bool, true, false, cond, List, [], ◌∷◌, ℕ, eqb, length, replicate}
+use Rattle.std.specs.Prelude.{Bool, true, false, cond, List, [], ◌∷◌, ℕ, eqb, length, Result, Ok, Option, Some, None, option_map, bytes_eq}
+use Rattle.std.specs.List.{find}
 use Prim.Native.String.{String}
 use Rattle.numbers.specs.Sizes.{most_distributors, sector_places}
 use Rattle.text.specs.Text.{bytes, name_text}
-use Rattle.journal.specs.Token.{token_after}
-use Rattle.journal.specs.Word.{is_word}
-use Rattle.journal.specs.Cursor.{read_to, broken_at, most_word}
-use Rattle.journal.specs.Form.{part, part_count, nothing}
-use Rattle.journal.specs.declared.token.Token.{Token}
+use Rattle.journal.specs.Token.{token_after, bytes_of}
+use Rattle.journal.specs.Cursor.{and_then, token_read, most_word}
+use Rattle.journal.specs.Form.{part, nothing}
+use Rattle.journal.specs.declared.cursor.Unreadable.{Unreadable}
+use Rattle.journal.specs.declared.cursor.Read.{Read}
 use Rattle.journal.specs.declared.command.Command.{Command}
 use Rattle.journal.specs.declared.command.Command.TheVariants.{Open, Fix, Settle, Save, Load, Interim, Join}
-use Rattle.journal.specs.declared.command.Command.TheVariants.{ReadSheet, WriteSheet, Unknown, End}
-use Rattle.journal.specs.declared.command.CommandRead.{CommandRead}
+use Rattle.journal.specs.declared.command.Command.TheVariants.{ReadSheet, WriteSheet}
 use Rattle.journal.specs.declared.command.CommandRow.{CommandRow}
 use Rattle.journal.specs.declared.form.Kind.{Kind}
 use Rattle.journal.specs.declared.form.Kind.TheVariants.{Number, List as Words, Signed, Length}
@@ -30,11 +30,11 @@ abbrev list : Kind
 list = Words longest_list most_word
 
 abbrev pub empty_form : List Part
-empty_form = replicate part_count nothing
+empty_form = []
 
 -- "open N"
 abbrev pub open_form : List Part
-open_form = part "N           " number ∷ replicate 11 nothing
+open_form = part "N           " number ∷ []
 
 -- "fix MONTH DOLLAR FACTOR FIRST DAY series K .. lines K .. sectors K .. prices K power K"; "interim MONTH DOLLAR
 -- FACTOR FIRST DAY series K .. lines K .. sectors K .. inforce K .. prices K power K"
@@ -43,13 +43,13 @@ fixing_form is_interim =
     part "MONTH       " number ∷ part "DOLLAR      " number ∷ part "FACTOR      " number ∷ part "FIRST       " number
     ∷ part "DAY         " number ∷ part "series      " list ∷ part "lines       " list ∷ part "sectors     " list
     ∷ cond is_interim (part "inforce     " list) nothing ∷ part "prices      " (Length longest_list)
-    ∷ part "power       " (Length longest_list) ∷ nothing ∷ []
+    ∷ part "power       " (Length longest_list) ∷ []
 
 -- "settle MONTH readings K .. losses K .. transfers K"
 abbrev pub settle_form : List Part
 settle_form =
     part "MONTH       " number ∷ part "readings    " list ∷ part "losses      " list
-    ∷ part "transfers   " (Length longest_list) ∷ replicate 8 nothing
+    ∷ part "transfers   " (Length longest_list) ∷ []
 
 -- "load N LAST FIXED MONTH DAY OLDER present K .. charges K .. olderpresent K .. oldercharges K .. balances K .. counts
 -- K .."; "FIXED, OLDER and the words of `present` and `olderpresent` are 0 or 1"
@@ -65,13 +65,13 @@ load_form =
 abbrev pub read_sheet_form : List Part
 read_sheet_form =
     part "N           " number ∷ part "sheet       " (Words longest_list 255)
-    ∷ part "readings    " (Length longest_list) ∷ replicate 9 nothing
+    ∷ part "readings    " (Length longest_list) ∷ []
 
 -- "writesheet N readings K .. sheet K"
 abbrev pub write_sheet_form : List Part
 write_sheet_form =
     part "N           " number ∷ part "readings    " list ∷ part "sheet       " (Length longest_list)
-    ∷ replicate 9 nothing
+    ∷ []
 
 abbrev pub command_form : Command → List Part
 command_form Open = open_form
@@ -83,8 +83,6 @@ command_form Interim = fixing_form true
 command_form Join = empty_form
 command_form ReadSheet = read_sheet_form
 command_form WriteSheet = write_sheet_form
-command_form Unknown = empty_form
-command_form End = empty_form
 
 -- the commands by their names
 abbrev row : String → Command → CommandRow
@@ -96,17 +94,13 @@ command_rows =
     ∷ row "load        " Load ∷ row "interim     " Interim ∷ row "join        " Join
     ∷ row "readsheet   " ReadSheet ∷ row "writesheet  " WriteSheet ∷ []
 
--- the first command whose name is the token; "an unknown word"
-unfoldable pub command_among : List ℕ → Token → List CommandRow → CommandRead
-command_among text token [] = record { command = Unknown; next = broken_at token.start }
-command_among text token (row ∷ rows) =
-    cond (is_word text token.start token.end (name_text row.0))
-    (record { command = row.1; next = read_to token.end })
-    (command_among text token rows)
+-- the command of a word
+unfoldable pub command_named : List ℕ → Option Command
+command_named word = option_map (λ row. row.1) (find (λ row. bytes_eq word (name_text row.0)) command_rows)
 
--- the next token's command
-unfoldable pub command_after : List ℕ → ℕ → CommandRead
+-- the next token's command, or none where no token is left; "an unknown word"
+unfoldable pub command_after : List ℕ → ℕ → Result (Option (Read Command)) Unreadable
 command_after text at =
     let token = token_after text at in
-    cond (eqb token.start (length text)) (record { command = End; next = read_to token.end })
-    (command_among text token command_rows)
+    cond (eqb token.start (length text)) (Ok None)
+    (and_then (token_read token (command_named (bytes_of text token))) (λ read. Ok (Some read)))

@@ -1,24 +1,24 @@
 -- A form: the parts of a command's text in their order (docs/JOURNAL.md, "Input"), what a text holds of them, and the
 -- text that is written of them. Assumes nothing.
-use Rattle.std.specs.Prelude.{Bool, true, false, ◌≡◌, List, [], ◌∷◌, ◌++◌, ℕ, zero, suc, ◌+◌, ◌-◌, ◌≤◌, ◌<◌, length, get_or, take, drop}
+use Rattle.std.specs.Prelude.{Bool, true, false, ◌≡◌, List, [], ◌∷◌, ◌++◌, ℕ, ◌+◌, ◌-◌, ◌≤◌, ◌<◌, length, get_or, take, drop, Ok, Err}
 use Prim.Native.String.{String}
 use Rattle.numbers.specs.Bounded.{sum_below, list_below}
 use Rattle.text.specs.Text.{bytes, line_end, word, words_by, text_below, name_text}
-use Rattle.journal.specs.Cursor.{number_after, most_word}
-use Rattle.journal.specs.List.{count_after, list_after, list_words}
-use Rattle.journal.specs.declared.cursor.Cursor.{Cursor}
-use Rattle.journal.specs.declared.cursor.NumberRead.{NumberRead}
+use Rattle.journal.specs.Cursor.{Reading, read_of, map_read, reads_below, number_after, most_word}
+use Rattle.journal.specs.List.{count_after, list_after}
+use Rattle.journal.specs.declared.cursor.Read.{Read}
+use Rattle.journal.specs.declared.cursor.Unreadable.{Unreadable}
 use Rattle.journal.specs.declared.form.Kind.{Kind}
 use Rattle.journal.specs.declared.form.Kind.TheVariants.{Nothing, Number, List as Words, Signed, Length}
 use Rattle.journal.specs.declared.form.Part.{Part}
 use Rattle.journal.specs.declared.form.Parts.{Parts}
-use Rattle.journal.specs.declared.form.FormRead.{FormRead}
+use Rattle.journal.specs.declared.form.Placed.{Placed}
 
 -- a part by its name of 12 bytes
 abbrev pub part : String → Kind → Part
 part name kind = record { 0 = bytes name; 1 = kind }
 
--- a form has twelve parts, some of them nothing where it has fewer
+-- a form has at most twelve parts; past its last there is nothing
 abbrev pub part_count : ℕ
 part_count = 12
 
@@ -69,55 +69,59 @@ room_of part = count_of part (bound_of part)
 unfoldable pub place_of : List Part → ℕ → ℕ
 place_of form k = sum_below k (λ j. room_of (part_at form j))
 
--- what a text holds of a part from a cursor on, and how far it is read with it
-pub record PartRead : Type 0 where
-  pub held : Held
-  pub next : Cursor
+-- what a text holds of a part from a place on, and how far it is read with it
+abbrev pub number_part : Reading ℕ → Reading Held
+number_part reading = map_read (λ number. held_of number []) reading
 
-abbrev pub part_read : NumberRead → List ℕ → PartRead
-part_read read words = record { held = held_of read.value words; next = read.next }
+abbrev pub list_part : Reading (List ℕ) → Reading Held
+list_part reading = map_read (λ words. held_of (length words) words) reading
 
-abbrev pub part_by : Kind → List ℕ → List ℕ → Cursor → PartRead
-part_by Nothing name text cursor = record { held = held_of 0 []; next = cursor }
-part_by (Number most) name text cursor = part_read (number_after text cursor false most) []
-part_by (Words longest most) name text cursor =
-    part_read (list_after text cursor name longest false most) (list_words text cursor name longest false most)
-part_by (Signed longest) name text cursor =
-    part_read (list_after text cursor name longest true most_word) (list_words text cursor name longest true most_word)
-part_by (Length longest) name text cursor = part_read (count_after text cursor name longest) []
+abbrev pub part_by : Kind → List ℕ → List ℕ → ℕ → Reading Held
+part_by Nothing name text at = Ok (read_of (held_of 0 []) at)
+part_by (Number most) name text at = number_part (number_after text at false most)
+part_by (Words longest most) name text at = list_part (list_after text at name longest false most)
+part_by (Signed longest) name text at = list_part (list_after text at name longest true most_word)
+part_by (Length longest) name text at = number_part (count_after text at name longest)
 
-unfoldable pub part_after : Part → List ℕ → Cursor → PartRead
-part_after part text cursor = part_by part.1 (name_text part.0) text cursor
+unfoldable pub part_after : Part → List ℕ → ℕ → Reading Held
+part_after part text at = part_by part.1 (name_text part.0) text at
 
--- how far the text is read with the first k parts
-unfoldable pub form_after : ℕ → List Part → List ℕ → Cursor → Cursor
-form_after zero form text cursor = cursor
-form_after (suc k) form text cursor = (part_after (part_at form k) text (form_after k form text cursor)).next
-
--- what the text holds of part k
-unfoldable pub held_at : List Part → List ℕ → Cursor → ℕ → Held
-held_at form text cursor k = (part_after (part_at form k) text (form_after k form text cursor)).held
+-- of the first k parts
+unfoldable pub parts_after : ℕ → List Part → List ℕ → ℕ → Reading (List Held)
+parts_after k form text at = reads_below k (λ j from. part_after (part_at form j) text from) at
 
 -- of all parts
-unfoldable pub form_parts : List Part → List ℕ → Cursor → List Held
-form_parts form text cursor = list_below part_count (held_at form text cursor)
+unfoldable pub form_after : List Part → List ℕ → ℕ → Reading (List Held)
+form_after form text at = parts_after part_count form text at
 
 -- the number of part k, and where its words start and end in the lent ones
+abbrev pub placed : ℕ → ℕ → ℕ → Placed
+placed number start end = record { number = number; start = start; end = end }
+
+abbrev pub placed_none : Placed
+placed_none = placed 0 0 0
+
+abbrev pub placed_at : Parts → ℕ → Placed
+placed_at parts k = get_or parts.0 k placed_none
+
 abbrev pub number_of : Parts → ℕ → ℕ
-number_of parts k = get_or parts.numbers k 0
+number_of parts k = (placed_at parts k).number
 
 abbrev pub start_of : Parts → ℕ → ℕ
-start_of parts k = get_or parts.starts k 0
+start_of parts k = (placed_at parts k).start
 
 abbrev pub end_of : Parts → ℕ → ℕ
-end_of parts k = get_or parts.ends k 0
+end_of parts k = (placed_at parts k).end
 
 abbrev pub words_in : Parts → List ℕ → ℕ → List ℕ
 words_in parts words k = take (end_of parts k - start_of parts k) (drop (start_of parts k) words)
 
--- what parts hold
+-- what the first k parts hold, and all of them
+unfoldable pub parts_below : ℕ → Parts → List ℕ → List Held
+parts_below k parts words = list_below k (λ j. held_of (number_of parts j) (words_in parts words j))
+
 unfoldable pub parts_in : Parts → List ℕ → List Held
-parts_in parts words = list_below part_count (λ k. held_of (number_of parts k) (words_in parts words k))
+parts_in parts words = parts_below part_count parts words
 
 -- parts as a form has them: numbers that it takes, and as many words as they say, within the lent ones
 pub record FormHeld (form : List Part) (parts : Parts) (size : ℕ) : Type 0 where
@@ -142,19 +146,25 @@ pub record Takes (part : Part) (held : Held) : Type 0 where
   pub words : (i : ℕ) → i < length held.words → get_or held.words i 0 ≤ greatest_by part.1
   pub small : (i : ℕ) → i < length held.words → get_or held.words i 0 ≤ most_word
 
--- a part that was read: its number, how far the text is read, and its words first in the lent ones
-pub record PartFollows (part : Part) (text : List ℕ) (cursor : Cursor) (read : NumberRead) (found left : List ℕ)
-    : Type 0 where
-  pub number : read.value ≡ (part_after part text cursor).held.number
-  pub next : read.next ≡ (part_after part text cursor).next
-  pub words : left ≡ (part_after part text cursor).held.words ++ drop (count_of part read.value) found
+-- a part that was read: its number, and its words first in the lent ones
+pub record PartFollows (part : Part) (text : List ℕ) (at : ℕ) (read : Read ℕ) (found left : List ℕ) : Type 0 where
+  pub words : List ℕ
+  pub after : part_after part text at ≡ Ok (read_of (held_of read.value words) read.next)
+  pub lent : left ≡ words ++ drop (count_of part read.value) found
 
--- a form that was read: its parts, and how far the text is read, or the byte of what cannot be read
-pub record FormFollows (form : List Part) (text : List ℕ) (cursor : Cursor) (read : FormRead) (words : List ℕ) : Type 0
-  where
-    pub parts : parts_in read.parts words ≡ form_parts form text cursor
-    pub next : read.next ≡ form_after part_count form text cursor
-    pub held : FormHeld form read.parts (length words)
+-- a form that was read: its parts, and how far the text is read
+pub record FormFollows (form : List Part) (text : List ℕ) (at : ℕ) (read : Read Parts) (words : List ℕ) : Type 0 where
+  pub after : form_after form text at ≡ Ok (read_of (parts_in read.value words) read.next)
+  pub held : FormHeld form read.value (length words)
+
+-- a form that is broken: the parts before the broken one were read, and their words stand in the lent ones
+pub record FormBroken (form : List Part) (text : List ℕ) (at : ℕ) (broken : Unreadable) (words : List ℕ) : Type 0 where
+  pub after : form_after form text at ≡ Err broken
+  pub k : ℕ
+  pub parts : Parts
+  pub next : ℕ
+  pub before : parts_after k form text at ≡ Ok (read_of (parts_below k parts words) next)
+  pub here : part_after (part_at form k) text next ≡ Err broken
 
 -- a list or a length on a line of its own
 unfoldable pub list_text : List ℕ → Bool → ℕ → List ℕ → List ℕ

@@ -1,5 +1,4 @@
 pub mod Token
-pub mod Word
 pub mod Number
 pub mod Cursor
 pub mod List

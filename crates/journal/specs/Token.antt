@@ -1,5 +1,5 @@
 -- The tokens of a journal: blanks, comments, where a token starts and where it ends. Assumes nothing.
-use Rattle.std.specs.Prelude.{Bool, false, cond, not, ◌&&◌, ◌||◌, List, ℕ, zero, suc, ◌+◌, ◌-◌, min, eqb, length, get_or}
+use Rattle.std.specs.Prelude.{Bool, false, cond, not, ◌&&◌, ◌||◌, List, ℕ, zero, suc, ◌+◌, ◌-◌, min, eqb, length, get_or, take, drop}
 use Rattle.journal.specs.declared.token.Token.{Token}
 
 -- a text's byte; past its end 0
@@ -42,3 +42,7 @@ unfoldable pub token_after : List ℕ → ℕ → Token
 token_after text from =
     let start = token_start text (min from (length text)) in
     record { start = start; end = token_end text start }
+
+-- its bytes
+abbrev pub bytes_of : List ℕ → Token → List ℕ
+bytes_of text token = take (token.end - token.start) (drop token.start text)

@@ -1,83 +1,65 @@
 // Reading on from a place in a journal: the next word or number. What cannot be read is told by the byte where its
-// token starts, and after it nothing is read.
+// token starts.
 ghost use Rattle.std.specs.Prelude.{◌≡◌};
 ghost use Rattle.text.specs.Text.{name_text};
-ghost use Rattle.journal.specs.Cursor.{read_to, broken_at, word_after, number_from, number_after};
+ghost use Rattle.journal.specs.Cursor.{token_read, at_most, word_after, number_after};
 
-use crate::number::{Reading, read_token};
+use crate::number::read_digits;
 use crate::token::{Token, next_token};
-use crate::word::is_name;
-use text::name::NAME;
+use text::name::{NAME, name_bytes};
 
-// How far the text is read; where it is broken, the byte of the token that could not be read.
+// The byte where the token starts that cannot be read.
+#[derive(Clone, Copy, PartialEq, Eq)]
+pub struct Unreadable(pub usize);
+
+// What was read, and how far the text is read with it.
 #[derive(Clone, Copy)]
-pub struct Cursor {
-    pub at: usize,
-    pub broken: bool,
+pub struct Read<T> {
+    pub value: T,
+    pub next: usize,
 }
 
-#[derive(Clone, Copy)]
-pub struct NumberRead {
-    pub value: u64,
-    pub next: Cursor,
-}
-
-// The text is read up to a place.
-pub fn read_to(at: usize) -> Cursor
-    ensures { result ≡ read_to at }
-{
-    Cursor { at, broken: false }
-}
-
-// The token at a place cannot be read.
-pub fn broken_at(at: usize) -> Cursor
-    ensures { result ≡ broken_at at }
-{
-    Cursor { at, broken: true }
-}
-
-// Reads the given name.
-pub(crate) fn next_name(text: &[u8], cursor: Cursor, name: [u8; NAME]) -> Cursor
-    ensures { result ≡ word_after text.now cursor (name_text name) }
-{
-    if cursor.broken {
-        return cursor;
-    }
-    let token = next_token(text, cursor.at);
-    if is_name(text, token.start, token.end, name) {
-        return read_to(token.end);
-    }
-    broken_at(token.start)
-}
-
-// A token's reading as a number of at most `most`.
-fn number_from(reading: Reading, most: u64, token: Token) -> NumberRead
-    ensures { result ≡ number_from reading most token }
-{
-    if let Reading::Number(value) = reading {
-        if value <= most {
-            let next = read_to(token.end);
-            return NumberRead { value, next };
+impl Token {
+    // What the token is read as.
+    pub(crate) fn read<T>(self, value: Option<T>) -> Result<Read<T>, Unreadable>
+        ensures { result ≡ token_read self value }
+    {
+        match value {
+            Some(value) => Ok(Read {
+                value,
+                next: self.end,
+            }),
+            None => Err(Unreadable(self.start)),
         }
     }
-    let next = broken_at(token.start);
-    NumberRead { value: 0, next }
+}
+
+// Reads the given name: how far the text is read with it.
+pub(crate) fn next_name(text: &[u8], at: usize, name: [u8; NAME]) -> Result<usize, Unreadable>
+    ensures { result ≡ word_after text.now at (name_text name) }
+{
+    let token = next_token(text, at);
+    if token.bytes(text) == name_bytes(&name) {
+        return Ok(token.end);
+    }
+    Err(Unreadable(token.start))
+}
+
+// A number that is not above the most.
+fn at_most(number: Option<u64>, most: u64) -> Option<u64>
+    ensures { result ≡ at_most number most }
+{
+    match number {
+        Some(value) if value <= most => Some(value),
+        _ => None,
+    }
 }
 
 // Reads a number of at most `most`, signed or not.
-pub fn next_number(text: &[u8], cursor: Cursor, signed: bool, most: u64) -> NumberRead
-    ensures { result ≡ number_after text.now cursor signed most }
+pub fn next_number(text: &[u8], at: usize, signed: bool, most: u64) -> Result<Read<u64>, Unreadable>
+    ensures { result ≡ number_after text.now at signed most }
 {
-    if cursor.broken {
-        return NumberRead {
-            value: 0,
-            next: cursor,
-        };
-    }
-    let token = next_token(text, cursor.at);
-    number_from(
-        read_token(text, token.start, token.end, signed),
-        most,
-        token,
-    )
+    let token = next_token(text, at);
+    let number = read_digits(token.bytes(text), signed);
+    token.read(at_most(number, most))
 }

@@ -1,20 +1,24 @@
 // A form: the parts of a command's text in their order, as data. One reader and one writer serve every form.
-ghost use Rattle.std.specs.Prelude.{◌≡◌, ◌<◌, ◌≤◌, length};
-ghost use Rattle.text.specs.Buffer.{buffer_of, written};
-ghost use Rattle.journal.specs.Form.{part_count, held_of, room_of, count_of, place_of, start_of, end_of, words_in};
-ghost use Rattle.journal.specs.Form.{PartFollows, FormFollows, FormHeld, parts_in, list_text, part_text, form_text};
+ghost use Rattle.std.specs.Prelude.{◌≡◌, ◌+◌, ◌^◌, ◌<◌, ◌≤◌, length, MatchResult, Err};
+ghost use Rattle.text.specs.Text.{words_by};
+ghost use Rattle.text.specs.Buffer.{written};
+ghost use Rattle.journal.specs.Form.{part_count, held_of, room_of, count_of, place_of, placed};
+ghost use Rattle.journal.specs.Form.{number_of, start_of, end_of, words_in};
+ghost use Rattle.journal.specs.Form.{part_after, PartFollows, FormFollows, FormBroken, FormHeld, parts_in};
+ghost use Rattle.journal.specs.Form.{list_text, part_text, form_text};
 
-use crate::cursor::{Cursor, NumberRead, next_number};
+use crate::cursor::{Read, Unreadable, next_number};
 use crate::list::{read_count, read_list};
+use numbers::signed::signed_of;
+use text::buffer::Text;
 use text::name::{NAME, write_name};
 use text::number::{write_word, write_words};
-use text::write::write_byte;
 
-// The parts of a form.
+// The most parts of a form.
 pub const PARTS: usize = 12;
 
 // The largest number of 64 bits.
-pub const MOST_WORD: u64 = 18446744073709551615;
+pub const MOST_WORD: u64 = u64::MAX;
 
 // What a part of a form is, with the bounds of what it takes.
 #[derive(Clone, Copy)]
@@ -34,163 +38,189 @@ pub enum Kind {
 #[derive(Clone, Copy)]
 pub struct Part(pub [u8; NAME], pub Kind);
 
-// What the parts of a form hold: a number, of a list its count, and where a list's words start and end in lent words.
+// What a part holds: a number, of a list its count, and where a list's words start and end in lent words.
 #[derive(Clone, Copy)]
-pub struct Parts {
-    pub numbers: [u64; PARTS],
-    pub starts: [usize; PARTS],
-    pub ends: [usize; PARTS],
+pub struct Placed {
+    pub number: u64,
+    pub start: usize,
+    pub end: usize,
 }
 
-// The parts of a form, and how far the text is read.
-#[derive(Clone, Copy)]
-pub struct FormRead {
-    pub parts: Parts,
-    pub next: Cursor,
-}
+impl Placed {
+    // A number alone.
+    pub fn of_number(number: u64) -> Self
+        ensures { result ≡ placed number 0 0 }
+    {
+        Placed {
+            number,
+            start: 0,
+            end: 0,
+        }
+    }
 
-// The words of part k.
-pub fn words_of<'a>(parts: Parts, words: &'a [u64], k: usize) -> &'a [u64]
-    requires { (k < part_count) × ((start_of parts k ≤ end_of parts k) × (end_of parts k ≤ length words.now)) }
-    ensures { result.now ≡ words_in parts words.now k }
-{
-    let start = parts.starts[k];
-    let end = parts.ends[k];
-    &words[start..end]
-}
-
-// How many words a part may have.
-fn room_of(part: Part) -> usize
-    ensures { result ≡ room_of part }
-{
-    let kind = part.1;
-    match kind {
-        Kind::Nothing => 0,
-        Kind::Number(_) => 0,
-        Kind::List(longest, _) => longest as usize,
-        Kind::Signed(longest) => longest as usize,
-        Kind::Length(_) => 0,
+    // A list of so many words from a place on.
+    pub fn of_list(start: usize, count: usize) -> Self
+        requires { start + count < 2 ^ 64 }
+        ensures { result ≡ placed count start (start + count) }
+    {
+        Placed {
+            number: count as u64,
+            start,
+            end: start + count,
+        }
     }
 }
 
-// How many words a part of this number has.
-fn count_of(part: Part, number: u64) -> usize
-    ensures { result ≡ count_of part number }
-{
-    let kind = part.1;
-    match kind {
-        Kind::Nothing => 0,
-        Kind::Number(_) => 0,
-        Kind::List(_, _) => number as usize,
-        Kind::Signed(_) => number as usize,
-        Kind::Length(_) => 0,
+// What the parts of a form hold.
+#[derive(Clone, Copy)]
+pub struct Parts(pub [Placed; PARTS]);
+
+impl Parts {
+    // The number of part k.
+    pub fn number_of(&self, k: usize) -> u64
+        requires { k < part_count }
+        ensures { result ≡ number_of self.now k }
+    {
+        self.0[k].number
+    }
+
+    // The words of part k.
+    pub fn words_of<'a>(&self, words: &'a [u64], k: usize) -> &'a [u64]
+        requires part { k < part_count }
+        requires ordered { start_of self.now k ≤ end_of self.now k }
+        requires within { end_of self.now k ≤ length words.now }
+        ensures { result.now ≡ words_in self.now words.now k }
+    {
+        let placed = self.0[k];
+        &words[placed.start..placed.end]
     }
 }
 
-// Reads a part: its number, and a list's words into the first places of the lent words.
-fn read_part(text: &[u8], cursor: Cursor, part: Part, into: &mut [u64]) -> NumberRead
-    requires { length into.old ≡ room_of part }
-    ensures { PartFollows part text.now cursor result into.old into.new }
-{
-    let name = part.0;
-    let kind = part.1;
-    match kind {
-        Kind::Nothing => NumberRead {
-            value: 0,
-            next: cursor,
-        },
-        Kind::Number(most) => next_number(text, cursor, false, most),
-        Kind::List(_, most) => read_list(text, cursor, name, false, most, into),
-        Kind::Signed(_) => read_list(text, cursor, name, true, MOST_WORD, into),
-        Kind::Length(longest) => read_count(text, cursor, name, longest),
+impl Part {
+    // How many words the part may have.
+    fn room(self) -> usize
+        ensures { result ≡ room_of self }
+    {
+        match self.1 {
+            Kind::List(longest, _) | Kind::Signed(longest) => longest as usize,
+            _ => 0,
+        }
+    }
+
+    // How many words the part of this number has.
+    fn count(self, number: u64) -> usize
+        ensures { result ≡ count_of self number }
+    {
+        match self.1 {
+            Kind::List(_, _) | Kind::Signed(_) => number as usize,
+            _ => 0,
+        }
+    }
+
+    // Reads the part: its number, and a list's words into the first places of the lent words.
+    fn read(self, text: &[u8], at: usize, into: &mut [u64]) -> Result<Read<u64>, Unreadable>
+        requires { length into.old ≡ room_of self }
+        ensures { MatchResult result (λ read. PartFollows self text.now at read into.old into.new)
+            (λ broken. part_after self text.now at ≡ Err broken) }
+    {
+        let name = self.0;
+        match self.1 {
+            Kind::Nothing => Ok(Read { value: 0, next: at }),
+            Kind::Number(most) => next_number(text, at, false, most),
+            Kind::List(_, most) => read_list(text, at, name, false, most, into),
+            Kind::Signed(_) => read_list(text, at, name, true, MOST_WORD, into),
+            Kind::Length(longest) => read_count(text, at, name, longest),
+        }
     }
 }
 
 // Reads the parts of a form; the words of a list stand where the longest lists before it would end.
-pub fn read_form(text: &[u8], cursor: Cursor, form: [Part; PARTS], words: &mut [u64]) -> FormRead
-    requires { place_of form part_count ≤ length words.old }
-    ensures { FormFollows form text.now cursor result words.new }
+pub fn read_form(
+    text: &[u8],
+    at: usize,
+    form: &[Part],
+    words: &mut [u64],
+) -> Result<Read<Parts>, Unreadable>
+    requires few { length form.now ≤ part_count }
+    requires room { place_of form.now part_count ≤ length words.old }
+    ensures { MatchResult result (λ read. FormFollows form.now text.now at read words.new)
+        (λ broken. FormBroken form.now text.now at broken words.new) }
 {
-    let mut numbers = [0u64; PARTS];
-    let mut starts = [0usize; PARTS];
-    let mut ends = [0usize; PARTS];
-    let mut next = cursor;
-    let mut at: usize = 0;
-    let mut k: usize = 0;
-    while k < PARTS {
-        let part = form[k];
-        let end = at + room_of(part);
-        let read = read_part(text, next, part, &mut words[at..end]);
-        let value = read.value;
-        numbers[k] = value;
-        starts[k] = at;
-        ends[k] = at + count_of(part, value);
+    let mut parts = [Placed::of_number(0); PARTS];
+    let mut next = at;
+    let mut start: usize = 0;
+    for (k, part) in form.iter().enumerate() {
+        let room = start + part.room();
+        let read = part.read(text, next, &mut words[start..room])?;
+        let number = read.value;
+        let end = start + part.count(number);
+        parts[k] = Placed { number, start, end };
         next = read.next;
-        at = end;
-        k += 1;
+        start = room;
     }
-    let parts = Parts {
-        numbers,
-        starts,
-        ends,
-    };
-    FormRead { parts, next }
+    Ok(Read {
+        value: Parts(parts),
+        next,
+    })
+}
+
+// Writes words, each after a blank, as numbers of either sign where they are signed.
+fn write_words_by<const SIZE: usize>(text: &mut Text<SIZE>, signed: bool, words: &[u64])
+    ensures { text.new ≡ written SIZE (words_by signed words.now) text.old }
+{
+    if !signed {
+        return write_words(text, words);
+    }
+    for word in words {
+        write_word(text, signed_of(*word));
+    }
 }
 
 // Writes a list, or a length, as a line of its own: its name, its number and its words.
-fn write_list(
-    buffer: &mut [u8],
-    count: usize,
+fn write_list<const SIZE: usize>(
+    text: &mut Text<SIZE>,
     name: [u8; NAME],
     signed: bool,
     number: u64,
     words: &[u64],
-) -> usize
-    ensures { buffer_of buffer.new result ≡ written (list_text name signed number words.now)
-        (buffer_of buffer.old count) }
+)
+    ensures { text.new ≡ written SIZE (list_text name signed number words.now) text.old }
 {
-    let end = write_byte(buffer, count, b'\n');
-    let end = write_name(buffer, end, name);
-    let end = write_word(buffer, end, number);
-    write_words(buffer, end, signed, words)
+    text.push(b'\n');
+    write_name(text, name);
+    write_word(text, number);
+    write_words_by(text, signed, words);
 }
 
-// Writes a part of its number and words.
-fn write_part(buffer: &mut [u8], count: usize, part: Part, number: u64, words: &[u64]) -> usize
-    ensures { buffer_of buffer.new result ≡ written (part_text part (held_of number words.now))
-        (buffer_of buffer.old count) }
-{
-    let name = part.0;
-    let kind = part.1;
-    match kind {
-        Kind::Nothing => count,
-        Kind::Number(_) => write_word(buffer, count, number),
-        Kind::List(_, _) => write_list(buffer, count, name, false, number, words),
-        Kind::Signed(_) => write_list(buffer, count, name, true, number, words),
-        Kind::Length(_) => write_list(buffer, count, name, false, number, words),
+impl Part {
+    // Writes the part of its number and words.
+    fn write<const SIZE: usize>(self, text: &mut Text<SIZE>, number: u64, words: &[u64])
+        ensures { text.new ≡ written SIZE (part_text self (held_of number words.now)) text.old }
+    {
+        match self.1 {
+            Kind::Nothing => (),
+            Kind::Number(_) => write_word(text, number),
+            Kind::Signed(_) => write_list(text, self.0, true, number, words),
+            Kind::List(_, _) | Kind::Length(_) => write_list(text, self.0, false, number, words),
+        }
     }
 }
 
 // Writes a command of these parts: its name and numbers on the first line, then a line for each list.
-pub fn write_form(
-    buffer: &mut [u8],
-    count: usize,
+pub fn write_form<const SIZE: usize>(
+    text: &mut Text<SIZE>,
     name: [u8; NAME],
-    form: [Part; PARTS],
-    parts: Parts,
+    form: &[Part],
+    parts: &Parts,
     words: &[u64],
-) -> usize
-    requires { FormHeld form parts (length words.now) }
-    ensures { buffer_of buffer.new result ≡ written
-        (form_text name form (parts_in parts words.now)) (buffer_of buffer.old count) }
+)
+    requires few { length form.now ≤ part_count }
+    requires held { FormHeld form.now parts.now (length words.now) }
+    ensures { text.new ≡ written SIZE (form_text name form.now (parts_in parts.now words.now)) text.old }
 {
-    let mut end = write_name(buffer, count, name);
-    let mut k: usize = 0;
-    while k < PARTS {
-        let part = form[k];
-        let number = parts.numbers[k];
-        end = write_part(buffer, end, part, number, words_of(parts, words, k));
-        k += 1;
+    write_name(text, name);
+    for (k, part) in form.iter().enumerate() {
+        part.write(text, parts.number_of(k), parts.words_of(words, k));
     }
-    write_byte(buffer, end, b'\n')
+    text.push(b'\n');
 }

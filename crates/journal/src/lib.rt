@@ -8,4 +8,3 @@ pub mod form;
 mod list;
 mod number;
 mod token;
-mod word;

@@ -28,11 +28,11 @@ use Rattle.ledger.specs.Ledger.{present_in, charge_in, count_at}
 use Rattle.ledger.specs.declared.ledger.Ledger.{Ledger}
 use Rattle.journal.specs.Cursor.{most_word}
 use Rattle.journal.specs.Form.{part_count, part_at, bound_of, count_of, held_of, held_in}
-use Rattle.journal.specs.Form.{number_of, start_of, end_of, parts_in, FormHeld, greatest_by, Takes}
+use Rattle.journal.specs.Form.{placed, number_of, start_of, end_of, parts_below, parts_in, FormHeld, greatest_by, Takes}
 use Rattle.journal.specs.declared.form.Part.{Part}
 use Rattle.journal.specs.Command.{load_form}
 use Rattle.journal.specs.declared.form.Parts.{Parts}
-use Rattle.journal.proofs.FormLaws.{parts_by, each_part}
+use Rattle.journal.proofs.FormLaws.{each_part}
 use Rattle.store.specs.Store.{truth_word, word_truth, older_from, balances_from, counts_from, kept_words}
 use Rattle.store.specs.Store.{charges_word, ledger_word, ledger_words, word_owner, zero_past, kept_among, kept_count}
 use Rattle.store.specs.Store.{ledger_parts, Saved, word_at, loaded_charges, loaded_ledger}
@@ -367,27 +367,26 @@ module _ (ledger : Ledger) where
   unfolding list_below ledger_parts
   parts_whole = refl
 
-  -- the numbers of its parts; with all words they are the ledger's parts
-  abbrev pub parts_of : ℕ → ℕ → ℕ → Parts
-  parts_of count fixed older =
-      parts_by
-      (ledger.n ∷ ledger.last ∷ fixed ∷ ledger.month ∷ ledger.day ∷ older
-      ∷ (count * sector_count) ∷ (count * sector_count) ∷ (count * sector_count) ∷ (count * sector_count) ∷ count ∷ count
-      ∷ [])
-      (0 ∷ 0 ∷ 0 ∷ 0 ∷ 0 ∷ 0 ∷ 0 ∷ 320 ∷ 640 ∷ 960 ∷ 1280 ∷ 1320 ∷ [])
-      (0 ∷ 0 ∷ 0 ∷ 0 ∷ 0 ∷ 0 ∷ (count * sector_count) ∷ (320 + count * sector_count) ∷ (640 + count * sector_count)
-      ∷ (960 + count * sector_count) ∷ (1280 + count) ∷ (1320 + count) ∷ [])
+  -- its parts by their places; with all words they are the ledger's parts
+  abbrev pub placed_parts : ℕ → ℕ → ℕ → Parts
+  placed_parts count fixed older =
+      let size = count * sector_count in
+      record {
+        0 = placed ledger.n 0 0 ∷ placed ledger.last 0 0 ∷ placed fixed 0 0 ∷ placed ledger.month 0 0
+            ∷ placed ledger.day 0 0 ∷ placed older 0 0 ∷ placed size 0 (0 + size) ∷ placed size 320 (320 + size)
+            ∷ placed size 640 (640 + size) ∷ placed size 960 (960 + size) ∷ placed count 1280 (1280 + count)
+            ∷ placed count 1320 (1320 + count) ∷ [];
+      }
 
   abbrev saved_parts : Parts
-  saved_parts = parts_of (kept_count ledger) (truth_word ledger.fixed) (truth_word ledger.has_older)
+  saved_parts = placed_parts (kept_count ledger) (truth_word ledger.fixed) (truth_word ledger.has_older)
 
   parts_saved : parts_in saved_parts words ≡ ledger_parts ledger
-  unfolding parts_in list_below ledger_parts
+  unfolding parts_in parts_below list_below ledger_parts
   parts_saved =
       let size : (from n : ℕ) → from + n - from ≡ n = λ from n. omega arith in
-      let first : places - 0 ≡ places = omega arith in
       rw (
-        first,
+        size 0 places,
         size 320 places,
         size 640 places,
         size 960 places,
@@ -429,14 +428,14 @@ module _ (ledger : Ledger) where
               (omega arith) few few;
           counted = each_part
               (λ k. end_of saved_parts k ≡ start_of saved_parts k + count_of (part_at load_form k) (number_of saved_parts k))
-              refl refl refl refl refl refl (omega arith) refl refl refl refl refl;
+              refl refl refl refl refl refl refl refl refl refl refl refl;
           within = each_part (λ k. end_of saved_parts k ≤ kept_words) none none none none none none (omega arith)
               (omega arith) (omega arith) (omega arith) (omega arith) (omega arith);
         }
 
     pub saved : (count fixed older : ℕ) (left : List ℕ) → left ≡ words → count ≡ kept_count ledger →
         fixed ≡ truth_word ledger.fixed → older ≡ truth_word ledger.has_older →
-        Saved ledger (parts_of count fixed older) left
+        Saved ledger (placed_parts count fixed older) left
     saved count fixed older left e f g h =
         rw (e, f, g, h) (record { parts = parts_saved; held = rw words_long parts_held })
 

@@ -9,7 +9,7 @@ ghost use Rattle.journal.specs.Command.{load_form};
 ghost use Rattle.store.specs.Store.{word_truth, word_at, loaded_charges, loaded_ledger};
 
 use fixing::sector::{SectorCharges, no_charges};
-use journal::form::{Parts, words_of};
+use journal::form::Parts;
 use ledger::ledger::Ledger;
 use numbers::signed::signed_of;
 use numbers::sizes::{MOST_DISTRIBUTORS, PLACES};
@@ -74,23 +74,22 @@ fn load_counts(words: &[u64]) -> [u64; MOST_DISTRIBUTORS]
 }
 
 // The ledger of the parts.
-pub fn load(parts: Parts, words: &[u64]) -> Ledger
-    requires { FormHeld load_form parts (length words.now) }
-    ensures { result ≡ loaded_ledger (parts_in parts words.now) }
+pub fn load(parts: &Parts, words: &[u64]) -> Ledger
+    requires { FormHeld load_form parts.now (length words.now) }
+    ensures { result ≡ loaded_ledger (parts_in parts.now words.now) }
 {
-    let force = load_charges(words_of(parts, words, 6), words_of(parts, words, 7));
-    let older = load_charges(words_of(parts, words, 8), words_of(parts, words, 9));
-    let balances = load_balances(words_of(parts, words, 10));
-    let counts = load_counts(words_of(parts, words, 11));
-    let numbers = parts.numbers;
+    let force = load_charges(parts.words_of(words, 6), parts.words_of(words, 7));
+    let older = load_charges(parts.words_of(words, 8), parts.words_of(words, 9));
+    let balances = load_balances(parts.words_of(words, 10));
+    let counts = load_counts(parts.words_of(words, 11));
     Ledger {
-        n: numbers[0] as usize,
-        last: numbers[1],
-        fixed: word_truth(numbers[2]),
-        month: numbers[3],
-        day: numbers[4],
+        n: parts.number_of(0) as usize,
+        last: parts.number_of(1),
+        fixed: word_truth(parts.number_of(2)),
+        month: parts.number_of(3),
+        day: parts.number_of(4),
         force,
-        has_older: word_truth(numbers[5]),
+        has_older: word_truth(parts.number_of(5)),
         older,
         balances,
         counts,

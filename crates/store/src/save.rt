@@ -1,11 +1,12 @@
 // A ledger as the parts of its form: both fixings, balances and counts of its distributors, or all where a word past
 // them is not zero.
-ghost use Rattle.std.specs.Prelude.{◌≡◌, ◌<◌, length};
+ghost use Rattle.std.specs.Prelude.{◌≡◌, ◌<◌, ◌≤◌, length};
+ghost use Rattle.numbers.specs.Sizes.{most_distributors};
 ghost use Rattle.store.specs.Store.{truth_word, older_from, kept_words, charges_word, ledger_word};
 ghost use Rattle.store.specs.Store.{ledger_words, word_owner, zero_past, kept_among, Saved};
 
 use fixing::sector::SectorCharges;
-use journal::form::{PARTS, Parts};
+use journal::form::{Parts, Placed};
 use ledger::ledger::Ledger;
 use numbers::signed::word_of;
 use numbers::sizes::{MOST_DISTRIBUTORS, PLACES, SECTORS};
@@ -24,22 +25,6 @@ const COUNTS: usize = BALANCES + MOST_DISTRIBUTORS;
 
 // How many words there are at most.
 pub const KEPT_WORDS: usize = COUNTS + MOST_DISTRIBUTORS;
-
-// Where the words of each part stand: the numbers have none.
-const STARTS: [usize; PARTS] = [
-    0,
-    0,
-    0,
-    0,
-    0,
-    0,
-    0,
-    PLACES,
-    OLDER,
-    OLDER_CHARGES,
-    BALANCES,
-    COUNTS,
-];
 
 // A truth as a word, 0 or 1.
 fn truth_word(truth: bool) -> u64
@@ -117,7 +102,8 @@ fn zero_past(n: usize, words: &[u64]) -> bool
 // For how many distributors words are kept.
 fn kept_among(n: usize, words: &[u64]) -> usize
     requires { length words.now ≡ kept_words }
-    ensures { result ≡ kept_among n words.now }
+    ensures value { result ≡ kept_among n words.now }
+    ensures few { result ≤ most_distributors }
 {
     if n <= MOST_DISTRIBUTORS && zero_past(n, words) {
         return n;
@@ -133,31 +119,18 @@ pub fn save(ledger: Ledger, words: &mut [u64]) -> Parts
     save_words(ledger, words);
     let kept = kept_among(ledger.n, words);
     let places = kept * SECTORS;
-    let numbers = [
-        ledger.n as u64,
-        ledger.last,
-        truth_word(ledger.fixed),
-        ledger.month,
-        ledger.day,
-        truth_word(ledger.has_older),
-        places as u64,
-        places as u64,
-        places as u64,
-        places as u64,
-        kept as u64,
-        kept as u64,
-    ];
-    let starts = STARTS;
-    let mut ends = [0usize; PARTS];
-    ends[6] = places;
-    ends[7] = PLACES + places;
-    ends[8] = OLDER + places;
-    ends[9] = OLDER_CHARGES + places;
-    ends[10] = BALANCES + kept;
-    ends[11] = COUNTS + kept;
-    Parts {
-        numbers,
-        starts,
-        ends,
-    }
+    Parts([
+        Placed::of_number(ledger.n as u64),
+        Placed::of_number(ledger.last),
+        Placed::of_number(truth_word(ledger.fixed)),
+        Placed::of_number(ledger.month),
+        Placed::of_number(ledger.day),
+        Placed::of_number(truth_word(ledger.has_older)),
+        Placed::of_list(0, places),
+        Placed::of_list(PLACES, places),
+        Placed::of_list(OLDER, places),
+        Placed::of_list(OLDER_CHARGES, places),
+        Placed::of_list(BALANCES, kept),
+        Placed::of_list(COUNTS, kept),
+    ])
 }

@@ -1,23 +1,23 @@
--- By the next token, unless something is broken before it.
-use mathlib.Core.Path.{sym, ◌∙◌}
-use Rattle.journal.proofs.TokenLaws.{token_ordered, token_within}
-use Rattle.journal.proofs.CursorLaws.{word_after_broken, word_after_same, word_after_other}
+-- By the next token.
+use mathlib.Core.Path.{◌≡◌, refl, sym, ◌∙◌, ap, ap₂}
+use Rattle.std.specs.Prelude.{bytes_eq}
+use Rattle.text.specs.Text.{name_text}
+use Rattle.journal.specs.Token.{token_after, bytes_of}
+use Rattle.journal.specs.Cursor.{word_after}
 use Rattle.journal.proofs.cursor.next_name.Goals as goal
+use Rattle.journal.proofs.cursor.next_name.Goals.{After-eq}
 
-pub returns-then-cursor : goal.returns-then-cursor
-returns-then-cursor c = word_after_broken _ _ c.if-cursor.true _
+-- whether the token is the name
+same : (e : After-eq) →
+    e.eq.result ≡ bytes_eq (bytes_of e.args.text.now (token_after e.args.text.now e.args.at)) (name_text e.args.name)
+same e =
+    e.eq.ensures
+    ∙ ap₂ bytes_eq (e.bytes.ensures ∙ ap (bytes_of e.args.text.now) e.next_token-token.ensures.value) e.name_bytes.ensures
 
-pub is_name-requires : goal.is_name-requires
-is_name-requires c = rw c.next_token-token.ensures (record { fact_1 = token_ordered _ _; fact_2 = token_within _ _ })
-
-pub returns-then-is_name : goal.returns-then-is_name
-returns-then-is_name c =
-    c.read_to.ensures
-    ∙ word_after_same _ _ c.if-cursor.false _ c.next_token-token.ensures _
-    (sym c.is_name.ensures ∙ c.if-is_name.true)
+pub returns-then-eq : goal.returns-then-eq
+unfolding word_after
+returns-then-eq c = rw (c.next_token-token.ensures.value, sym (same (goal.at.returns-then-eq c).After-eq) ∙ c.if-eq.true) refl
 
 pub returns : goal.returns
-returns c =
-    c.broken_at.ensures
-    ∙ word_after_other _ _ c.if-cursor.false _ c.next_token-token.ensures _
-    (sym c.is_name.ensures ∙ c.if-is_name.false)
+unfolding word_after
+returns c = rw (c.next_token-token.ensures.value, sym (same (goal.at.returns c).After-eq) ∙ c.if-eq.false) refl

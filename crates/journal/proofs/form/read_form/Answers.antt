@@ -1,58 +1,69 @@
 -- The invariant: the first k parts are read, each list where the longest ones before it would end.
-use mathlib.Core.Path.{refl, ◌∙◌, ap}
+use mathlib.Core.Path.{◌≡◌, ap}
 use Prim.Native.Nat.{◌+◌, ◌*◌, ◌^◌, ◌≤◌, ◌<◌}
 use native.Mathlib.Omega.{arith}
 use lib.ListN.{length}
-use borrow.Rule.Slice.PartMut.{mid_len}
-use Rattle.journal.proofs.FormLaws.{form_none, form_fits, few_words, form_more}
-use Rattle.journal.proofs.FormLaws.{form_whole}
+use Rattle.std.proofs.lemmas.Result.{err_from_is_err_and}
+use Rattle.journal.specs.Form.{part_count, place_of}
+use Rattle.journal.proofs.FormLaws.{form_none, form_fits, few_words, form_broken, form_more, form_whole}
 use Rattle.journal.proofs.form.read_form.Goals as goal
-use Rattle.journal.proofs.form.read_form.Goals.{After-room_of, At-loop-k}
+use Rattle.journal.proofs.form.read_form.Goals.{After-room, At-loop-k}
 
 pub loop-k-init : goal.loop-k-init
-loop-k-init c = form_none _ _ _ _
+loop-k-init c = rw c.of_number-parts.ensures (form_none _ _ _ _)
+
+-- the words of the whole form have room, in fewer than 2^63 bytes
+module _ (a : At-loop-k) where
+  room : place_of a.args.form.now part_count ≤ length a.loop-k.words
+  room = omega (arith, a.requires.room, a.loop-k.auto.words)
+
+  short : length a.loop-k.words * 8 < 2 ^ 63
+  short = omega (arith, a.well_formed.1.1.1.0.1, a.loop-k.auto.words)
 
 -- the part's room lies within the words
-module _ (r : After-room_of) where
-  fits : r.loop-k.at + r.room_of.result ≤ length r.loop-k.words
-  fits =
-      rw r.room_of.ensures (form_fits _ _ _ r.loop-k.invariant r.requires (omega arith))
+module _ (r : After-room) where
+  inside : r.loop-k.k < part_count
+  inside = omega (arith, r.requires.few)
 
--- the words take fewer than 2^63 bytes
-short : (a : At-loop-k) → length a.loop-k.words * 8 < 2 ^ 63
-short a = rw a.loop-k.invariant.long a.well_formed.1.1.1.0.1
+  fits : r.loop-k.start + r.room.result ≤ length r.loop-k.words
+  fits = rw r.room.ensures (form_fits _ _ _ r.loop-k.invariant (omega (arith, r.requires.room, r.loop-k.auto.words)) inside)
+
+pub overflow_add-room : goal.overflow_add-room
+overflow_add-room c = omega (arith, fits (goal.at.overflow_add-room c).After-room, short (goal.at.overflow_add-room c).At-loop-k)
+
+pub offset_bounds-words-start : goal.offset_bounds-words-start
+offset_bounds-words-start c = omega (arith, fits (goal.at.offset_bounds-words-start c).After-room, short (goal.at.offset_bounds-words-start c).At-loop-k)
+
+pub slice_bounds-read-end : goal.slice_bounds-read-end
+slice_bounds-read-end c = fits (goal.at.slice_bounds-read-end c).After-room
+
+pub returns-in_err-read : goal.returns-in_err-read
+returns-in_err-read c =
+    let p = err_from_is_err_and c.from_residual.result c.from_residual.ensures.1 in
+    let r = (goal.at.returns-in_err-read c).After-room in
+    rw (p.1, p.2)
+    (form_broken _ _ _ c.loop-k.invariant (inside r) _ (ap (λ room. c.loop-k.start + room) c.room.ensures) (fits r)
+    c.read.new.into c.in_err-read.ensures)
 
 pub overflow_add-end : goal.overflow_add-end
-overflow_add-end c = omega (arith, fits c, short (goal.at.overflow_add-end c).At-loop-k)
-
-pub offset_bounds-words-at : goal.offset_bounds-words-at
-offset_bounds-words-at c = omega (arith, fits c, short (goal.at.offset_bounds-words-at c).At-loop-k)
-
-pub read_part-read-requires : goal.read_part-read-requires
-read_part-read-requires c = mid_len _ _ _ (fits (goal.at.read_part-read-requires c).After-room_of) ∙ omega (arith, c.room_of.ensures)
-
-pub overflow_add-ends : goal.overflow_add-ends
-overflow_add-ends c =
+overflow_add-end c =
+    let r = (goal.at.overflow_add-end c).After-room in
     omega (
       arith,
-      short (goal.at.overflow_add-ends c).At-loop-k,
-      c.count_of.ensures,
-      few_words _ _ _ c.loop-k.invariant c.requires (omega arith) _ _ _
-          (ap (λ room. c.loop-k.at + room) c.room_of.ensures) c.read_part-read.ensures,
+      short (goal.at.overflow_add-end c).At-loop-k,
+      c.count.ensures,
+      fits r,
+      few_words _ _ _ c.loop-k.invariant (inside r) _ (ap (λ room. c.loop-k.start + room) c.room.ensures) (fits r) _ _
+          c.in_ok-read.ensures,
     )
 
 pub loop-k-preserved : goal.loop-k-preserved
 loop-k-preserved c =
-    form_more _ _ _ c.loop-k.invariant c.requires (omega arith) _ _ _
-    (ap (λ room. c.loop-k.at + room) c.room_of.ensures) c.read_part-read.ensures _
-    (ap (λ count. c.loop-k.at + count) c.count_of.ensures)
-
-pub shape_of-words : goal.shape_of-words
-shape_of-words c = c.loop-k.invariant.long
+    let r = (goal.at.loop-k-preserved c).After-room in
+    form_more _ _ _ c.loop-k.invariant (inside r) _ (ap (λ room. c.loop-k.start + room) c.room.ensures) (fits r) _ _
+    c.in_ok-read.ensures _ (ap (λ count. c.loop-k.start + count) c.count.ensures)
 
 pub returns : goal.returns
 returns c =
-    form_whole _ _ _ c.loop-k.invariant c.requires (omega arith) _ refl
-
-pub slice_bounds-read_part-end : goal.slice_bounds-read_part-end
-slice_bounds-read_part-end c = fits c
+    let last : c.loop-k.k ≡ length c.args.form.now = omega arith in
+    form_whole _ _ _ (rw last at c.loop-k.invariant) c.requires.few (room (goal.at.returns c).At-loop-k)

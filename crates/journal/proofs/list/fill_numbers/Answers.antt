@@ -1,39 +1,36 @@
--- The invariant: the list keeps its length, its first k words are the numbers read, and the cursor is past them.
-use mathlib.Core.Path.{◌≡◌, refl}
+-- The invariant: the first numbers are read into the first places.
+use mathlib.Core.Path.{◌≡◌, sym, ◌∙◌, ap}
 use native.Mathlib.Omega.{arith}
-use lib.ListN.{length, length-set}
-use Rattle.numbers.proofs.ListLaws.{list_none, list_more, list_done}
-use Rattle.journal.proofs.ListLaws.{cursor_none, cursor_next, number_here}
+use native.Mathlib.Numerals.{add-one}
+use lib.ListN.{length, take}
+use lib.Seq.{take-suc-set, take_all}
+use Rattle.std.specs.Prelude.{Ok}
+use Rattle.std.proofs.lemmas.Result.{err_from_is_err_and}
+use Rattle.journal.specs.Cursor.{read_of}
+use Rattle.journal.specs.List.{numbers_after}
+use Rattle.journal.proofs.CursorLaws.{reads_none, reads_more, reads_broken}
 use Rattle.journal.proofs.list.fill_numbers.Goals as goal
 
-pub loop-k-init : goal.loop-k-init
-loop-k-init c = (
-  omega arith,
-  refl,
-  cursor_none _ _ _ _,
-  list_none _ c.args.into.now,
-)
+pub loop-place-init : goal.loop-place-init
+unfolding numbers_after
+loop-place-init c = reads_none _ _
 
-pub loop-k-smaller : goal.loop-k-smaller
-loop-k-smaller c = simp length-set (omega arith)
+pub returns-in_err-number : goal.returns-in_err-number
+unfolding numbers_after
+returns-in_err-number c =
+    let p = err_from_is_err_and c.from_residual.result c.from_residual.ensures.1 in
+    rw (p.1, p.2) (reads_broken _ _ c.loop-place.invariant (sym c.next_number.ensures ∙ c.in_err-number.was) _ (omega arith))
 
-pub loop-k-preserved : goal.loop-k-preserved
-loop-k-preserved c = (
-  simp length-set (omega arith),
-  simp length-set c.loop-k.invariant.1,
-  cursor_next _ _ _ _ _ _ c.loop-k.invariant.2 _ c.next_number-number.ensures,
-  list_more _ c.loop-k.into c.loop-k.k _
-      (omega arith) c.loop-k.invariant.3
-      (number_here _ _ _ _ _ _ c.loop-k.invariant.2 _ c.next_number-number.ensures),
-)
-
-pub shape_of-into : goal.shape_of-into
-shape_of-into c = c.loop-k.invariant.1
+pub loop-place-preserved : goal.loop-place-preserved
+unfolding numbers_after
+loop-place-preserved c =
+    reads_more _ _ c.loop-place.invariant (sym c.next_number.ensures ∙ c.in_ok-number.was)
+    ∙ ap (λ words. Ok (read_of words c.in_ok-number.number.next))
+    (sym (rw add-one (take-suc-set c.loop-place.into c.loop-place.place-index c.in_ok-number.number.value (omega arith))))
 
 pub returns : goal.returns
 returns c =
-    let e : c.loop-k.k ≡ length c.args.into.now = omega arith in
-    record {
-      value = rw e at c.loop-k.invariant.2;
-      into_after = list_done _ _ _ c.loop-k.invariant.1 (rw e at c.loop-k.invariant.3);
-    }
+    let last : length c.args.into.now ≡ c.loop-place.place-index = omega arith in
+    let e : take c.loop-place.place-index c.loop-place.into ≡ c.loop-place.into =
+    take_all c.loop-place.place-index c.loop-place.into (omega arith) in
+    rw last (rw e at c.loop-place.invariant)

@@ -1,13 +1,12 @@
--- A size up to 2^63 is the word of the number below zero, a greater one does not fit.
+-- A size up to 2^63 is the word of the number below zero.
+use mathlib.Core.Path.{ap}
 use native.Mathlib.Omega.{arith}
-use Rattle.journal.proofs.SignedLaws.{below_none, below_small, below_large}
+use borrow.Author.Tests.{le-leb}
+use Rattle.std.specs.Prelude.{Some}
+use Rattle.journal.proofs.SignedLaws.{word_least}
 use Rattle.journal.proofs.number.below_zero.Goals as goal
 
-pub returns-then-size-eq0 : goal.returns-then-size-eq0
-returns-then-size-eq0 c = below_none _ _ c.in-Number.is c.if-size-eq0.true
-
-pub returns-then-size-le9223372036854775808 : goal.returns-then-size-le9223372036854775808
-returns-then-size-le9223372036854775808 c = below_small _ _ c.in-Number.is (omega arith) c.if-size-le9223372036854775808.true
-
-pub returns-else-size-le9223372036854775808 : goal.returns-else-size-le9223372036854775808
-returns-else-size-le9223372036854775808 c = below_large _ _ c.in-Number.is (omega arith)
+pub returns-then-size : goal.returns-then-size
+returns-then-size c =
+    rw (le-leb c.args.size 9223372036854775808 c.if-size.true)
+    (ap Some (word_least c.wrapping_neg.result c.args.size (omega arith) c.if-size.true c.wrapping_neg.ensures))

@@ -1,27 +1,45 @@
--- The invariant: the bytes passed are read.
-use mathlib.Core.Path.{◌≡◌, refl, ◌∙◌}
-use Prim.Native.Nat.{◌-◌}
+-- The invariant: the digits passed are read.
+use mathlib.Core.Path.{◌≡◌, refl, sym, ◌∙◌}
+use Prim.Native.Nat.{◌+◌}
 use native.Mathlib.Omega.{arith}
-use borrow.Author.Tests.{lt-ltb, le-ltb}
+use native.Mathlib.Numerals.{add-one}
+use lib.ListN.{length}
+use Rattle.std.specs.Prelude.{None}
 use Rattle.journal.specs.Number.{digits_read, number_in}
-use Rattle.journal.proofs.NumberLaws.{read_next}
+use Rattle.journal.proofs.NumberLaws.{digits_none}
 use Rattle.journal.proofs.number.read_number.Goals as goal
+use Rattle.journal.proofs.number.read_number.Goals.{After-take_digit}
 
-pub returns-then-count-eq0 : goal.returns-then-count-eq0
+pub returns-then-is_empty : goal.returns-then-is_empty
 unfolding number_in
-returns-then-count-eq0 c = let s = c.args in rw (le-ltb s.start s.end (omega (arith, c.if-count-eq0.true)))
+returns-then-is_empty c =
+    rw (sym c.is_empty.ensures ∙ c.if-is_empty.true)
 
-pub loop-k-init : goal.loop-k-init
+pub loop-digit-init : goal.loop-digit-init
 unfolding digits_read
-loop-k-init c = (omega arith, refl)
+loop-digit-init c = refl
 
-pub loop-k-preserved : goal.loop-k-preserved
-loop-k-preserved c =
-    (omega arith, c.take_digit-reading.ensures ∙ read_next _ _ c.loop-k.k _ c.loop-k.invariant.1)
+-- one digit more
+taken : (t : After-take_digit) →
+    digits_read (t.loop-digit.digit-index + 1) t.args.digits.now ≡ t.take_digit.result
+unfolding digits_read
+taken t = rw (add-one, t.loop-digit.invariant) (sym t.take_digit.ensures)
+
+pub loop-digit-preserved : goal.loop-digit-preserved
+loop-digit-preserved c = taken (goal.at.loop-digit-preserved c).After-take_digit ∙ c.in_ok-value.was
+
+pub returns-in_err-value : goal.returns-in_err-value
+unfolding number_in
+returns-in_err-value c =
+    let digits = c.args.digits.now in
+    let none : digits_read (c.loop-digit.digit-index + 1) digits ≡ None =
+    taken (goal.at.returns-in_err-value c).After-take_digit ∙ c.in_err-value.was in
+    rw (c.from_residual.ensures, sym c.is_empty.ensures ∙ c.if-is_empty.false)
+    (sym (digits_none digits (c.loop-digit.digit-index + 1) (length digits) (omega arith) none))
 
 pub returns : goal.returns
 unfolding number_in
 returns c =
-    let s = c.args in
-    let e : c.loop-k.k ≡ s.end - s.start = omega arith in
-    rw (lt-ltb s.start s.end (omega arith)) (rw e at c.loop-k.invariant.1)
+    let digits = c.args.digits.now in
+    let last : c.loop-digit.digit-index ≡ length digits = omega arith in
+    rw (sym c.is_empty.ensures ∙ c.if-is_empty.false) (sym (rw last at c.loop-digit.invariant))

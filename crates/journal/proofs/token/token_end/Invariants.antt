@@ -1,12 +1,9 @@
 -- The invariant: the end sought from here is the token's.
 use mathlib.Core.Path.{◌≡◌}
-use Prim.Native.Nat.{◌≤◌, ◌-◌}
+use Prim.Native.Nat.{◌-◌}
 use lib.ListN.{length}
 use Rattle.journal.specs.Token.{end_from, token_end}
 use Rattle.journal.proofs.token.token_end.Given as goal
 
 abbrev pub invariant-loop-k : goal.invariant-loop-k
-invariant-loop-k l = (l.k ≤ length l.text) × (end_from (length l.text - l.k) l.text l.k ≡ token_end l.text l.start)
-
-abbrev pub decreases-loop-k : goal.decreases-loop-k
-decreases-loop-k l = length l.text - l.k
+invariant-loop-k l = end_from (length l.text - l.k) l.text l.k ≡ token_end l.text l.start

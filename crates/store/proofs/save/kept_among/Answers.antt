@@ -8,17 +8,17 @@ use Rattle.store.proofs.save.kept_among.Goals as goal
 use Rattle.store.proofs.save.kept_among.Goals.{else-n-le-MOST_DISTRIBUTORS-via-then-n-le-MOST_DISTRIBUTORS+else-zero_past}
 use Rattle.store.proofs.save.kept_among.Goals.{else-n-le-MOST_DISTRIBUTORS-via-else-n-le-MOST_DISTRIBUTORS}
 
-pub returns-then-zero_past : goal.returns-then-zero_past
+pub returns-then-zero_past-clause-value : goal.returns-then-zero_past-clause-value
 unfolding kept_among
-returns-then-zero_past c =
+returns-then-zero_past-clause-value c =
     rw (
       le-leb c.args.n most_distributors c.if-n-le-MOST_DISTRIBUTORS.true,
       sym c.zero_past.ensures ∙ c.if-zero_past.true,
     )
 
-pub returns : goal.returns
+pub returns-clause-value : goal.returns-clause-value
 unfolding kept_among
-returns c =
+returns-clause-value c =
     let n = c.args.n in
     elim c.else-n-le-MOST_DISTRIBUTORS.branch [
       | else-n-le-MOST_DISTRIBUTORS-via-then-n-le-MOST_DISTRIBUTORS+else-zero_past w ↦

@@ -1,11 +1,10 @@
 -- The words are the ledger's, and what is kept of them is read there.
 use mathlib.Core.Path.{◌≡◌, ◌∙◌, ap}
 use Prim.Native.Nat.{◌^◌, ◌<◌}
-use native.Mathlib.Omega.{arith}
 use borrow.Author.Rules.{rules}
 use Rattle.ledger.specs.declared.ledger.Ledger.{Ledger}
 use Rattle.store.specs.Store.{kept_among, kept_count}
-use Rattle.store.proofs.StoreLaws.{kept_most, saved}
+use Rattle.store.proofs.StoreLaws.{saved}
 use Rattle.store.proofs.save.save.Goals as goal
 use Rattle.store.proofs.save.save.Goals.{After-kept_among-kept, Start}
 
@@ -16,10 +15,7 @@ module _ (k : After-kept_among-kept) where
 
   kept_is : k.kept_among-kept.result ≡ kept_count ledger
   unfolding kept_count
-  kept_is = k.kept_among-kept.ensures ∙ ap (kept_among ledger.n) k.save_words.ensures
-
-  few : k.kept_among-kept.result < 41
-  few = omega (arith, kept_is, kept_most ledger)
+  kept_is = k.kept_among-kept.ensures.value ∙ ap (kept_among ledger.n) k.save_words.ensures
 
 -- the ledger's numbers are of 64 bits
 sized : (s : Start) → (s.args.ledger.n < 2 ^ 64) × (s.args.ledger.last < 2 ^ 64) ×
@@ -29,23 +25,19 @@ sized s = (search rules, search rules, search rules, search rules)
 pub returns : goal.returns
 returns c =
     let h = sized (goal.at.returns c).Start in
-    saved (ledger (goal.at.returns c).After-kept_among-kept) h.0 h.1 h.2 h.3 _ _ _ _ c.save_words.ensures (kept_is (goal.at.returns c).After-kept_among-kept) c.truth_word.ensures
-    c.truth_word-2.ensures
-
-pub overflow_mul-places : goal.overflow_mul-places
-overflow_mul-places c = record { fits = omega (arith, few c) }
-
-pub overflow_add-ends : goal.overflow_add-ends
-overflow_add-ends c = omega (arith, few (goal.at.overflow_add-ends c).After-kept_among-kept)
-
-pub overflow_add-ends-2 : goal.overflow_add-ends-2
-overflow_add-ends-2 c = omega (arith, few (goal.at.overflow_add-ends-2 c).After-kept_among-kept)
-
-pub overflow_add-ends-3 : goal.overflow_add-ends-3
-overflow_add-ends-3 c = omega (arith, few (goal.at.overflow_add-ends-3 c).After-kept_among-kept)
-
-pub overflow_add-ends-4 : goal.overflow_add-ends-4
-overflow_add-ends-4 c = omega (arith, few (goal.at.overflow_add-ends-4 c).After-kept_among-kept)
-
-pub overflow_add-ends-5 : goal.overflow_add-ends-5
-overflow_add-ends-5 c = omega (arith, few (goal.at.overflow_add-ends-5 c).After-kept_among-kept)
+    rw (
+      c.of_number.ensures,
+      c.of_number-2.ensures,
+      c.of_number-3.ensures,
+      c.of_number-4.ensures,
+      c.of_number-5.ensures,
+      c.of_number-6.ensures,
+      c.of_list.ensures,
+      c.of_list-2.ensures,
+      c.of_list-3.ensures,
+      c.of_list-4.ensures,
+      c.of_list-5.ensures,
+      c.of_list-6.ensures,
+    )
+    (saved (ledger (goal.at.returns c).After-kept_among-kept) h.0 h.1 h.2 h.3 _ _ _ _ c.save_words.ensures (kept_is (goal.at.returns c).After-kept_among-kept) c.truth_word.ensures
+    c.truth_word-2.ensures)

@@ -1,6 +1,6 @@
 -- By whether the number is signed.
 use Rattle.journal.specs.Number.{reading_in}
-use Rattle.journal.proofs.number.read_token.Goals as goal
+use Rattle.journal.proofs.number.read_digits.Goals as goal
 
 pub returns-then-signed : goal.returns-then-signed
 unfolding reading_in
