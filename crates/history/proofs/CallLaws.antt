@@ -46,7 +46,7 @@ use Rattle.ledger.specs.Settle.{positions_of}
 use Rattle.ledger.specs.Join.{join_checks, join_verdict, join_ledger}
 use Rattle.ledger.proofs.SoundFacts.{sound_facts}
 use Rattle.ledger.proofs.MoneyLaws.{range_same, balance_same}
-use Rattle.ledger.proofs.CallLaws.{fixing_passed, join_passed}
+use Rattle.ledger.proofs.CallLaws.{join_passed}
 use Rattle.ledger.proofs.FixLaws.{fixing_told, answer_told}
 use Rattle.ledger.proofs.SettleLaws.{settlement_told}
 use Rattle.ledger.proofs.JoinLaws.{join_told}
@@ -211,18 +211,18 @@ pub fixing_step : (plain : Plain) (call : FixingCall) → sound (image plain) �
     fixing_ledger (image plain) call ≡ image (plain_step plain (fixing call))
 unfolding image fixing_ledger fixed_ledger plain_step plain_accepts plain_answer plain_change input_distributors accepted_fixing
 fixing_step plain call h =
-    go (is_passed (fixing_verdict (image plain) call)) refl
+    go (is_passed (fixing_verdict (image plain) call))
     ∙ ap (λ b. image (cond b (plain_change plain (fixing call)) plain)) (fixing_same plain call h).accepts
   where
-    go : (b : Bool) → is_passed (fixing_verdict (image plain) call) ≡ b →
+    go : (b : Bool) →
         cond b (fixed_ledger (image plain) call.input.numbers (fixing_of plain.count call.input).sectors)
         (image plain) ≡ image (cond b (plain_change plain (fixing call)) plain)
-    go true e =
+    go true =
         let older = older_same plain call.input.numbers.month h in
         ap (λ (x : Fixing). fixed_ledger (image plain) call.input.numbers x.sectors)
-        (passed_fixing plain.count call.input (fixing_passed (image plain) call e).passed)
+        (passed_fixing plain.count call.input)
         ∙ rw (older.0, older.1)
-    go false e = refl
+    go false = refl
 
 -- the positions are the same below n
 module _ (plain : Plain) (call : SettlementCall) (h : sound (image plain) ≡ true) where

@@ -24,14 +24,14 @@ use Rattle.numbers.proofs.ListLaws.{list_at}
 use Rattle.numbers.proofs.RenumberingLaws.{moved_length}
 use Rattle.supply.specs.Line.{renumbered_lines}
 use Rattle.supply.proofs.RenumberedLaws.{lines_length}
-use Rattle.fixing.specs.Input.{FixingInput, input_verdict}
+use Rattle.fixing.specs.Input.{FixingInput}
 use Rattle.fixing.specs.Fixing.{fixing_of}
 use Rattle.fixing.specs.declared.fix.Fixing.{Fixing}
 use Rattle.fixing.proofs.RenumberedLaws.{RenumberedInput, RenumberedFixing, input_checks_lem, fixing_renumbered}
 use Rattle.ledger.specs.Ledger.{next_month, makes_older, stays_older, older_stands, fixed_ledger}
 use Rattle.ledger.specs.Sound.{sound}
 use Rattle.ledger.specs.Fix.{FixingCall, lines_whole, fixing_lengths, in_force_length, call_lengths, fixing_checks}
-use Rattle.ledger.specs.Fix.{fixing_verdict, accepted_answer, fixing_answer, fixing_ledger, price_part, price_list}
+use Rattle.ledger.specs.Fix.{fixing_verdict, accepted_values, fixing_answer, fixing_ledger, price_part, price_list}
 use Rattle.ledger.specs.Fix.{fixing_list, average_power_list, fixing_power_list, HandedBack, HandsBack}
 use Rattle.ledger.specs.declared.ledger.Ledger.{Ledger}
 use Rattle.ledger.proofs.SoundFacts.{sound_facts}
@@ -159,23 +159,16 @@ module _ (ledger : Ledger) (r : Renumbering ledger.n) (call given : FixingCall) 
       right : call_lengths ledger.n call ≡ true
       right = (fixing_passed ledger call (ap is_passed passed)).lengths
 
-      input_passed : input_verdict ledger.n call.input ≡ Ok tt
-      input_passed = (fixing_passed ledger call (ap is_passed passed)).passed
-
       verdict : fixing_verdict (moved_ledger r ledger) given ≡ Ok tt
       unfolding fixing_verdict
       verdict = ap verdict_of (checks_same whole right) ∙ passed
 
       fixing : RenumberedFixing r (fixing_of ledger.n call.input) (fixing_of ledger.n given.input)
-      unfolding input_verdict
-      fixing =
-          let same = input whole right in
-          fixing_renumbered r call.input given.input same (few whole right) input_passed
-          (ap verdict_of (input_checks_lem r call.input given.input same) ∙ input_passed)
+      fixing = fixing_renumbered r call.input given.input (input whole right) (few whole right)
 
-      accepted_answer_lem : fixing_answer (moved_ledger r ledger) given ≡ fixing_answer ledger call
-      unfolding fixing_answer accepted_answer moved_ledger
-      accepted_answer_lem = rw (passed, verdict, fixing.limit, fixing.surcharge, fixing.rounds, fixing.residue)
+      answer_moved : fixing_answer (moved_ledger r ledger) given ≡ fixing_answer ledger call
+      unfolding fixing_answer accepted_values moved_ledger
+      answer_moved = rw (passed, verdict, fixing.limit, fixing.surcharge, fixing.rounds, fixing.residue)
 
       booked : fixing_ledger (moved_ledger r ledger) given ≡ moved_ledger r (fixing_ledger ledger call)
       unfolding fixing_ledger fixed_ledger older_stands makes_older stays_older moved_ledger
@@ -243,7 +236,7 @@ module _ (ledger : Ledger) (r : Renumbering ledger.n) (call given : FixingCall) 
     answer_same = go (fixing_verdict ledger call) refl
       where
         go : (v : Verdict) → fixing_verdict ledger call ≡ v → fixing_answer other given ≡ fixing_answer ledger call
-        go (Ok _) e = ap (λ l. fixing_answer l given) (other_moved (whole e)) ∙ accepted_answer_lem e
+        go (Ok _) e = ap (λ l. fixing_answer l given) (other_moved (whole e)) ∙ answer_moved e
         go (Err refusal) e = rw (verdict_same, e)
 
     ledger_same : fixing_ledger other given ≡ renumbered_ledger r (fixing_ledger ledger call)

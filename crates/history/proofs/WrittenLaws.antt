@@ -79,7 +79,7 @@ module _ (ledger : Ledger) (call : FixingCall) (h : sound ledger ≡ true)
   list_is =
       rw e
       (ap (λ (x : Fixing). list_below (ledger.n * 3) (price_word x.averages x.prices.finals x.charges))
-      (passed_fixing ledger.n call.input (fixing_passed ledger call e).passed))
+      (passed_fixing ledger.n call.input))
 
   final_is : (i : ℕ) → i < ledger.n → (get_or finals i no_price).0 ≡ final_price d i
   unfolding input_distributors
@@ -129,8 +129,7 @@ module _ (ledger : Ledger) (call : FixingCall) (h : sound ledger ≡ true)
   unfolding fixing_power_list average_power_list accepted_fixing
   power_is =
       rw e
-      (ap (average_power_list ledger.n)
-      (passed_fixing ledger.n call.input (fixing_passed ledger call e).passed))
+      (ap (average_power_list ledger.n) (passed_fixing ledger.n call.input))
 
   pub power_written : WrittenPower ledger.n call.input (fixing_power_list ledger call)
   power_written =

@@ -23,8 +23,8 @@ use Rattle.journal.specs.Cursor.{read_of, Reading, reads_below, most_word}
 use Rattle.journal.specs.List.{list_after, ListFollows}
 use Rattle.journal.specs.Form.{part_count, part_at, Held, held_of, held_in, bound_by, bound_of, count_by, count_of}
 use Rattle.journal.specs.Form.{room_of, place_of, number_part, list_part, part_by, part_after, parts_after, form_after}
-use Rattle.journal.specs.Form.{placed, placed_none, placed_at, number_of, start_of, end_of, words_in, parts_below, parts_in}
-use Rattle.journal.specs.Form.{FormHeld, PartFollows, FormFollows, part_text}
+use Rattle.journal.specs.Form.{placed, placed_none, number_of, start_of, end_of, words_in, parts_below, parts_in}
+use Rattle.journal.specs.Form.{FormHeld, PartFollows, FormFollows, FormBroken, part_text}
 use Rattle.journal.specs.declared.cursor.Read.{Read}
 use Rattle.journal.specs.declared.cursor.Unreadable.{Unreadable}
 use Rattle.journal.specs.declared.form.Kind.{Kind}
@@ -177,17 +177,23 @@ parts_of list = record { 0 = list }
 abbrev held_by : Placed → List ℕ → Held
 held_by p words = held_of p.number (take (p.end - p.start) (drop p.start words))
 
+-- a part lies up to a place: a number that it takes, and as many words as it says
+record Lies (part : Part) (p : Placed) (limit : ℕ) : Type 0 where
+  bounded : p.number ≤ bound_of part
+  counted : p.end ≡ p.start + count_of part p.number
+  within : p.end ≤ limit
+
+lies_on : {part : Part} {p : Placed} {limit : ℕ} → Lies part p limit → (more : ℕ) → limit ≤ more → Lies part p more
+lies_on l more h = record { bounded = l.bounded; counted = l.counted; within = omega (arith, l.within) }
+
 -- the first k parts are read, each list where the longest before it would end, and the other parts hold nothing
 pub record FormSoFar (form : List Part) (text : List ℕ) (from : ℕ) (parts : List Placed) (words : List ℕ)
     (at place k : ℕ) : Type 0 where
   pub long : length parts ≡ part_count
   pub standing : place ≡ place_of form k
   pub after : parts_after k form text from ≡ Ok (read_of (parts_below k (parts_of parts) words) at)
-  pub bounded : (j : ℕ) → j < k → number_of (parts_of parts) j ≤ bound_of (part_at form j)
-  pub counted : (j : ℕ) → j < k → end_of (parts_of parts) j ≡ start_of (parts_of parts) j + count_of (part_at form j)
-      (number_of (parts_of parts) j)
-  pub within : (j : ℕ) → j < k → end_of (parts_of parts) j ≤ place
-  pub rest : (j : ℕ) → k ≤ j → placed_at (parts_of parts) j ≡ placed_none
+  lies : (j : ℕ) → j < k → Lies (part_at form j) (get_or parts j placed_none) place
+  rest : (j : ℕ) → k ≤ j → get_or parts j placed_none ≡ placed_none
 
 module _ (form : List Part) (text : List ℕ) (from : ℕ) where
   pub form_none : (words : List ℕ) →
@@ -197,9 +203,7 @@ module _ (form : List Part) (text : List ℕ) (from : ℕ) where
     long = refl;
     standing = refl;
     after = refl;
-    bounded = λ j p. absurd (omega arith);
-    counted = λ j p. absurd (omega arith);
-    within = λ j p. absurd (omega arith);
+    lies = λ j p. absurd (omega arith);
     rest = λ j p. nothing_at j (dec_lt j part_count);
   }
     where
@@ -213,13 +217,34 @@ module _ (form : List Part) (text : List ℕ) (from : ℕ) where
         place + room_of (part_at form k) ≤ length words
     form_fits room p = omega (arith, f.standing, place_within form k part_count p)
 
+    -- the words of these parts stand before the place, whatever is written after it
+    below_same : (after : List Placed) (n : ℕ) (left : List ℕ) → place ≤ length words →
+        ((j : ℕ) → j < k → get_or after j placed_none ≡ get_or parts j placed_none) →
+        parts_below k (parts_of parts) words ≡ parts_below k (parts_of after) (put_mid place n words left)
+    unfolding parts_below
+    below_same after n left here same =
+        list_same k _ _ (λ j r. let p : Placed = get_or parts j placed_none in let l = f.lies j r in
+        ap (held_of p.number) (sym (within_kept (p.end - p.start) p.start place words (left ++ drop n (drop place words))
+        (omega (arith, l.within, l.counted)) here))
+        ∙ ap (λ q. held_by q (put_mid place n words left)) (sym (same j r)))
+
     module _ (p : k < part_count) (end : ℕ) (e : end ≡ place + room_of (part_at form k)) (fits : end ≤ length words)
         (left : List ℕ) where
+      here : place ≤ length words
+      here = omega (arith, fits, e)
+
       -- a part that is broken breaks the form
       pub form_broken : {broken : Unreadable} → part_after (part_at form k) text at ≡ Err broken →
-          form_after form text from ≡ Err broken
+          FormBroken form text from broken (put_mid place (end - place) words left)
       unfolding form_after parts_after
-      form_broken b = reads_broken _ from f.after b part_count p
+      form_broken b = record {
+        after = reads_broken _ from f.after b part_count p;
+        k = k;
+        parts = parts_of parts;
+        next = at;
+        before = f.after ∙ ap (λ list. Ok (read_of list at)) (below_same parts (end - place) left here (λ j r. refl));
+        here = b;
+      }
 
       module _ (read : Read ℕ)
           (q : PartFollows (part_at form k) text at read (take (end - place) (drop place words)) left) where
@@ -235,7 +260,7 @@ module _ (form : List Part) (text : List ℕ) (from : ℕ) where
             read.next end (k + 1)
         unfolding parts_after parts_below list_below
         form_more close c =
-            let here : place ≤ length words = omega (arith, fits, e) in
+            let new : List ℕ = put_mid place (end - place) words left in
             let after : List Placed = set parts k (placed read.value place close) in
             let same : (j : ℕ) → j < k → get_or after j placed_none ≡ get_or parts j placed_none =
             λ j r. get_or-set_other parts k j (placed read.value place close) placed_none (λ t. absurd (omega arith)) in
@@ -248,24 +273,15 @@ module _ (form : List Part) (text : List ℕ) (from : ℕ) where
               after =
                   reads_more _ from f.after q.after
                   ∙ ap (λ list. Ok (read_of list read.next))
-                  (rw add-one (ap₂ (λ first held. first ++ (held ∷ []))
-                  (list_same k _ _ (λ j r. let before : Placed = get_or parts j placed_none in
-                  ap (held_of before.number) (sym (within_kept (before.end - before.start) before.start place words
-                  (left ++ drop (end - place) (drop place words)) (omega (arith, f.within j r, f.counted j r)) here))
-                  ∙ ap (λ p. held_by p (put_mid place (end - place) words left)) (sym (same j r))))
-                  (sym (ap (λ p. held_by p (put_mid place (end - place) words left)) last
+                  (rw add-one (ap₂ (λ first held. first ++ (held ∷ [])) (below_same after (end - place) left here same)
+                  (sym (ap (λ p. held_by p new) last
                   ∙ ap (held_of read.value) (rw (size, q.lent)
                   (after_first place words q.words
                   (drop (count_of (part_at form k) read.value) (take (end - place) (drop place words)))
                   (drop (end - place) (drop place words)) here))))));
-              bounded = λ j r. by_last k (λ i. (get_or after i placed_none).number ≤ bound_of (part_at form i))
-                  (λ i s. rw (same i s) (f.bounded i s)) (rw last sized.bounded) j (omega arith);
-              counted = λ j r. by_last k
-                  (λ i. (get_or after i placed_none).end ≡ (get_or after i placed_none).start + count_of (part_at form i)
-                  (get_or after i placed_none).number)
-                  (λ i s. rw (same i s) (f.counted i s)) (rw last c) j (omega arith);
-              within = λ j r. by_last k (λ i. (get_or after i placed_none).end ≤ end)
-                  (λ i s. rw (same i s) (omega (arith, f.within i s, e))) (rw last (omega (arith, c, few_words))) j
+              lies = λ j r. by_last k (λ i. Lies (part_at form i) (get_or after i placed_none) end)
+                  (λ i s. rw (same i s) (lies_on (f.lies i s) end (omega (arith, e))))
+                  (rw last (record { bounded = sized.bounded; counted = c; within = omega (arith, c, few_words) })) j
                   (omega arith);
               rest = λ j r. get_or-set_other parts k j _ placed_none (λ t. absurd (omega arith)) ∙ f.rest j (omega arith);
             }
@@ -282,14 +298,8 @@ module _ (form : List Part) (text : List ℕ) (from : ℕ) where
           after =
               reads_more _ from f.after {value = held_of 0 []} {last = at} (rw nothing refl)
               ∙ ap (λ list. Ok (read_of list at)) (rw (add-one, none) refl);
-          bounded = λ j r. by_last k (λ i. (get_or parts i placed_none).number ≤ bound_of (part_at form i))
-              f.bounded (rw none (omega arith)) j (omega arith);
-          counted = λ j r. by_last k
-              (λ i. (get_or parts i placed_none).end ≡ (get_or parts i placed_none).start + count_of (part_at form i)
-              (get_or parts i placed_none).number)
-              f.counted (rw (none, nothing) refl) j (omega arith);
-          within = λ j r. by_last k (λ i. (get_or parts i placed_none).end ≤ place) f.within (rw none (omega arith)) j
-              (omega arith);
+          lies = λ j r. by_last k (λ i. Lies (part_at form i) (get_or parts i placed_none) place) f.lies
+              (rw (none, nothing) (record { bounded = omega arith; counted = refl; within = omega arith })) j (omega arith);
           rest = λ j r. f.rest j (omega arith);
         }
 
@@ -309,9 +319,9 @@ module _ (form : List Part) (text : List ℕ) (from : ℕ) where
       record {
         after = whole.after;
         held = record {
-          bounded = whole.bounded;
-          counted = whole.counted;
-          within = λ j p. omega (arith, whole.within j p, whole.standing);
+          bounded = λ j p. (whole.lies j p).bounded;
+          counted = λ j p. (whole.lies j p).counted;
+          within = λ j p. omega (arith, (whole.lies j p).within, whole.standing);
         };
       }
 

@@ -1,12 +1,13 @@
 -- A form: the parts of a command's text in their order (docs/JOURNAL.md, "Input"), what a text holds of them, and the
 -- text that is written of them. Assumes nothing.
-use Rattle.std.specs.Prelude.{Bool, true, false, ◌≡◌, List, [], ◌∷◌, ◌++◌, ℕ, ◌+◌, ◌-◌, ◌≤◌, ◌<◌, length, get_or, take, drop, Ok}
+use Rattle.std.specs.Prelude.{Bool, true, false, ◌≡◌, List, [], ◌∷◌, ◌++◌, ℕ, ◌+◌, ◌-◌, ◌≤◌, ◌<◌, length, get_or, take, drop, Ok, Err}
 use Prim.Native.String.{String}
 use Rattle.numbers.specs.Bounded.{sum_below, list_below}
 use Rattle.text.specs.Text.{bytes, line_end, word, words_by, text_below, name_text}
 use Rattle.journal.specs.Cursor.{Reading, read_of, map_read, reads_below, number_after, most_word}
 use Rattle.journal.specs.List.{count_after, list_after}
 use Rattle.journal.specs.declared.cursor.Read.{Read}
+use Rattle.journal.specs.declared.cursor.Unreadable.{Unreadable}
 use Rattle.journal.specs.declared.form.Kind.{Kind}
 use Rattle.journal.specs.declared.form.Kind.TheVariants.{Nothing, Number, List as Words, Signed, Length}
 use Rattle.journal.specs.declared.form.Part.{Part}
@@ -155,6 +156,15 @@ pub record PartFollows (part : Part) (text : List ℕ) (at : ℕ) (read : Read �
 pub record FormFollows (form : List Part) (text : List ℕ) (at : ℕ) (read : Read Parts) (words : List ℕ) : Type 0 where
   pub after : form_after form text at ≡ Ok (read_of (parts_in read.value words) read.next)
   pub held : FormHeld form read.value (length words)
+
+-- a form that is broken: the parts before the broken one were read, and their words stand in the lent ones
+pub record FormBroken (form : List Part) (text : List ℕ) (at : ℕ) (broken : Unreadable) (words : List ℕ) : Type 0 where
+  pub after : form_after form text at ≡ Err broken
+  pub k : ℕ
+  pub parts : Parts
+  pub next : ℕ
+  pub before : parts_after k form text at ≡ Ok (read_of (parts_below k parts words) next)
+  pub here : part_after (part_at form k) text next ≡ Err broken
 
 -- a list or a length on a line of its own
 unfoldable pub list_text : List ℕ → Bool → ℕ → List ℕ → List ℕ

@@ -4,7 +4,7 @@ ghost use Rattle.text.specs.Text.{words_by};
 ghost use Rattle.text.specs.Buffer.{written};
 ghost use Rattle.journal.specs.Form.{part_count, held_of, room_of, count_of, place_of, placed};
 ghost use Rattle.journal.specs.Form.{number_of, start_of, end_of, words_in};
-ghost use Rattle.journal.specs.Form.{part_after, form_after, PartFollows, FormFollows, FormHeld, parts_in};
+ghost use Rattle.journal.specs.Form.{part_after, PartFollows, FormFollows, FormBroken, FormHeld, parts_in};
 ghost use Rattle.journal.specs.Form.{list_text, part_text, form_text};
 
 use crate::cursor::{Read, Unreadable, next_number};
@@ -144,7 +144,7 @@ pub fn read_form(
     requires few { length form.now ≤ part_count }
     requires room { place_of form.now part_count ≤ length words.old }
     ensures { MatchResult result (λ read. FormFollows form.now text.now at read words.new)
-        (λ broken. form_after form.now text.now at ≡ Err broken) }
+        (λ broken. FormBroken form.now text.now at broken words.new) }
 {
     let mut parts = [Placed::of_number(0); PARTS];
     let mut next = at;

@@ -68,6 +68,7 @@ fn sheet_verdict(n: usize, sheet: &[u8]) -> Result<(), Refusal>
 }
 
 // A reading by its bit and its place.
+#[tactic(auto, unfolding(crate::specs::Sheet::reading_by))]
 fn reading_by(bit: u64, sheet: &[u8], place: usize) -> u64
     requires bit_below_two { bit ≤ 1 }
     requires within { place + bit * number_size ≤ length sheet.now }

@@ -16,6 +16,7 @@ use numbers::units::{all_between, is_between};
 pub const DISTRIBUTOR_BYTES: usize = NUMBER_SIZE * (1 + DISTRIBUTOR_READINGS);
 
 // The bit of a reading.
+#[tactic(auto, unfolding(crate::specs::Sheet::presence_bit))]
 fn presence_bit(reading: u64) -> u64
     ensures { result ≡ presence_bit reading }
 {
@@ -37,6 +38,7 @@ fn bit_map(readings: &[u64]) -> u64
 }
 
 // Writes a reading, where it is present, as the first bytes of the lent ones: how many they are.
+#[tactic(auto, unfolding(crate::specs::Sheet::reading_bytes, crate::specs::Write::written_first))]
 fn write_reading(reading: u64, into: &mut [u8]) -> usize
     requires { number_size ≤ length into.old }
     ensures { FirstWritten (reading_bytes reading) into.old result into.new }
@@ -85,6 +87,7 @@ fn write_distributors(readings: &[u64], buffer: &mut [u8]) -> usize
 }
 
 // Whether readings and buffer have their lengths.
+#[tactic(auto, unfolding(crate::specs::Write::write_lengths))]
 fn lengths_right(n: usize, readings: &[u64], buffer: &[u8]) -> bool
     requires { n ≤ most_distributors }
     ensures { result ≡ write_lengths n readings.now buffer.now }
