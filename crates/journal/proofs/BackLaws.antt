@@ -17,7 +17,8 @@ use Rattle.journal.specs.Token.{byte_at, ends_token}
 use Rattle.journal.specs.Cursor.{read_of, most_word}
 use Rattle.journal.specs.List.{list_after}
 use Rattle.journal.specs.Form.{part_count, part_at, Held, held_of, held_in, bound_by, count_by, greatest_by, part_by}
-use Rattle.journal.specs.Form.{list_part, part_after, parts_after, form_after, Takes, list_text, part_text_by, part_text}
+use Rattle.journal.specs.Form.{list_part, part_after, parts_after, form_after, Takes, list_text, part_text_by}
+use Rattle.journal.specs.Form.{part_text}
 use Rattle.journal.specs.declared.form.Kind.{Kind}
 use Rattle.journal.specs.declared.form.Kind.TheVariants.{Nothing, Number, List as Words, Signed, Length}
 use Rattle.journal.specs.declared.form.Part.{Part}

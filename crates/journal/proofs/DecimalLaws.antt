@@ -166,4 +166,5 @@ module _ (x : ℕ) (p : x < 2 ^ 64) where
       go (no q) =
           let many : 2 ^ 63 ≤ x = omega arith in
           rw (le-ltb x (2 ^ 63) many)
-          (below_in (decimal (2 ^ 64 - x)) (2 ^ 64 - x) (large many) (omega arith) (omega arith) ∙ ap Some (omega arith))
+          (below_in (decimal (2 ^ 64 - x)) (2 ^ 64 - x) (large many) (omega arith) (omega arith)
+          ∙ ap Some (omega arith))

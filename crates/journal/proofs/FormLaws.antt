@@ -10,7 +10,8 @@ use native.Mathlib.Nat.{add-zero}
 use native.Mathlib.Decide.{dec_lt}
 use lib.ListN.{length, get_or, take, drop, set, replicate, length-drop, length-set, take-append-drop}
 use lib.ListN.{get_or-replicate, get_or-eq_default}
-use lib.Seq.{length-take-le, drop-append-le, take-append-le, take-append_seam, drop_at, get_or-set_same, get_or-set_other}
+use lib.Seq.{length-take-le, drop-append-le, take-append-le, take-append_seam, drop_at, get_or-set_same}
+use lib.Seq.{get_or-set_other}
 use borrow.Rule.Slice.PartMut.{put_mid, mid_len}
 use Rattle.std.specs.Prelude.{Ok, Err, IfOk, MatchResult}
 use Rattle.std.proofs.lemmas.Result.{IfOk-at_ok}
@@ -40,7 +41,8 @@ use Rattle.journal.proofs.ListLaws.{count_most, list_most, then_count, then_list
 module _ (part : Part) (text : List ℕ) (at : ℕ) (kind : Kind) (k : part.1 ≡ kind) where
   pub follows : (found : List ℕ) (reading : Reading ℕ) → number_part reading ≡ part_by kind (name_text part.0) text at →
       ((number : ℕ) → count_by kind number ≡ 0) →
-      MatchResult reading (λ read. PartFollows part text at read found found) (λ broken. part_after part text at ≡ Err broken)
+      MatchResult reading (λ read. PartFollows part text at read found found)
+      (λ broken. part_after part text at ≡ Err broken)
   unfolding part_after
   follows found (Ok read) e none =
       record { words = []; after = rw (k, ← e) refl; lent = rw (k, none read.value) refl }
@@ -48,11 +50,12 @@ module _ (part : Part) (text : List ℕ) (at : ℕ) (kind : Kind) (k : part.1 �
 
   -- a list into as many places as it may have words
   pub follows_list : (signed : Bool) (most : ℕ) (found left : List ℕ) (result : Reading ℕ) →
-      list_part (list_after text at (name_text part.0) (length found) signed most) ≡ part_by kind (name_text part.0) text
-      at → ((number : ℕ) → count_by kind number ≡ number) →
+      list_part (list_after text at (name_text part.0) (length found) signed most)
+      ≡ part_by kind (name_text part.0) text at → ((number : ℕ) → count_by kind number ≡ number) →
       MatchResult result (λ read. ListFollows text at (name_text part.0) (length found) signed most read found left)
       (λ broken. list_after text at (name_text part.0) (length found) signed most ≡ Err broken) →
-      MatchResult result (λ read. PartFollows part text at read found left) (λ broken. part_after part text at ≡ Err broken)
+      MatchResult result (λ read. PartFollows part text at read found left)
+      (λ broken. part_after part text at ≡ Err broken)
   unfolding part_after
   follows_list signed most found left (Ok read) e whole f =
       record {
@@ -114,7 +117,8 @@ part_sized part text at = go part.1 refl
     go : (kind : Kind) → part.1 ≡ kind →
         IfOk (part_by kind (name_text part.0) text at) (λ read. Sized part read.value)
     go Nothing k = record { bounded = omega arith; counted = rw k refl }
-    go (Number most) k = number most _ (ap bound_by k) (λ n. ap (λ kind. count_by kind n) k) (number_most text at false most)
+    go (Number most) k =
+        number most _ (ap bound_by k) (λ n. ap (λ kind. count_by kind n) k) (number_most text at false most)
     go (Words longest most) k =
         list longest _ (ap bound_by k) (λ n. ap (λ kind. count_by kind n) k)
         (list_most text at (name_text part.0) longest false most)
@@ -207,7 +211,8 @@ module _ (form : List Part) (text : List ℕ) (from : ℕ) where
     rest = λ j p. nothing_at j (dec_lt j part_count);
   }
     where
-      nothing_at : (j : ℕ) → Dec (j < part_count) → get_or (replicate part_count placed_none) j placed_none ≡ placed_none
+      nothing_at : (j : ℕ) → Dec (j < part_count) →
+          get_or (replicate part_count placed_none) j placed_none ≡ placed_none
       nothing_at j (yes p) = get_or-replicate part_count j placed_none placed_none p
       nothing_at j (no p) = get_or-eq_default (replicate part_count placed_none) placed_none {n = j} (omega arith)
 
@@ -224,7 +229,8 @@ module _ (form : List Part) (text : List ℕ) (from : ℕ) where
     unfolding parts_below
     below_same after n left here same =
         list_same k _ _ (λ j r. let p : Placed = get_or parts j placed_none in let l = f.lies j r in
-        ap (held_of p.number) (sym (within_kept (p.end - p.start) p.start place words (left ++ drop n (drop place words))
+        ap (held_of p.number)
+        (sym (within_kept (p.end - p.start) p.start place words (left ++ drop n (drop place words))
         (omega (arith, l.within, l.counted)) here))
         ∙ ap (λ q. held_by q (put_mid place n words left)) (sym (same j r)))
 
@@ -256,8 +262,8 @@ module _ (form : List Part) (text : List ℕ) (from : ℕ) where
         few_words = omega (arith, e, count_room (part_at form k) read.value sized.bounded)
 
         pub form_more : (close : ℕ) → close ≡ place + count_of (part_at form k) read.value →
-            FormSoFar form text from (set parts k (placed read.value place close)) (put_mid place (end - place) words left)
-            read.next end (k + 1)
+            FormSoFar form text from (set parts k (placed read.value place close))
+            (put_mid place (end - place) words left) read.next end (k + 1)
         unfolding parts_after parts_below list_below
         form_more close c =
             let new : List ℕ = put_mid place (end - place) words left in
@@ -283,7 +289,8 @@ module _ (form : List Part) (text : List ℕ) (from : ℕ) where
                   (λ i s. rw (same i s) (lies_on (f.lies i s) end (omega (arith, e))))
                   (rw last (record { bounded = sized.bounded; counted = c; within = omega (arith, c, few_words) })) j
                   (omega arith);
-              rest = λ j r. get_or-set_other parts k j _ placed_none (λ t. absurd (omega arith)) ∙ f.rest j (omega arith);
+              rest = λ j r.
+                  get_or-set_other parts k j _ placed_none (λ t. absurd (omega arith)) ∙ f.rest j (omega arith);
             }
 
     -- past the last part there is nothing
@@ -299,7 +306,8 @@ module _ (form : List Part) (text : List ℕ) (from : ℕ) where
               reads_more _ from f.after {value = held_of 0 []} {last = at} (rw nothing refl)
               ∙ ap (λ list. Ok (read_of list at)) (rw (add-one, none) refl);
           lies = λ j r. by_last k (λ i. Lies (part_at form i) (get_or parts i placed_none) place) f.lies
-              (rw (none, nothing) (record { bounded = omega arith; counted = refl; within = omega arith })) j (omega arith);
+              (rw (none, nothing) (record { bounded = omega arith; counted = refl; within = omega arith })) j
+              (omega arith);
           rest = λ j r. f.rest j (omega arith);
         }
 

@@ -9,7 +9,8 @@ use Rattle.std.specs.Prelude.{IfOk}
 use Rattle.std.proofs.lemmas.Result.{IfOk-weaker}
 use Rattle.journal.specs.Cursor.{word_after}
 use Rattle.journal.specs.List.{numbers_after, count_after, list_after}
-use Rattle.journal.proofs.CursorLaws.{if_then, if_any, reads_keep, reads_length, Past, then_word, then_number, number_most}
+use Rattle.journal.proofs.CursorLaws.{if_then, if_any, reads_keep, reads_length, Past, then_word, then_number}
+use Rattle.journal.proofs.CursorLaws.{number_most}
 
 -- there are as many numbers as are read
 pub numbers_length : (count : ℕ) (text : List ℕ) (at : ℕ) (signed : Bool) (most : ℕ) →

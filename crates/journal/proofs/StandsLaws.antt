@@ -51,7 +51,11 @@ module _ (text : List ℕ) (at : ℕ) where
   unfolding word_after
   word_stands name tail p e s =
       let t : TokenStands text at name tail = token_next text at name tail p e line_end line_gap s in
-      record { next = found.end; read = rw (token_bytes t, (bytes_eq-Decides name name).1 refl) refl; after = token_after_lem t }
+      record {
+        next = found.end;
+        read = rw (token_bytes t, (bytes_eq-Decides name name).1 refl) refl;
+        after = token_after_lem t;
+      }
 
   -- a number after a blank
   pub number_stands : (signed : Bool) (x most : ℕ) (tail : List ℕ) → x ≤ most → x ≤ most_word → Ends tail →

@@ -69,7 +69,8 @@ module _ (text : List ℕ) where
   unfolding start_from
   start_byte zero comment k p = absurd (omega arith)
   start_byte (suc left) comment k p =
-      go (comment || ends_token (byte_at text k)) refl p (start_byte left (comment_after comment (byte_at text k)) (k + 1))
+      go (comment || ends_token (byte_at text k)) refl p
+      (start_byte left (comment_after comment (byte_at text k)) (k + 1))
     where
       on : ℕ
       on = start_from left (comment_after comment (byte_at text k)) text (k + 1)
@@ -127,6 +128,7 @@ module _ (text : List ℕ) (from : ℕ) where
   pub token_later : from ≤ length text → from ≤ (token_after text from).start
   token_later p = rw (token_from p) (start_least text from)
 
-  pub token_some : (token_after text from).start < length text → (token_after text from).start < (token_after text from).end
+  pub token_some : (token_after text from).start < length text →
+      (token_after text from).start < (token_after text from).end
   unfolding token_after
   token_some p = start_past text (min from (length text)) p

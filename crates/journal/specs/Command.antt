@@ -1,6 +1,7 @@
 -- The commands of a journal (docs/JOURNAL.md, "Input"): which one stands next, and the form of what follows its word.
 -- Assumes nothing.
-use Rattle.std.specs.Prelude.{Bool, true, false, cond, List, [], ◌∷◌, ℕ, eqb, length, Result, Ok, Option, Some, None, option_map, bytes_eq}
+use Rattle.std.specs.Prelude.{Bool, true, false, cond, List, [], ◌∷◌, ℕ, eqb, length, Result, Ok, Option, Some, None}
+use Rattle.std.specs.Prelude.{option_map, bytes_eq}
 use Rattle.std.specs.List.{find}
 use Prim.Native.String.{String}
 use Rattle.numbers.specs.Sizes.{most_distributors, sector_places}

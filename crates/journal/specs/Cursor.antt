@@ -40,7 +40,8 @@ abbrev pub token_read : {A : Type 0} → Token → Option A → Reading A
 token_read token (Some value) = Ok (read_of value token.end)
 token_read token None = Err (unreadable token.start)
 
--- how far the text is read with the next token, which is the given word; "where the text ends too early B is its length"
+-- how far the text is read with the next token, which is the given word; "where the text ends too early B is its
+-- length"
 unfoldable pub word_after : List ℕ → ℕ → List ℕ → Result ℕ Unreadable
 word_after text at word =
     let token = token_after text at in

@@ -1,6 +1,7 @@
 -- A form: the parts of a command's text in their order (docs/JOURNAL.md, "Input"), what a text holds of them, and the
 -- text that is written of them. Assumes nothing.
-use Rattle.std.specs.Prelude.{Bool, true, false, ◌≡◌, List, [], ◌∷◌, ◌++◌, ℕ, ◌+◌, ◌-◌, ◌≤◌, ◌<◌, length, get_or, take, drop, Ok, Err}
+use Rattle.std.specs.Prelude.{Bool, true, false, ◌≡◌, List, [], ◌∷◌, ◌++◌, ℕ, ◌+◌, ◌-◌, ◌≤◌, ◌<◌, length, get_or, take}
+use Rattle.std.specs.Prelude.{drop, Ok, Err}
 use Prim.Native.String.{String}
 use Rattle.numbers.specs.Bounded.{sum_below, list_below}
 use Rattle.text.specs.Text.{bytes, line_end, word, words_by, text_below, name_text}

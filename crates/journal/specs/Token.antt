@@ -1,5 +1,6 @@
 -- The tokens of a journal: blanks, comments, where a token starts and where it ends. Assumes nothing.
-use Rattle.std.specs.Prelude.{Bool, false, cond, not, ◌&&◌, ◌||◌, List, ℕ, zero, suc, ◌+◌, ◌-◌, min, eqb, length, get_or, take, drop}
+use Rattle.std.specs.Prelude.{Bool, false, cond, not, ◌&&◌, ◌||◌, List, ℕ, zero, suc, ◌+◌, ◌-◌, min, eqb, length}
+use Rattle.std.specs.Prelude.{get_or, take, drop}
 use Rattle.journal.specs.declared.token.Token.{Token}
 
 -- a text's byte; past its end 0
@@ -22,7 +23,8 @@ comment_after comment byte = not (eqb byte 10) && (comment || eqb byte 35)
 unfoldable pub start_from : ℕ → Bool → List ℕ → ℕ → ℕ
 start_from zero comment text k = k
 start_from (suc left) comment text k =
-    cond (comment || ends_token (byte_at text k)) (start_from left (comment_after comment (byte_at text k)) text (k + 1)) k
+    cond (comment || ends_token (byte_at text k))
+    (start_from left (comment_after comment (byte_at text k)) text (k + 1)) k
 
 -- where the next token starts; the text's length where there is none
 unfoldable pub token_start : List ℕ → ℕ → ℕ

@@ -34,7 +34,8 @@ pub enum Kind {
     Length(u64),
 }
 
-// A part of a form: its name, which a number does not show, and what it is.
+// A part of a form: its name, which a number does not show, and what it is. The name is an array of one size, since
+// clauses compare forms, and a borrowed one has an address too.
 #[derive(Clone, Copy)]
 pub struct Part(pub [u8; NAME], pub Kind);
 

@@ -14,7 +14,8 @@ use Rattle.journal.proofs.command.command_named.Goals.{After-eq}
 
 -- whether the word is the row's name
 same : (e : After-eq) →
-    e.eq.result ≡ bytes_eq e.args.word.now (name_text (get_or command_rows e.loop-row.row-index (record { 0 = []; 1 = Open })).0)
+    e.eq.result
+    ≡ bytes_eq e.args.word.now (name_text (get_or command_rows e.loop-row.row-index (record { 0 = []; 1 = Open })).0)
 same e = e.eq.ensures ∙ ap (bytes_eq e.args.word.now) e.name_bytes.ensures
 
 pub returns-then-eq : goal.returns-then-eq

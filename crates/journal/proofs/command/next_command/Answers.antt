@@ -13,8 +13,11 @@ returns-then-token-text c = command_none _ _ _ c.next_token-token.ensures.value 
 
 -- what the token is read as
 read : (r : After-read) →
-    r.read.result ≡ token_read r.next_token-token.result (command_named (bytes_of r.args.text.now r.next_token-token.result))
-read r = r.read.ensures ∙ ap (token_read r.next_token-token.result) (r.command_named.ensures ∙ ap command_named r.bytes.ensures)
+    r.read.result
+    ≡ token_read r.next_token-token.result (command_named (bytes_of r.args.text.now r.next_token-token.result))
+read r =
+    r.read.ensures
+    ∙ ap (token_read r.next_token-token.result) (r.command_named.ensures ∙ ap command_named r.bytes.ensures)
 
 pub returns-in_err-read : goal.returns-in_err-read
 returns-in_err-read c =

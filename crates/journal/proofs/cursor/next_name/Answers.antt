@@ -12,11 +12,13 @@ same : (e : After-eq) →
     e.eq.result ≡ bytes_eq (bytes_of e.args.text.now (token_after e.args.text.now e.args.at)) (name_text e.args.name)
 same e =
     e.eq.ensures
-    ∙ ap₂ bytes_eq (e.bytes.ensures ∙ ap (bytes_of e.args.text.now) e.next_token-token.ensures.value) e.name_bytes.ensures
+    ∙ ap₂ bytes_eq (e.bytes.ensures ∙ ap (bytes_of e.args.text.now) e.next_token-token.ensures.value)
+    e.name_bytes.ensures
 
 pub returns-then-eq : goal.returns-then-eq
 unfolding word_after
-returns-then-eq c = rw (c.next_token-token.ensures.value, sym (same (goal.at.returns-then-eq c).After-eq) ∙ c.if-eq.true) refl
+returns-then-eq c =
+    rw (c.next_token-token.ensures.value, sym (same (goal.at.returns-then-eq c).After-eq) ∙ c.if-eq.true) refl
 
 pub returns : goal.returns
 unfolding word_after

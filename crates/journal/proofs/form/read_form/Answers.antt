@@ -26,13 +26,16 @@ module _ (r : After-room) where
   inside = omega (arith, r.requires.few)
 
   fits : r.loop-k.start + r.room.result ≤ length r.loop-k.words
-  fits = rw r.room.ensures (form_fits _ _ _ r.loop-k.invariant (omega (arith, r.requires.room, r.loop-k.auto.words)) inside)
+  fits =
+      rw r.room.ensures (form_fits _ _ _ r.loop-k.invariant (omega (arith, r.requires.room, r.loop-k.auto.words)) inside)
 
 pub overflow_add-room : goal.overflow_add-room
-overflow_add-room c = omega (arith, fits (goal.at.overflow_add-room c).After-room, short (goal.at.overflow_add-room c).At-loop-k)
+overflow_add-room c =
+    let g = goal.at.overflow_add-room c in omega (arith, fits g.After-room, short g.At-loop-k)
 
 pub offset_bounds-words-start : goal.offset_bounds-words-start
-offset_bounds-words-start c = omega (arith, fits (goal.at.offset_bounds-words-start c).After-room, short (goal.at.offset_bounds-words-start c).At-loop-k)
+offset_bounds-words-start c =
+    let g = goal.at.offset_bounds-words-start c in omega (arith, fits g.After-room, short g.At-loop-k)
 
 pub slice_bounds-read-end : goal.slice_bounds-read-end
 slice_bounds-read-end c = fits (goal.at.slice_bounds-read-end c).After-room

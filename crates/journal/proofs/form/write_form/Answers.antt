@@ -25,5 +25,6 @@ returns g c =
     let last : c.loop-k.k ≡ length c.args.form.now = omega arith in
     written_after g.row.SIZE _ _ _ _ _
     (written_after g.row.SIZE _ _ _ _ _ c.write_name.ensures
-    (rw (text_whole c.args.form.now (parts_in c.args.parts.now c.args.words.now) c.requires.few) at (rw last at c.loop-k.invariant)))
+    (rw (text_whole c.args.form.now (parts_in c.args.parts.now c.args.words.now) c.requires.few) at
+    (rw last at c.loop-k.invariant)))
     c.push.ensures

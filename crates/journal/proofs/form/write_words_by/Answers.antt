@@ -25,7 +25,8 @@ loop-word-preserved g c =
     texts_more g.row.SIZE _ _ c.loop-word.word-index _ _ c.loop-word.invariant
     (c.write_word.ensures
     ∙ ap (λ text. written g.row.SIZE (blank ∷ text) c.loop-word.text)
-    (ap integer (to_z-of_z {w = w64} (sfits_of c.signed_of.type_inv) ∙ c.signed_of.ensures) ∙ signed_plain x (c.type_inv.words c.loop-word.word-index).fits))
+    (ap integer (to_z-of_z {w = w64} (sfits_of c.signed_of.type_inv) ∙ c.signed_of.ensures)
+    ∙ signed_plain x (c.type_inv.words c.loop-word.word-index).fits))
 
 pub returns : goal.returns
 unfolding words_by

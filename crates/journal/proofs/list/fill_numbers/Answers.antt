@@ -19,14 +19,16 @@ pub returns-in_err-number : goal.returns-in_err-number
 unfolding numbers_after
 returns-in_err-number c =
     let p = err_from_is_err_and c.from_residual.result c.from_residual.ensures.1 in
-    rw (p.1, p.2) (reads_broken _ _ c.loop-place.invariant (sym c.next_number.ensures ∙ c.in_err-number.was) _ (omega arith))
+    rw (p.1, p.2)
+    (reads_broken _ _ c.loop-place.invariant (sym c.next_number.ensures ∙ c.in_err-number.was) _ (omega arith))
 
 pub loop-place-preserved : goal.loop-place-preserved
 unfolding numbers_after
 loop-place-preserved c =
     reads_more _ _ c.loop-place.invariant (sym c.next_number.ensures ∙ c.in_ok-number.was)
     ∙ ap (λ words. Ok (read_of words c.in_ok-number.number.next))
-    (sym (rw add-one (take-suc-set c.loop-place.into c.loop-place.place-index c.in_ok-number.number.value (omega arith))))
+    (sym (rw add-one
+    (take-suc-set c.loop-place.into c.loop-place.place-index c.in_ok-number.number.value (omega arith))))
 
 pub returns : goal.returns
 returns c =

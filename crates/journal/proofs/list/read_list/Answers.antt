@@ -45,6 +45,7 @@ returns c =
     record {
       words = c.fill_numbers.new.into;
       after = rw (sym c.read_count.ensures ∙ c.in_ok-counted.was) numbers;
-      counted = sym (IfOk-at_ok (λ read. length read.value ≡ c.in_ok-counted.counted.value) numbers (numbers_length _ _ _ _ _));
+      counted = sym (IfOk-at_ok (λ read. length read.value ≡ c.in_ok-counted.counted.value) numbers
+          (numbers_length _ _ _ _ _));
       lent = refl;
     }

@@ -25,5 +25,6 @@ returns c =
     record {
       value = same;
       ordered = subst (λ (t : Token). t.start ≤ t.end) (sym same) (token_ordered c.args.text.now c.args.from);
-      within = subst (λ (t : Token). t.end ≤ length c.args.text.now) (sym same) (token_within c.args.text.now c.args.from);
+      within = subst (λ (t : Token). t.end ≤ length c.args.text.now) (sym same)
+          (token_within c.args.text.now c.args.from);
     }
