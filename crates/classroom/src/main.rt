@@ -6,17 +6,20 @@
 
 ghost use Rattle.std.specs.Prelude.{◌<◌};
 
-use answers::line::values_line;
+use answers::line::write_values;
 use ledger::fix::fix;
 use ledger::open::open;
 use series::table::{CPI, MONTHS, WORDS};
 use supply::line::{LINE_WORDS, POWER_START};
 use supply::market::FixingNumbers;
-use text::line::write_line;
+use text::buffer::Text;
 use text::row::write_rows;
 
 // The file descriptor of standard output.
 const STDOUT_FILENO: i32 = 1;
+
+// What the printed text has room for: a line of four values and three of four numbers.
+const TEXT_BYTES: usize = 512;
 
 // Where the CPI of the table's first month stands.
 const FIRST_CPI: usize = CPI as usize * MONTHS;
@@ -59,13 +62,6 @@ fn sectors() -> [u64; 24] {
     sectors
 }
 
-// Prints the first bytes of a text.
-fn print(text: &[u8], count: usize) {
-    if let Some(shown) = text.get(..count) {
-        io::write_all(STDOUT_FILENO, shown);
-    }
-}
-
 fn main() {
     let ledger = open(3).ledger;
     let mut series = [0u64; WORDS];
@@ -91,9 +87,10 @@ fn main() {
         &mut power,
     );
     if let Ok(values) = outcome.answer {
-        let mut text = io::buffer();
-        let end = write_line(&mut text, 0, values_line(values));
-        let end = write_rows(&mut text, end, &prices, 3, false, &[]);
-        print(&text, end);
+        let mut text: Text<TEXT_BYTES> = Text::new();
+        write_values(&mut text, values);
+        let column: [u64; 0] = [];
+        write_rows(&mut text, &prices, 3, &column);
+        io::write_all(STDOUT_FILENO, text.as_bytes());
     }
 }

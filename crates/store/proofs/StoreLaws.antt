@@ -1,5 +1,5 @@
 -- A ledger that is saved and loaded again is the same ledger, sound or not. Assumes nothing.
-use mathlib.Core.Path.{◌≡◌, refl, sym, ◌∙◌, ap}
+use mathlib.Core.Path.{◌≡◌, refl, sym, ◌∙◌, ap, subst}
 use mathlib.Core.Bool.{Bool, true, false, cond, ◌&&◌, ◌||◌}
 use mathlib.Core.List.{List, [], ◌∷◌, map}
 use Prim.Native.Nat.{ℕ, zero, suc, ◌+◌, ◌-◌, ◌*◌, ◌/◌, ◌%◌, ◌^◌, ◌<◌, ◌≤◌}
@@ -9,8 +9,12 @@ use lib.Dec.{leb, ltb, eqb}
 use lib.ListN.{length, get_or, take, drop, length-map, length-drop, get_or-eq_default}
 use lib.Seq.{ext_get_or, get_or-take, get_or-drop, length-take-le}
 use lib.IntN.{ℤ, pos}
+use denote.Param.Members.{Mut}
+use native.Mathlib.Nat.{add-zero, zero-add}
+use Rattle.std.specs.Array.{IsFromFnResult, IsFromFnResultFrom}
+use Rattle.std.specs.Fn.{Called}
 use mir.Syntax.{w64}
-use mir.Val.{SFits}
+use mir.Val.{SFits, bool_byte}
 use borrow.Author.Tests.{le-ltb, lt-ltb, leb-true, eqb-true}
 use Rattle.numbers.specs.Bounded.{list_below, filled_below}
 use Rattle.numbers.specs.Units.{no_money}
@@ -36,6 +40,36 @@ use Rattle.journal.proofs.FormLaws.{each_part}
 use Rattle.store.specs.Store.{truth_word, word_truth, older_from, balances_from, counts_from, kept_words}
 use Rattle.store.specs.Store.{charges_word, ledger_word, ledger_words, word_owner, zero_past, kept_among, kept_count}
 use Rattle.store.specs.Store.{ledger_parts, Saved, word_at, loaded_charges, loaded_ledger}
+
+-- a list that a call for each index made, where no call changes what the calls hold
+module _ {F B : Type 0} (g : Mut F (ℕ × Unit {0}) B) (f : F) (h : ℕ → B)
+    (told : (i : ℕ) (y : B) (q : F) → Called g f (i, tt) y q → (y ≡ h i) × (q ≡ f)) where
+  made_at : (ys : List B) (n i : ℕ) (p : F) → p ≡ f → IsFromFnResultFrom g p ys i n → (k : ℕ) (d : B) → k < n →
+      get_or ys (i + k) d ≡ h (i + k)
+  made_at ys zero i p e r k d less = absurd (omega arith)
+  made_at ys (suc n) i p e r zero d less =
+      let answer = told i r.1 r.0 (subst (λ (x : F). Called g x (i, tt) r.1 r.0) e r.3) in
+      rw add-zero (r.2.1 d ∙ answer.0)
+  made_at ys (suc n) i p e r (suc k) d less =
+      let answer = told i r.1 r.0 (subst (λ (x : F). Called g x (i, tt) r.1 r.0) e r.3) in
+      let next : i + 1 + k ≡ i + suc k = omega arith in
+      rw next at (made_at ys n (i + 1) r.0 answer.1 r.4 k d (omega arith))
+
+  pub made : (ys : List B) (n : ℕ) (d : B) → IsFromFnResult g f ys n → ys ≡ list_below n h
+  made ys n d r =
+      ext_get_or d _ _ (r.long ∙ sym (list_length h n))
+      (λ k p. let less : k < n = omega (arith, r.long) in
+      rw zero-add at (made_at ys n 0 f refl r.each k d less) ∙ sym (list_at h n d k less))
+
+  -- the same as a list with room for no more
+  pub made_filled : (ys : List B) (n : ℕ) (d : B) → IsFromFnResult g f ys n → ys ≡ filled_below n d n h
+  unfolding filled_below
+  made_filled ys n d r = made ys n d r ∙ list_same n h _ (λ j p. sym (rw (lt-ltb j n p) refl))
+
+-- a truth as a word
+pub truth_byte : (truth : Bool) → bool_byte truth ≡ truth_word truth
+truth_byte true = refl
+truth_byte false = refl
 
 -- a list is as long as its image
 pub mapped : (A B : Type 0) (f : A → B) (l : List A) (n : ℕ) → length (map f l) ≡ n → length l ≡ n

@@ -2,7 +2,7 @@
 // them is not zero.
 ghost use Rattle.std.specs.Prelude.{◌≡◌, ◌<◌, ◌≤◌, length};
 ghost use Rattle.numbers.specs.Sizes.{most_distributors};
-ghost use Rattle.store.specs.Store.{truth_word, older_from, kept_words, charges_word, ledger_word};
+ghost use Rattle.store.specs.Store.{older_from, kept_words, charges_word, ledger_word};
 ghost use Rattle.store.specs.Store.{ledger_words, word_owner, zero_past, kept_among, Saved};
 
 use fixing::sector::SectorCharges;
@@ -26,20 +26,13 @@ const COUNTS: usize = BALANCES + MOST_DISTRIBUTORS;
 // How many words there are at most.
 pub const KEPT_WORDS: usize = COUNTS + MOST_DISTRIBUTORS;
 
-// A truth as a word, 0 or 1.
-fn truth_word(truth: bool) -> u64
-    ensures { result ≡ truth_word truth }
-{
-    if truth { 1 } else { 0 }
-}
-
 // Word k of a fixing's: presences, then charges.
 fn charges_word(fixing: SectorCharges, k: usize) -> u64
     requires { k < older_from }
     ensures { result ≡ charges_word fixing k }
 {
     if k < PLACES {
-        return truth_word(fixing.present[k]);
+        return u64::from(fixing.present[k]);
     }
     word_of(fixing.charges[k - PLACES])
 }
@@ -67,10 +60,8 @@ fn save_words(ledger: Ledger, words: &mut [u64])
     requires { length words.old ≡ kept_words }
     ensures { words.new ≡ ledger_words ledger }
 {
-    let mut k: usize = 0;
-    while k < KEPT_WORDS {
+    for k in 0..KEPT_WORDS {
         words[k] = ledger_word(ledger, k);
-        k += 1;
     }
 }
 
@@ -89,14 +80,7 @@ fn zero_past(n: usize, words: &[u64]) -> bool
     requires { length words.now ≡ kept_words }
     ensures { result ≡ zero_past n words.now }
 {
-    let mut k: usize = 0;
-    while k < KEPT_WORDS {
-        if !((word_owner(k) < n) | (words[k] == 0)) {
-            return false;
-        }
-        k += 1;
-    }
-    true
+    (0..KEPT_WORDS).all(|k| (word_owner(k) < n) | (words[k] == 0))
 }
 
 // For how many distributors words are kept.
@@ -122,10 +106,10 @@ pub fn save(ledger: Ledger, words: &mut [u64]) -> Parts
     Parts([
         Placed::of_number(ledger.n as u64),
         Placed::of_number(ledger.last),
-        Placed::of_number(truth_word(ledger.fixed)),
+        Placed::of_number(u64::from(ledger.fixed)),
         Placed::of_number(ledger.month),
         Placed::of_number(ledger.day),
-        Placed::of_number(truth_word(ledger.has_older)),
+        Placed::of_number(u64::from(ledger.has_older)),
         Placed::of_list(0, places),
         Placed::of_list(PLACES, places),
         Placed::of_list(OLDER, places),

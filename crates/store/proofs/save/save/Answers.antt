@@ -4,7 +4,7 @@ use Prim.Native.Nat.{◌^◌, ◌<◌}
 use borrow.Author.Rules.{rules}
 use Rattle.ledger.specs.declared.ledger.Ledger.{Ledger}
 use Rattle.store.specs.Store.{kept_among, kept_count}
-use Rattle.store.proofs.StoreLaws.{saved}
+use Rattle.store.proofs.StoreLaws.{truth_byte, saved}
 use Rattle.store.proofs.save.save.Goals as goal
 use Rattle.store.proofs.save.save.Goals.{After-kept_among-kept, Start}
 
@@ -39,5 +39,5 @@ returns c =
       c.of_list-5.ensures,
       c.of_list-6.ensures,
     )
-    (saved (ledger (goal.at.returns c).After-kept_among-kept) h.0 h.1 h.2 h.3 _ _ _ _ c.save_words.ensures (kept_is (goal.at.returns c).After-kept_among-kept) c.truth_word.ensures
-    c.truth_word-2.ensures)
+    (saved (ledger (goal.at.returns c).After-kept_among-kept) h.0 h.1 h.2 h.3 _ _ _ _ c.save_words.ensures (kept_is (goal.at.returns c).After-kept_among-kept) (c.from.ensures ∙ truth_byte _)
+    (c.from-2.ensures ∙ truth_byte _))
