@@ -73,4 +73,4 @@ answer_fits WriteSheet parts ledger = sheet_fits parts
 pub answer_whole : (command : Command) (parts : List Held) (ledger : Ledger) →
     written longest_answer (command_answer command parts ledger) [] ≡ command_answer command parts ledger
 answer_whole command parts ledger =
-    text_stands longest_answer (command_answer command parts ledger) [] (answer_fits command parts ledger)
+    text_stands longest_answer (command_answer command parts ledger) [] (omega (arith, answer_fits command parts ledger))

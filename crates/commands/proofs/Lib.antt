@@ -1,3 +1,4 @@
 pub mod AnswerLaws
+pub mod LentLaws
 pub mod ReplayLaws
 pub mod SavedLaws

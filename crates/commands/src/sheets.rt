@@ -18,8 +18,8 @@ fn narrow(words: &[u64], bytes: &mut [u8])
     requires { length bytes.old ≡ length words.now }
     ensures { bytes.new ≡ bytes_of words.now }
 {
-    for (byte, word) in bytes.iter_mut().zip(words) {
-        *byte = (*word % 256) as u8;
+    for (k, word) in words.iter().enumerate() {
+        bytes[k] = (*word % 256) as u8;
     }
 }
 
