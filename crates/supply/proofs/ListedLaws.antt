@@ -47,7 +47,9 @@ module _ {A : Type 0} (test : A → Bool) (list : List A) (empty : A) where
       ∙ ap (λ b. b || test (get_or list k empty)) (any_taken k (omega arith))
 
   pub any_listed : list_any test list ≡ any_below (length list) (λ k. test (get_or list k empty))
-  any_listed = ap (list_any test) (sym (take_all (length list) list (omega arith))) ∙ any_taken (length list) (omega arith)
+  any_listed =
+      ap (list_any test) (sym (take_all (length list) list (omega arith)))
+      ∙ any_taken (length list) (omega arith)
 
 -- a mean of the list is at most that of the top value
 pub listed_most : (means : List ℕ) → ValuesWithin most_mean means → (term : Term) → listed_mean means term ≤ most_mean

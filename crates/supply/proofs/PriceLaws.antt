@@ -11,7 +11,6 @@ use native.Mathlib.Omega.{arith}
 use native.Mathlib.Nat.{mul-le-mul}
 use lib.Dec.{leb, ltb, eqb}
 use lib.ListN.{length, get_or}
-use borrow.Author.Tests.{lt-ltb, le-ltb}
 use Rattle.numbers.specs.Required.{ValuesWithin}
 use Rattle.numbers.specs.Rounding.{half_up}
 use Rattle.numbers.specs.Bounded.{first_below}
@@ -180,7 +179,8 @@ module _ (mean : Term → ℕ) (line : Line) where
       where
         go : (b : Bool) → indexed_allowed mean line ≡ b → (p : Bool) (a : Option PesoPrice) →
             price_answer mean numbers line old ≡ a →
-            ◌≡◌ {A = Option LineWords} (cond (b && p) (Some (record { indexed = line_indexed mean line; purchase = power_purchase mean line })) None) None →
+            ◌≡◌ {A = Option LineWords} (cond (b && p)
+            (Some (record { indexed = line_indexed mean line; purchase = power_purchase mean line })) None) None →
             beyond_at j a p ≡ Some j
         go b e p None f h = refl
         go true e true (Some a) f h = absurd (none-some _ (sym h))
@@ -202,17 +202,7 @@ words_at mean lines words j e p few =
     ap (λ (w : List (Option LineWords)). get_or w j None) e
     ∙ filled_at most_lines None (λ i. line_words mean (line_of lines i)) (line_count lines) j p (omega arith)
 
--- a line's price in force: none past the list's end, else the word at its place
-module _ (in_force : List ℕ) (j : ℕ) where
-  pub none_in_force : length in_force ≤ j → price_in_force in_force j ≡ None
-  unfolding price_in_force
-  none_in_force p = rw (le-ltb j (length in_force) p)
-
-  pub some_in_force : j < length in_force → price_in_force in_force j ≡ Some (get_or in_force j 0)
-  unfolding price_in_force
-  some_in_force p = rw (lt-ltb j (length in_force) p)
-
--- which keeps the bounds of an indexed price
+-- a line's price in force keeps the bounds of an indexed price
 pub in_force_most : (in_force : List ℕ) → ValuesWithin 1000000 in_force → (j : ℕ) →
     IfSome (price_in_force in_force j) (λ price. price ≤ 1000000)
 unfolding price_in_force

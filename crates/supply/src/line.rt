@@ -120,8 +120,8 @@ pub fn line_at(lines: &[u64], j: usize) -> Line
     }
 }
 
-// Line j of words in their ranges. The words themselves stay a slice with a `requires`: a struct around them is no plainer,
-// since clauses then name `lines.now.words.now`.
+// Line j of words in their ranges. The words stay a slice with a `requires`: a struct around them is no plainer, since
+// clauses then name `lines.now.words.now`.
 pub(crate) fn checked_line(lines: &[u64], j: usize) -> CheckedLine
     requires lines_checked { CheckedLines lines.now }
     requires inside { j < line_count lines.now }

@@ -24,9 +24,10 @@ use Rattle.supply.specs.Price.{power_price, reference_list, power_list, worked_p
 use Rattle.supply.specs.declared.line.Term.{Term}
 use Rattle.supply.specs.declared.price.LinePrices.{LinePrices}
 use Rattle.supply.proofs.PriceLaws.{Worded, worded, words_at, line_wordless, line_answer, line_within, line_beyond}
-use Rattle.supply.proofs.PriceLaws.{line_price, in_force_most, taken_most, bounded_beyond, bounded_unmoved, bounded_passed}
+use Rattle.supply.proofs.PriceLaws.{line_price, in_force_most, taken_most}
+use Rattle.supply.proofs.PriceLaws.{bounded_beyond, bounded_unmoved, bounded_passed}
 use Rattle.supply.proofs.price.bounded_prices.Goals as goal
-use Rattle.supply.proofs.price.bounded_prices.Goals.{After-loop-j, After-ok_or, After-reference_price, In_ok-line}
+use Rattle.supply.proofs.price.bounded_prices.Goals.{After-loop-j, After-reference_price, In_ok-line}
 
 -- what `ok_or` says by its answer
 module _ {A E : Type 0} where
@@ -94,8 +95,8 @@ pub reference_price-requires-clause-taken_within : goal.reference_price-requires
 reference_price-requires-clause-taken_within c =
     let ok = (goal.at.reference_price-requires-clause-taken_within c).In_ok-line in
     let old = in_force_most c.args.in_force.now c.requires.in_force_within c.loop-j.j in
-    let most = taken_most (price_in_force c.args.in_force.now c.loop-j.j) c.in_ok-line.line.indexed old (says ok).indexed_most in
-    rw (c.price_taken-taken.ensures, c.price_in_force-old.ensures) most
+    rw (c.price_taken-taken.ensures, c.price_in_force-old.ensures)
+    (taken_most (price_in_force c.args.in_force.now c.loop-j.j) c.in_ok-line.line.indexed old (says ok).indexed_most)
 
 pub has_moved-moved-requires-clause-old_within : goal.has_moved-moved-requires-clause-old_within
 has_moved-moved-requires-clause-old_within c =
@@ -131,7 +132,9 @@ returns-in_err-reference c =
     let j = c.loop-j.j in
     let ok = (goal.at.returns-in_err-reference c).In_ok-line in
     let p = err_from_is_err_and c.from_residual-in_err-reference.result c.from_residual-in_err-reference.ensures.1 in
-    let told = lacking _ (OutOfBounds j) c.in_err-reference.field-0.0 (sym c.ok_or-in-loop-j.ensures.value ∙ c.in_err-reference.was) in
+    let told =
+    lacking _ (OutOfBounds j) c.in_err-reference.field-0.0
+    (sym c.ok_or-in-loop-j.ensures.value ∙ c.in_err-reference.was) in
     rw (p.1, p.2, told.1)
     (bounded_beyond mean a.numbers a.lines.now a.in_force.now j (below ok) c.loop-j.invariant.passed
     (line_beyond mean a.numbers a.lines.now a.in_force.now j
@@ -144,7 +147,9 @@ loop-j-preserved c =
     let mean = listed_mean a.means.now.values in
     let j = c.loop-j.j in
     let ok = (goal.at.loop-j-preserved c).In_ok-line in
-    let told = given _ (OutOfBounds j) c.in_ok-reference.reference (sym c.ok_or-in-loop-j.ensures.value ∙ c.in_ok-reference.was) in
+    let told =
+    given _ (OutOfBounds j) c.in_ok-reference.reference
+    (sym c.ok_or-in-loop-j.ensures.value ∙ c.in_ok-reference.was) in
     let answer = sym (answered (goal.at.loop-j-preserved c).After-reference_price (has ok)) ∙ told in
     record {
       passed = first_step (beyond_in mean a.numbers a.lines.now a.in_force.now) j c.loop-j.invariant.passed
@@ -153,7 +158,8 @@ loop-j-preserved c =
           (inside ok) c.loop-j.invariant.references (line_price mean a.numbers a.lines.now a.in_force.now j _ answer);
       power = filled_next most_lines no_power j (power_price mean a.numbers a.lines.now) _ _
           (inside ok) c.loop-j.invariant.power
-          (ap {B = PowerPrice} (λ x. record { 0 = x }) (c.half_up.ensures ∙ ap (λ x. half_up (x * a.numbers.dollar) 100) (says ok).purchase));
+          (ap {B = PowerPrice} (λ x. record { 0 = x })
+          (c.half_up.ensures ∙ ap (λ x. half_up (x * a.numbers.dollar) 100) (says ok).purchase));
       moved = ap₂ ◌||◌ c.loop-j.invariant.moved
           (c.has_moved-moved.ensures ∙ ap₂ moved c.price_in_force-old.ensures (says ok).indexed)
           ∙ sym (any_step j _);
@@ -164,15 +170,18 @@ module _ (c : After-loop-j) where
   last : c.loop-j.j ≡ line_count c.args.lines.now
   last = omega (arith, c.line_count-j-end.ensures)
 
-  none_beyond : first_beyond (listed_mean c.args.means.now.values) c.args.numbers c.args.lines.now c.args.in_force.now ≡ None
+  none_beyond : first_beyond (listed_mean c.args.means.now.values) c.args.numbers c.args.lines.now
+      c.args.in_force.now ≡ None
   unfolding first_beyond
   none_beyond = rw (← last) c.loop-j.invariant.passed
 
-  some_moved : c.loop-j.moved ≡ any_line_moved (listed_mean c.args.means.now.values) c.args.lines.now c.args.in_force.now
+  some_moved : c.loop-j.moved ≡ any_line_moved (listed_mean c.args.means.now.values) c.args.lines.now
+      c.args.in_force.now
   unfolding any_line_moved any_moved
   some_moved = rw (← last) c.loop-j.invariant.moved
 
-  worked : ◌≡◌ {A = Result LinePrices Refusal} (Ok (record { references = c.loop-j.references; power = c.loop-j.power }))
+  worked : ◌≡◌ {A = Result LinePrices Refusal}
+      (Ok (record { references = c.loop-j.references; power = c.loop-j.power }))
       (Ok (worked_prices (listed_mean c.args.means.now.values) c.args.numbers c.args.lines.now c.args.in_force.now))
   unfolding worked_prices reference_list power_list
   worked = rw (← last, c.loop-j.invariant.references, c.loop-j.invariant.power) refl

@@ -47,7 +47,14 @@ weighted_ratio-sum-requires c =
 
 pub overflow_add-sum : goal.overflow_add-sum
 overflow_add-sum c =
-    omega (arith, c.weighted_ratio-sum.ensures, c.loop-k.invariant.sum, added_most (goal.at.overflow_add-sum c).Start c.loop-k.k, sum_most (goal.at.overflow_add-sum c).Start c.loop-k.k)
+    let start = (goal.at.overflow_add-sum c).Start in
+    omega (
+      arith,
+      c.weighted_ratio-sum.ensures,
+      c.loop-k.invariant.sum,
+      added_most start c.loop-k.k,
+      sum_most start c.loop-k.k,
+    )
 
 pub loop-k-preserved : goal.loop-k-preserved
 loop-k-preserved c =

@@ -4,7 +4,6 @@ use borrow.Author.Tests.{lt-leb, le-leb}
 use Rattle.supply.specs.Listed.{price_within, indexed_by}
 use Rattle.supply.specs.Price.{indexed_of, indexed_within}
 use Rattle.supply.proofs.price.indexed_by.Goals as goal
-use Rattle.supply.proofs.price.indexed_by.Goals.{Else-factor-gt-MOST_INDEX_FACTOR}
 
 pub returns-then-factor-gt-MOST_INDEX_FACTOR : goal.returns-then-factor-gt-MOST_INDEX_FACTOR
 unfolding indexed_by indexed_within

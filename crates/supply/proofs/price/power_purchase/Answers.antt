@@ -8,9 +8,12 @@ use Rattle.supply.proofs.price.power_purchase.Goals as goal
 use Rattle.supply.proofs.price.power_purchase.Goals.{After-indexed_by}
 
 -- the indexed price is that of the ratio
-indexed : (c : After-indexed_by) → c.indexed_by.result ≡ indexed_by most_power_price c.args.checked.line.power_base_price
+indexed : (c : After-indexed_by) →
+    c.indexed_by.result ≡ indexed_by most_power_price c.args.checked.line.power_base_price
     (term_ratio (listed_mean c.args.means.now.values) (term_of c.args.checked.line power_term))
-indexed c = c.indexed_by.ensures ∙ ap (indexed_by most_power_price c.args.checked.line.power_base_price) c.term_ratio-ratio.ensures
+indexed c =
+    c.indexed_by.ensures
+    ∙ ap (indexed_by most_power_price c.args.checked.line.power_base_price) c.term_ratio-ratio.ensures
 
 pub term_ratio-ratio-requires : goal.term_ratio-ratio-requires
 term_ratio-ratio-requires c =

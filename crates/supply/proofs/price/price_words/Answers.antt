@@ -17,7 +17,8 @@ inside c = omega (arith, c.line_count-j-end.ensures, c.requires.few)
 
 pub loop-j-preserved : goal.loop-j-preserved
 loop-j-preserved c =
-    filled_next most_lines None c.loop-j.j (λ i. line_words (listed_mean c.args.means.now.values) (line_of c.args.lines.now i))
+    filled_next most_lines None c.loop-j.j
+    (λ i. line_words (listed_mean c.args.means.now.values) (line_of c.args.lines.now i))
     c.loop-j.words _ (inside c) c.loop-j.invariant
     (c.line_words.ensures ∙ ap (line_words (listed_mean c.args.means.now.values)) c.checked_line.ensures)
 

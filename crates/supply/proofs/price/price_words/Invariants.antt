@@ -7,4 +7,5 @@ use Rattle.supply.specs.Listed.{listed_mean, line_words}
 use Rattle.supply.proofs.price.price_words.Given as goal
 
 abbrev pub invariant-loop-j : goal.invariant-loop-j
-invariant-loop-j l = l.words ≡ filled_below most_lines None l.j (λ i. line_words (listed_mean l.means.values) (line_of l.lines i))
+invariant-loop-j l =
+    l.words ≡ filled_below most_lines None l.j (λ i. line_words (listed_mean l.means.values) (line_of l.lines i))

@@ -65,12 +65,19 @@ peso_price-peso-requires-clause-purchase_within c = bought_most c
 
 pub half_up-reference-requires : goal.half_up-reference-requires
 half_up-reference-requires c =
-    omega (arith, turned_most (goal.at.half_up-reference-requires c).After-peso_price-peso, c.args.checked.facts.purchase, c.args.checked.facts.purchase_most)
+    omega (
+      arith,
+      turned_most (goal.at.half_up-reference-requires c).After-peso_price-peso,
+      c.args.checked.facts.purchase,
+      c.args.checked.facts.purchase_most,
+    )
 
 pub returns : goal.returns
 unfolding reference_answer
 returns c =
-    rw (within (goal.at.returns c).In_ok-purchase) (c.checked.ensures.answered ∙ ap checked_price (c.half_up-reference.ensures ∙ referred (goal.at.returns c).After-peso_price-peso))
+    rw (within (goal.at.returns c).In_ok-purchase)
+    (c.checked.ensures.answered
+    ∙ ap checked_price (c.half_up-reference.ensures ∙ referred (goal.at.returns c).After-peso_price-peso))
 
 pub overflow_mul-peso : goal.overflow_mul-peso
 overflow_mul-peso c = omega (arith, turned_most (goal.at.overflow_mul-peso c).After-peso_price-peso)

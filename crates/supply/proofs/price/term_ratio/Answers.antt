@@ -16,9 +16,6 @@ mean_most c =
 pub overflow_mul-term_mean : goal.overflow_mul-term_mean
 overflow_mul-term_mean c = omega (arith, mean_most c)
 
-pub overflow_mul-term : goal.overflow_mul-term
-overflow_mul-term c = omega (arith, c.requires.base_most)
-
 pub half_up-requires : goal.half_up-requires
 half_up-requires c =
     omega (arith, mean_most (goal.at.half_up-requires c).After-term_mean, c.requires.base, c.requires.base_most)

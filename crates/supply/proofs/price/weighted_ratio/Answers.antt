@@ -15,10 +15,6 @@ product : (c : After-term_ratio) →
 unfolding weighted_ratio
 product c = rw c.if-used.true (ap (λ r. c.args.term.weight * r) c.term_ratio.ensures)
 
-pub term_ratio-requires : goal.term_ratio-requires
-term_ratio-requires c =
-    c.requires c.if-used.true
-
 pub overflow_mul-result : goal.overflow_mul-result
 overflow_mul-result c =
     omega (

@@ -37,9 +37,6 @@ returns-then-not-terms_allowed c =
           c.if-not-terms_allowed.true-raw,
     )
 
-pub weight_total-requires : goal.weight_total-requires
-weight_total-requires c = terms (goal.at.weight_total-requires c).Else-not-terms_allowed
-
 pub returns-then-line-eq0 : goal.returns-then-line-eq0
 unfolding line_in_range weights_allowed
 returns-then-line-eq0 c = rw (head (goal.at.returns-then-line-eq0 c).Else-not-head_in_range-power_in_range, terms (goal.at.returns-then-line-eq0 c).Else-not-terms_allowed, eq-eqb _ _ c.if-line-eq0.true)

@@ -11,9 +11,6 @@ use Rattle.supply.proofs.range.lines_in_range.Goals.{After-line_in_range}
 pub loop-j-init : goal.loop-j-init
 loop-j-init c = tested_none _ _
 
-pub line_at-requires : goal.line_at-requires
-line_at-requires c = omega (arith, c.line_count-j-end.ensures)
-
 -- what the test says of the line
 tested : (c : After-line_in_range) →
     c.line_in_range.result ≡ line_in_range c.args.n
