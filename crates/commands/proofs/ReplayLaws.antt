@@ -1,7 +1,6 @@
 -- Laws of the commands of a journal: that each command reads on, and that command after command the journal's ledger is
 -- reached. Assumes nothing.
 use mathlib.Core.Path.{◌≡◌, refl, sym, ◌∙◌, ap}
-use mathlib.Core.Bool.{Bool, true, false, cond}
 use mathlib.Core.List.{List}
 use Prim.Native.Nat.{ℕ, zero, suc, ◌-◌, ◌+◌, ◌<◌, ◌≤◌}
 use native.Mathlib.Omega.{arith}
@@ -11,9 +10,9 @@ use borrow.Author.Tests.{lt-ltb, le-ltb}
 use Rattle.std.specs.Prelude.{Option, Some, None, Result, Ok, Err, IfOk, IfSome}
 use Rattle.numbers.specs.Checks.{verdict_of}
 use Rattle.numbers.specs.Units.{between}
-use Rattle.journal.specs.Cursor.{read_of, Reading, and_then, unreadable}
-use Rattle.journal.specs.Form.{Held, form_after}
-use Rattle.journal.specs.Command.{command_form, command_after}
+use Rattle.journal.specs.Cursor.{read_of, Reading, and_then}
+use Rattle.journal.specs.Form.{Held}
+use Rattle.journal.specs.Command.{command_form}
 use Rattle.journal.specs.declared.command.Command.{Command}
 use Rattle.journal.specs.declared.cursor.Unreadable.{Unreadable}
 use Rattle.journal.specs.declared.cursor.Read.{Read}

@@ -108,7 +108,13 @@ pub(crate) fn run_fixing(
     let prices = &mut price_room[..parts.number_of(9) as usize];
     let power = &mut power_room[..parts.number_of(10) as usize];
     let outcome = call_fixing(is_interim, parts, ledger, words, prices, power);
-    write_fixed(answer, fixing_name(is_interim), outcome.answer, prices, power);
+    write_fixed(
+        answer,
+        fixing_name(is_interim),
+        outcome.answer,
+        prices,
+        power,
+    );
     outcome.ledger
 }
 
@@ -146,11 +152,7 @@ pub(crate) fn run_save(ledger: Ledger, answer: &mut Text<LONGEST_ANSWER>) -> Led
 }
 
 // Loads a kept ledger.
-pub(crate) fn run_load(
-    parts: &Parts,
-    words: &[u64],
-    answer: &mut Text<LONGEST_ANSWER>,
-) -> Ledger
+pub(crate) fn run_load(parts: &Parts, words: &[u64], answer: &mut Text<LONGEST_ANSWER>) -> Ledger
     requires { FormHeld load_form parts.now (length words.now) }
     ensures booked { result ≡ loaded_ledger (parts_in parts.now words.now) }
     ensures answered { answer.new ≡ written longest_answer loading_text answer.old }

@@ -1,8 +1,7 @@
 -- The call is that of the parts, and the answer that of the call with the balances of the ledger after it.
 use mathlib.Core.Path.{◌≡◌, refl, ◌∙◌}
-use mathlib.Core.List.{List}
 use native.Mathlib.Omega.{arith}
-use lib.IntN.{ℤ, negsuc}
+use lib.IntN.{negsuc}
 use lib.ListN.{take}
 use Rattle.numbers.specs.Bounded.{list_below}
 use Rattle.journal.specs.Form.{number_of, parts_in, parts_below}

@@ -1,5 +1,5 @@
 -- The call is that of the parts, their words as bytes, and the answer that of the call.
-use mathlib.Core.Path.{◌≡◌, refl, ◌∙◌}
+use mathlib.Core.Path.{refl, ◌∙◌}
 use native.Mathlib.Omega.{arith}
 use Rattle.numbers.specs.Bounded.{list_below}
 use Rattle.journal.specs.Form.{parts_in, parts_below}
