@@ -23,7 +23,8 @@ lengths_right-requires c = sound_few _ (sym c.is_sound.ensures ∙ c.if-not-is_s
 
 pub returns-then-not-lengths_right : goal.returns-then-not-lengths_right
 unfolding worked_answer fixing_verdict fixing_checks verdict_of
-returns-then-not-lengths_right c = rw (sym c.is_sound.ensures ∙ c.if-not-is_sound.false, ← c.if-not-lengths_right.ensures)
+returns-then-not-lengths_right c =
+    rw (sym c.is_sound.ensures ∙ c.if-not-is_sound.false, ← c.if-not-lengths_right.ensures)
 
 pub in_turn-requires : goal.in_turn-requires
 in_turn-requires c = sound_last _ (sym c.is_sound.ensures ∙ c.if-not-is_sound.false)
@@ -45,8 +46,8 @@ returns-then-not-day_allowed c =
     )
 
 -- the prices in force as they are lent to the fixing
-copied : {lent : Bor (List ℕ)} (o : Option (Bor (List ℕ))) (none : Bor (List ℕ)) → lent ≡ unwrap_or o none → none.now ≡ [] →
-    lent.now ≡ unwrap_or (option_copied o) []
+copied : {lent : Bor (List ℕ)} (o : Option (Bor (List ℕ))) (none : Bor (List ℕ)) → lent ≡ unwrap_or o none →
+    none.now ≡ [] → lent.now ≡ unwrap_or (option_copied o) []
 copied (Some words) none e n = ap (λ (r : Bor (List ℕ)). r.now) e
 copied None none e n = ap (λ (r : Bor (List ℕ)). r.now) e ∙ n
 
