@@ -103,7 +103,8 @@ module _ (ledger : Ledger) (call : SettlementCall) where
 
   -- the lists of a call that passed its first two checks
   module _ (whole : sound ledger ≡ true) (lengths : billing_lengths ledger.n call ≡ true) where
-    right_lengths : (eqb (length call.readings) (ledger.n * 32) ≡ true) × (eqb (length call.losses) (ledger.n * 2) ≡ true)
+    right_lengths : (eqb (length call.readings) (ledger.n * 32) ≡ true)
+        × (eqb (length call.losses) (ledger.n * 2) ≡ true)
         × (eqb (length call.transfers) ledger.n ≡ true)
     unfolding settlement_lengths
     right_lengths =

@@ -1,14 +1,16 @@
 // The open calls of fixing, regular and interim: no requires. Both make the same fixing, an interim one with a price in
 // force for each line. Causes 2, 3, 4 and 16 are the ledger's, the others the fixing's; the prices and the power prices
 // are written only when all of them are passed.
-ghost use Rattle.std.specs.Prelude.{◌≡◌, true, false, [], ◌*◌, ◌≤◌, ◌<◌, ◌^◌, length, get_or, is_some, unwrap_or, option_copied};
+ghost use Rattle.std.specs.Prelude.{◌≡◌, true, false, [], ◌*◌, ◌≤◌, ◌<◌, ◌^◌, length, get_or};
+ghost use Rattle.std.specs.Prelude.{is_some, unwrap_or, option_copied};
 ghost use Rattle.numbers.specs.Bounded.{list_below};
 ghost use Rattle.numbers.specs.Units.{no_power};
 ghost use Rattle.series.specs.Series.{last_month};
 ghost use Rattle.ledger.specs.Ledger.{any_settled, next_month, fixed_ledger};
 ghost use Rattle.ledger.specs.Turn.{fixing_turn};
 ghost use Rattle.numbers.specs.Sizes.{most_distributors};
-ghost use Rattle.ledger.specs.Fix.{fixing_call_of, lent_call, lines_whole, in_force_length, call_lengths, worked_answer};
+ghost use Rattle.ledger.specs.Fix.{fixing_call_of, lent_call, lines_whole, in_force_length, call_lengths};
+ghost use Rattle.ledger.specs.Fix.{worked_answer};
 ghost use Rattle.ledger.specs.Fix.{price_part, price_word};
 ghost use Rattle.ledger.specs.Fix.{accepted_values, FixingPromise};
 ghost use Rattle.ledger.specs.Fix.{FixingCall, HandedBack, FixingAccepted, SameButPowerList};

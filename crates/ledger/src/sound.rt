@@ -1,5 +1,5 @@
 // Soundness of a ledger, clause by clause, for every bit pattern. Sizes are tested by two comparisons, since a forged
-// ledger may hold the least i64.
+// ledger may hold the least i64. The count of distributors stays a number with a `requires`: a forged one may be any.
 ghost use Rattle.std.specs.Prelude.{◌≡◌, ◌≤◌};
 ghost use Rattle.numbers.specs.Sizes.{most_distributors};
 ghost use Rattle.series.specs.Series.{last_month};

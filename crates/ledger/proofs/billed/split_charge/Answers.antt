@@ -61,7 +61,9 @@ module _ (c : After-difference-2) where
   sum_code = back (old_code (goal.at.overflow_add-weighed c).After-difference) +ℤ back new_code
 
   sum : sum_code ≡ old_part (goal.at.overflow_add-weighed c).After-difference +ℤ new_part
-  sum = sum_bits (old_code (goal.at.overflow_add-weighed c).After-difference) new_code _ _ (old_fits (goal.at.overflow_add-weighed c).After-difference) new_fits (old (goal.at.overflow_add-weighed c).After-difference) new
+  sum =
+      let d = (goal.at.overflow_add-weighed c).After-difference in
+      sum_bits (old_code d) new_code _ _ (old_fits d) new_fits (old d) new
 
   size : nat_abs (old_part (goal.at.overflow_add-weighed c).After-difference +ℤ new_part) ≤ most_charge * c.args.days
   size =
@@ -69,7 +71,9 @@ module _ (c : After-difference-2) where
       c.requires.new_within
 
   fits : SFits w64 sum_code
-  fits = is_fits sum_code (old_part (goal.at.overflow_add-weighed c).After-difference +ℤ new_part) sum (omega (arith, size, c.requires.short))
+  fits =
+      is_fits sum_code (old_part (goal.at.overflow_add-weighed c).After-difference +ℤ new_part) sum
+      (omega (arith, size, c.requires.short))
 
   weighed : back sum_code ≡ old_part (goal.at.overflow_add-weighed c).After-difference +ℤ new_part
   weighed = to_z-of_z {w = w64} fits ∙ sum

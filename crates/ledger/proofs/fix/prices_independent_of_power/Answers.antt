@@ -32,7 +32,10 @@ unfolding price_list
 returns c ledger one other same first second p q =
     let alike = fixing_same ledger.n one.input other.input same in
     record {
-      answer = answered ledger one first p ∙ ap (λ p. Ok (accepted_values p)) alike.prices ∙ sym (answered ledger other second q);
+      answer =
+          answered ledger one first p
+          ∙ ap (λ x. Ok (accepted_values x)) alike.prices
+          ∙ sym (answered ledger other second q);
       ledger =
           booked ledger one first p
           ∙ ap₂ (fixed_ledger ledger) same.numbers alike.sectors

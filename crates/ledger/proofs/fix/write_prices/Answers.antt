@@ -25,4 +25,5 @@ loop-k-preserved c =
     (search rules) in
     written_more c.loop-k.invariant (omega arith)
     (to_z-of_z {w = w64} (sfits_of c.price_part.type_inv) ∙ c.price_part.ensures
-    ∙ ap (λ (z : ℤ). price_part (get_or a.averages i no_price).0 (get_or a.finals i no_price).0 z (c.loop-k.k % 3)) unread)
+    ∙ ap (λ (z : ℤ). price_part (get_or a.averages i no_price).0 (get_or a.finals i no_price).0 z (c.loop-k.k % 3))
+    unread)

@@ -11,7 +11,8 @@ loop-i-init c = filled_none most_distributors 0 _
 
 pub loop-i-preserved : goal.loop-i-preserved
 loop-i-preserved c =
-    filled_next most_distributors 0 c.loop-i.i _ c.loop-i.raised _ (omega (arith, c.requires.few)) c.loop-i.invariant refl
+    filled_next most_distributors 0 c.loop-i.i _ c.loop-i.raised _ (omega (arith, c.requires.few))
+    c.loop-i.invariant refl
 
 pub returns : goal.returns
 unfolding raised_counts

@@ -10,4 +10,5 @@ returns-then-present c = rw (c.if-present.true, c.within_size.ensures, to_z-of_z
 
 pub returns-else-present : goal.returns-else-present
 unfolding place_test
-returns-else-present c = rw (c.if-present.false, c.within_size-else-present.ensures, to_z-of_z {w = w64} c.ranges.charge)
+returns-else-present c =
+    rw (c.if-present.false, c.within_size-else-present.ensures, to_z-of_z {w = w64} c.ranges.charge)

@@ -17,7 +17,8 @@ module _ (c : Then-month-self) where
 
 pub split_charges-requires : goal.split_charges-requires
 split_charges-requires c =
-    rw c.days_of.ensures (sound_divided c.args.self c.requires (later (goal.at.split_charges-requires c).Then-month-self))
+    rw c.days_of.ensures
+    (sound_divided c.args.self c.requires (later (goal.at.split_charges-requires c).Then-month-self))
 
 pub returns-then-month-self : goal.returns-then-month-self
 unfolding billed_under charges_for

@@ -21,4 +21,5 @@ returns-then-stays_older c =
 pub returns : goal.returns
 unfolding older_beside
 returns c =
-    rw (unmade (goal.at.returns c).Else-makes_older, sym c.stays_older.ensures ∙ c.if-stays_older.false) c.no_charges.ensures
+    rw (unmade (goal.at.returns c).Else-makes_older, sym c.stays_older.ensures ∙ c.if-stays_older.false)
+    c.no_charges.ensures
