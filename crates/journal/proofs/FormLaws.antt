@@ -8,12 +8,13 @@ use native.Mathlib.Numerals.{add-one}
 use native.Mathlib.Omega.{arith}
 use native.Mathlib.Nat.{add-zero}
 use native.Mathlib.Decide.{dec_lt}
-use lib.ListN.{length, get_or, take, drop, set, replicate, length-drop, length-set, take-append-drop}
+use lib.ListN.{length, get_or, take, drop, set, replicate, length-append, length-drop, length-set, take-append-drop}
 use lib.ListN.{get_or-replicate, get_or-eq_default}
-use lib.Seq.{length-take-le, drop-append-le, take-append-le, take-append_seam, drop_at, get_or-set_same}
+use lib.Seq.{length-take-le, drop-drop, drop-append-le, take-append-le, take-append_seam, drop_at, get_or-set_same}
 use lib.Seq.{get_or-set_other}
 use borrow.Rule.Slice.PartMut.{put_mid, mid_len}
 use Rattle.std.specs.Prelude.{Ok, Err, IfOk, MatchResult}
+use Rattle.std.proofs.lemmas.Slice.{drop-put_mid}
 use Rattle.std.proofs.lemmas.Result.{IfOk-at_ok}
 use Rattle.numbers.proofs.BoolLaws.{by_last}
 use Rattle.numbers.proofs.SumLaws.{sum_step, sum_mono}
@@ -21,11 +22,12 @@ use Rattle.numbers.proofs.ListLaws.{list_at, list_same}
 use Rattle.numbers.specs.Bounded.{sum_below, list_below}
 use Rattle.text.specs.Text.{name_text, text_below}
 use Rattle.journal.specs.Cursor.{read_of, Reading, reads_below, most_word}
-use Rattle.journal.specs.List.{list_after, ListFollows}
+use Rattle.journal.specs.List.{list_after, list_left, ListFollows, ListBroken}
 use Rattle.journal.specs.Form.{part_count, part_at, Held, held_of, held_in, bound_by, bound_of, count_by, count_of}
 use Rattle.journal.specs.Form.{room_of, place_of, number_part, list_part, part_by, part_after, parts_after, form_after}
 use Rattle.journal.specs.Form.{placed, placed_none, number_of, start_of, end_of, words_in, parts_below, parts_in}
-use Rattle.journal.specs.Form.{FormHeld, PartFollows, FormFollows, FormBroken, part_text}
+use Rattle.journal.specs.Form.{FormHeld, left_by, part_left, PartFollows, PartBroken, FormFollows, FormBroken}
+use Rattle.journal.specs.Form.{part_text}
 use Rattle.journal.specs.declared.cursor.Read.{Read}
 use Rattle.journal.specs.declared.cursor.Unreadable.{Unreadable}
 use Rattle.journal.specs.declared.form.Kind.{Kind}
@@ -35,35 +37,38 @@ use Rattle.journal.specs.declared.form.Parts.{Parts}
 use Rattle.journal.specs.declared.form.Placed.{Placed}
 use Rattle.journal.proofs.CursorLaws.{reads_more, reads_broken, reads_keep, Past, then_number}
 use Rattle.journal.proofs.CursorLaws.{number_most}
-use Rattle.journal.proofs.ListLaws.{count_most, list_most, then_count, then_list}
+use Rattle.journal.proofs.ListLaws.{count_most, list_most, then_count, then_list, list_left_on}
 
 -- a part by its kind, as the code reads it
 module _ (part : Part) (text : List ℕ) (at : ℕ) (kind : Kind) (k : part.1 ≡ kind) where
   pub follows : (found : List ℕ) (reading : Reading ℕ) → number_part reading ≡ part_by kind (name_text part.0) text at →
-      ((number : ℕ) → count_by kind number ≡ 0) →
+      ((number : ℕ) → count_by kind number ≡ 0) → found ≡ left_by kind (name_text part.0) text at found →
       MatchResult reading (λ read. PartFollows part text at read found found)
-      (λ broken. part_after part text at ≡ Err broken)
-  unfolding part_after
-  follows found (Ok read) e none =
+      (λ broken. PartBroken part text at broken found found)
+  unfolding part_after part_left
+  follows found (Ok read) e none left =
       record { words = []; after = rw (k, ← e) refl; lent = rw (k, none read.value) refl }
-  follows found (Err broken) e none = rw (k, ← e) refl
+  follows found (Err broken) e none left = record { after = rw (k, ← e) refl; lent = rw k left }
 
   -- a list into as many places as it may have words
   pub follows_list : (signed : Bool) (most : ℕ) (found left : List ℕ) (result : Reading ℕ) →
       list_part (list_after text at (name_text part.0) (length found) signed most)
       ≡ part_by kind (name_text part.0) text at → ((number : ℕ) → count_by kind number ≡ number) →
+      list_left text at (name_text part.0) (length found) signed most found
+      ≡ left_by kind (name_text part.0) text at found →
       MatchResult result (λ read. ListFollows text at (name_text part.0) (length found) signed most read found left)
-      (λ broken. list_after text at (name_text part.0) (length found) signed most ≡ Err broken) →
+      (λ broken. ListBroken text at (name_text part.0) (length found) signed most broken found left) →
       MatchResult result (λ read. PartFollows part text at read found left)
-      (λ broken. part_after part text at ≡ Err broken)
-  unfolding part_after
-  follows_list signed most found left (Ok read) e whole f =
+      (λ broken. PartBroken part text at broken found left)
+  unfolding part_after part_left
+  follows_list signed most found left (Ok read) e whole same f =
       record {
         words = f.words;
         after = rw (k, ← e, f.after, f.counted) refl;
         lent = rw (k, whole read.value) f.lent;
       }
-  follows_list signed most found left (Err broken) e whole f = rw (k, ← e, f) refl
+  follows_list signed most found left (Err broken) e whole same f =
+      record { after = rw (k, ← e, f.after) refl; lent = rw k (f.lent ∙ same) }
 
 -- past a place still by a part
 then_part : {text : List ℕ} {place at : ℕ} → Past text place at → (part : Part) →
@@ -190,24 +195,59 @@ record Lies (part : Part) (p : Placed) (limit : ℕ) : Type 0 where
 lies_on : {part : Part} {p : Placed} {limit : ℕ} → Lies part p limit → (more : ℕ) → limit ≤ more → Lies part p more
 lies_on l more h = record { bounded = l.bounded; counted = l.counted; within = omega (arith, l.within) }
 
--- the first k parts are read, each list where the longest before it would end, and the other parts hold nothing
-pub record FormSoFar (form : List Part) (text : List ℕ) (from : ℕ) (parts : List Placed) (words : List ℕ)
-    (at place k : ℕ) : Type 0 where
+lies_none : (part : Part) (limit : ℕ) → Lies part placed_none limit
+lies_none part limit = record { bounded = omega arith; counted = go part.1; within = omega arith }
+  where
+    go : (kind : Kind) → 0 ≡ 0 + count_by kind 0
+    go Nothing = refl
+    go (Number most) = refl
+    go (Words longest most) = refl
+    go (Signed longest) = refl
+    go (Length longest) = refl
+
+-- two lists that are the same from a place on are so from a later one on
+drop_later : (place more : ℕ) (words found : List ℕ) → drop place words ≡ drop place found →
+    drop (place + more) words ≡ drop (place + more) found
+drop_later place more words found e =
+    sym (drop-drop more place words) ∙ ap (drop more) e ∙ drop-drop more place found
+
+-- what a broken part leaves of its room, with what stands after the room
+part_left_on : (part : Part) (text : List ℕ) (at n : ℕ) (found : List ℕ) → room_of part ≤ n → n ≤ length found →
+    part_left part text at (take n found) ++ drop n found ≡ part_left part text at found
+unfolding part_left
+part_left_on part text at n found p q = go part.1 p
+  where
+    go : (kind : Kind) → count_by kind (bound_by kind) ≤ n →
+        left_by kind (name_text part.0) text at (take n found) ++ drop n found
+        ≡ left_by kind (name_text part.0) text at found
+    go Nothing r = take-append-drop n found
+    go (Number most) r = take-append-drop n found
+    go (Words longest most) r = list_left_on text at (name_text part.0) longest false most n found r q
+    go (Signed longest) r = list_left_on text at (name_text part.0) longest true most_word n found r q
+    go (Length longest) r = take-append-drop n found
+
+-- the first k parts are read, each list where the longest before it would end, and the other parts hold nothing; the
+-- words from there on are as they were found
+pub record FormSoFar (form : List Part) (text : List ℕ) (from : ℕ) (found : List ℕ) (parts : List Placed)
+    (words : List ℕ) (at place k : ℕ) : Type 0 where
   pub long : length parts ≡ part_count
   pub standing : place ≡ place_of form k
   pub after : parts_after k form text from ≡ Ok (read_of (parts_below k (parts_of parts) words) at)
+  past : drop place words ≡ drop place found
   lies : (j : ℕ) → j < k → Lies (part_at form j) (get_or parts j placed_none) place
+  starts : (j : ℕ) → j < k → j < length form → (get_or parts j placed_none).start ≡ place_of form j
   rest : (j : ℕ) → k ≤ j → get_or parts j placed_none ≡ placed_none
 
-module _ (form : List Part) (text : List ℕ) (from : ℕ) where
-  pub form_none : (words : List ℕ) →
-      FormSoFar form text from (replicate part_count placed_none) words from 0 0
+module _ (form : List Part) (text : List ℕ) (from : ℕ) (found : List ℕ) where
+  pub form_none : FormSoFar form text from found (replicate part_count placed_none) found from 0 0
   unfolding place_of sum_below parts_after reads_below parts_below list_below
-  form_none words = record {
+  form_none = record {
     long = refl;
     standing = refl;
     after = refl;
+    past = refl;
     lies = λ j p. absurd (omega arith);
+    starts = λ j p q. absurd (omega arith);
     rest = λ j p. nothing_at j (dec_lt j part_count);
   }
     where
@@ -217,7 +257,7 @@ module _ (form : List Part) (text : List ℕ) (from : ℕ) where
       nothing_at j (no p) = get_or-eq_default (replicate part_count placed_none) placed_none {n = j} (omega arith)
 
   module _ {parts : List Placed} {words : List ℕ} {at place k : ℕ}
-      (f : FormSoFar form text from parts words at place k) where
+      (f : FormSoFar form text from found parts words at place k) where
     pub form_fits : place_of form part_count ≤ length words → k < part_count →
         place + room_of (part_at form k) ≤ length words
     form_fits room p = omega (arith, f.standing, place_within form k part_count p)
@@ -239,18 +279,42 @@ module _ (form : List Part) (text : List ℕ) (from : ℕ) where
       here : place ≤ length words
       here = omega (arith, fits, e)
 
+      abbrev pub new : List ℕ
+      new = put_mid place (end - place) words left
+
       -- a part that is broken breaks the form
-      pub form_broken : {broken : Unreadable} → part_after (part_at form k) text at ≡ Err broken →
-          FormBroken form text from broken (put_mid place (end - place) words left)
+      pub form_broken : {broken : Unreadable} →
+          PartBroken (part_at form k) text at broken (take (end - place) (drop place words)) left → k < length form →
+          FormBroken form text from broken found new
       unfolding form_after parts_after
-      form_broken b = record {
-        after = reads_broken _ from f.after b part_count p;
+      form_broken b more = record {
+        after = reads_broken _ from f.after b.after part_count p;
         k = k;
         parts = parts_of parts;
         next = at;
         before = f.after ∙ ap (λ list. Ok (read_of list at)) (below_same parts (end - place) left here (λ j r. refl));
-        here = b;
+        held = record {
+          bounded = λ j r. (lies_still j (dec_lt j k)).bounded;
+          counted = λ j r. (lies_still j (dec_lt j k)).counted;
+          within = λ j r. (lies_still j (dec_lt j k)).within;
+        };
+        placed = λ j r. f.starts j r (omega arith);
+        here = rw (← f.standing) (record { after = b.after; lent = left_here });
       }
+        where
+          lies_still : (j : ℕ) → Dec (j < k) → Lies (part_at form j) (get_or parts j placed_none) (length new)
+          lies_still j (yes r) =
+              lies_on (f.lies j r) (length new)
+              (rw length-append (omega (arith, length-take-le place words here)))
+          lies_still j (no r) = rw (f.rest j (omega arith)) (lies_none (part_at form j) (length new))
+
+          left_here : drop place new ≡ part_left (part_at form k) text at (drop place found)
+          left_here =
+              drop_at (take place words) _ place (length-take-le place words here)
+              ∙ ap (λ l. l ++ drop (end - place) (drop place words)) b.lent
+              ∙ part_left_on (part_at form k) text at (end - place) (drop place words) (omega (arith, e))
+              (rw length-drop (omega (arith, fits)))
+              ∙ ap (part_left (part_at form k) text at) f.past
 
       module _ (read : Read ℕ)
           (q : PartFollows (part_at form k) text at read (take (end - place) (drop place words)) left) where
@@ -261,12 +325,22 @@ module _ (form : List Part) (text : List ℕ) (from : ℕ) where
         pub few_words : place + count_of (part_at form k) read.value ≤ end
         few_words = omega (arith, e, count_room (part_at form k) read.value sized.bounded)
 
+        -- it leaves as many as its room
+        filled : length left ≡ end - place
+        filled =
+            rw (
+              q.lent,
+              length-append,
+              length-drop,
+              length-take-le (end - place) (drop place words)
+                  (rw length-drop (omega (arith, fits))),
+            )
+            (omega (arith, sized.counted, few_words))
+
         pub form_more : (close : ℕ) → close ≡ place + count_of (part_at form k) read.value →
-            FormSoFar form text from (set parts k (placed read.value place close))
-            (put_mid place (end - place) words left) read.next end (k + 1)
+            FormSoFar form text from found (set parts k (placed read.value place close)) new read.next end (k + 1)
         unfolding parts_after parts_below list_below
         form_more close c =
-            let new : List ℕ = put_mid place (end - place) words left in
             let after : List Placed = set parts k (placed read.value place close) in
             let same : (j : ℕ) → j < k → get_or after j placed_none ≡ get_or parts j placed_none =
             λ j r. get_or-set_other parts k j (placed read.value place close) placed_none (λ t. absurd (omega arith)) in
@@ -285,16 +359,22 @@ module _ (form : List Part) (text : List ℕ) (from : ℕ) where
                   (after_first place words q.words
                   (drop (count_of (part_at form k) read.value) (take (end - place) (drop place words)))
                   (drop (end - place) (drop place words)) here))))));
+              past =
+                  drop-put_mid place (end - place) words left end (omega (arith, e)) here filled
+                  ∙ rw e (drop_later place _ words found f.past);
               lies = λ j r. by_last k (λ i. Lies (part_at form i) (get_or after i placed_none) end)
                   (λ i s. rw (same i s) (lies_on (f.lies i s) end (omega (arith, e))))
                   (rw last (record { bounded = sized.bounded; counted = c; within = omega (arith, c, few_words) })) j
                   (omega arith);
+              starts = λ j r.
+                  by_last k (λ i. i < length form → (get_or after i placed_none).start ≡ place_of form i)
+                  (λ i s. rw (same i s) (f.starts i s)) (λ _. rw last f.standing) j (omega arith);
               rest = λ j r.
                   get_or-set_other parts k j _ placed_none (λ t. absurd (omega arith)) ∙ f.rest j (omega arith);
             }
 
     -- past the last part there is nothing
-    form_past : length form ≤ k → FormSoFar form text from parts words at place (k + 1)
+    form_past : length form ≤ k → FormSoFar form text from found parts words at place (k + 1)
     unfolding parts_after part_after parts_below list_below
     form_past p =
         let nothing : part_at form k ≡ record { 0 = []; 1 = Nothing } = get_or-eq_default form _ {n = k} p in
@@ -305,20 +385,21 @@ module _ (form : List Part) (text : List ℕ) (from : ℕ) where
           after =
               reads_more _ from f.after {value = held_of 0 []} {last = at} (rw nothing refl)
               ∙ ap (λ list. Ok (read_of list at)) (rw (add-one, none) refl);
+          past = f.past;
+          starts = λ j r q. f.starts j (omega arith) q;
           lies = λ j r. by_last k (λ i. Lies (part_at form i) (get_or parts i placed_none) place) f.lies
-              (rw (none, nothing) (record { bounded = omega arith; counted = refl; within = omega arith })) j
-              (omega arith);
+              (rw none (lies_none (part_at form k) place)) j (omega arith);
           rest = λ j r. f.rest j (omega arith);
         }
 
   form_ends : (n k : ℕ) → k + n ≡ part_count → {parts : List Placed} {words : List ℕ} {at place : ℕ} →
-      FormSoFar form text from parts words at place k → length form ≤ k →
-      FormSoFar form text from parts words at place part_count
+      FormSoFar form text from found parts words at place k → length form ≤ k →
+      FormSoFar form text from found parts words at place part_count
   form_ends zero k e f p = rw (← e, add-zero) f
   form_ends (suc n) k e f p = form_ends n (k + 1) (omega arith) (form_past f p) (omega arith)
 
   pub form_whole : {parts : List Placed} {words : List ℕ} {at place : ℕ} →
-      FormSoFar form text from parts words at place (length form) → length form ≤ part_count →
+      FormSoFar form text from found parts words at place (length form) → length form ≤ part_count →
       place_of form part_count ≤ length words →
       FormFollows form text from (read_of (parts_of parts) at) words
   unfolding form_after parts_in

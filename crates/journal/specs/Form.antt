@@ -6,7 +6,7 @@ use Prim.Native.String.{String}
 use Rattle.numbers.specs.Bounded.{sum_below, list_below}
 use Rattle.text.specs.Text.{bytes, line_end, word, words_by, text_below, name_text}
 use Rattle.journal.specs.Cursor.{Reading, read_of, map_read, reads_below, number_after, most_word}
-use Rattle.journal.specs.List.{count_after, list_after}
+use Rattle.journal.specs.List.{count_after, list_after, list_left}
 use Rattle.journal.specs.declared.cursor.Read.{Read}
 use Rattle.journal.specs.declared.cursor.Unreadable.{Unreadable}
 use Rattle.journal.specs.declared.form.Kind.{Kind}
@@ -153,19 +153,40 @@ pub record PartFollows (part : Part) (text : List ℕ) (at : ℕ) (read : Read �
   pub after : part_after part text at ≡ Ok (read_of (held_of read.value words) read.next)
   pub lent : left ≡ words ++ drop (count_of part read.value) found
 
+-- what a broken part leaves in lent words: a list as it does, the other parts what was found
+abbrev pub left_by : Kind → List ℕ → List ℕ → ℕ → List ℕ → List ℕ
+left_by Nothing name text at found = found
+left_by (Number most) name text at found = found
+left_by (Words longest most) name text at found = list_left text at name longest false most found
+left_by (Signed longest) name text at found = list_left text at name longest true most_word found
+left_by (Length longest) name text at found = found
+
+unfoldable pub part_left : Part → List ℕ → ℕ → List ℕ → List ℕ
+part_left part text at found = left_by part.1 (name_text part.0) text at found
+
+-- a part that is broken
+pub record PartBroken (part : Part) (text : List ℕ) (at : ℕ) (broken : Unreadable) (found left : List ℕ) : Type 0 where
+  pub after : part_after part text at ≡ Err broken
+  pub lent : left ≡ part_left part text at found
+
 -- a form that was read: its parts, and how far the text is read
 pub record FormFollows (form : List Part) (text : List ℕ) (at : ℕ) (read : Read Parts) (words : List ℕ) : Type 0 where
   pub after : form_after form text at ≡ Ok (read_of (parts_in read.value words) read.next)
   pub held : FormHeld form read.value (length words)
 
--- a form that is broken: the parts before the broken one were read, and their words stand in the lent ones
-pub record FormBroken (form : List Part) (text : List ℕ) (at : ℕ) (broken : Unreadable) (words : List ℕ) : Type 0 where
-  pub after : form_after form text at ≡ Err broken
-  pub k : ℕ
-  pub parts : Parts
-  pub next : ℕ
-  pub before : parts_after k form text at ≡ Ok (read_of (parts_below k parts words) next)
-  pub here : part_after (part_at form k) text next ≡ Err broken
+-- a form that is broken: the parts before the broken one were read, and their words stand in the lent ones; from the
+-- broken one's place on stands what it leaves of the words that were lent
+pub record FormBroken (form : List Part) (text : List ℕ) (at : ℕ) (broken : Unreadable) (found words : List ℕ) : Type 0
+  where
+    pub after : form_after form text at ≡ Err broken
+    pub k : ℕ
+    pub parts : Parts
+    pub next : ℕ
+    pub before : parts_after k form text at ≡ Ok (read_of (parts_below k parts words) next)
+    pub held : FormHeld form parts (length words)
+    pub placed : (j : ℕ) → j < k → start_of parts j ≡ place_of form j
+    pub here : PartBroken (part_at form k) text next broken (drop (place_of form k) found)
+        (drop (place_of form k) words)
 
 -- a list or a length on a line of its own
 unfoldable pub list_text : List ℕ → Bool → ℕ → List ℕ → List ℕ

@@ -1,10 +1,10 @@
 // A form: the parts of a command's text in their order, as data. One reader and one writer serve every form.
-ghost use Rattle.std.specs.Prelude.{◌≡◌, ◌+◌, ◌^◌, ◌<◌, ◌≤◌, length, MatchResult, Err};
+ghost use Rattle.std.specs.Prelude.{◌≡◌, ◌+◌, ◌^◌, ◌<◌, ◌≤◌, length, MatchResult};
 ghost use Rattle.text.specs.Text.{words_by};
 ghost use Rattle.text.specs.Buffer.{written};
 ghost use Rattle.journal.specs.Form.{part_count, held_of, room_of, count_of, place_of, placed};
 ghost use Rattle.journal.specs.Form.{number_of, start_of, end_of, words_in};
-ghost use Rattle.journal.specs.Form.{part_after, PartFollows, FormFollows, FormBroken, FormHeld, parts_in};
+ghost use Rattle.journal.specs.Form.{PartFollows, PartBroken, FormFollows, FormBroken, FormHeld, parts_in};
 ghost use Rattle.journal.specs.Form.{list_text, part_text, form_text};
 
 use crate::cursor::{Read, Unreadable, next_number};
@@ -122,7 +122,7 @@ impl Part {
     fn read(self, text: &[u8], at: usize, into: &mut [u64]) -> Result<Read<u64>, Unreadable>
         requires { length into.old ≡ room_of self }
         ensures { MatchResult result (λ read. PartFollows self text.now at read into.old into.new)
-            (λ broken. part_after self text.now at ≡ Err broken) }
+            (λ broken. PartBroken self text.now at broken into.old into.new) }
     {
         let name = self.0;
         match self.1 {
@@ -145,7 +145,7 @@ pub fn read_form(
     requires few { length form.now ≤ part_count }
     requires room { place_of form.now part_count ≤ length words.old }
     ensures { MatchResult result (λ read. FormFollows form.now text.now at read words.new)
-        (λ broken. FormBroken form.now text.now at broken words.new) }
+        (λ broken. FormBroken form.now text.now at broken words.old words.new) }
 {
     let mut parts = [Placed::of_number(0); PARTS];
     let mut next = at;

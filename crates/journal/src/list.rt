@@ -2,12 +2,13 @@
 ghost use Rattle.std.specs.Prelude.{◌≡◌, length, MatchResult, Ok, Err};
 ghost use Rattle.text.specs.Text.{name_text};
 ghost use Rattle.journal.specs.Cursor.{read_of};
-ghost use Rattle.journal.specs.List.{numbers_after, count_after, list_after, ListFollows};
+ghost use Rattle.journal.specs.List.{numbers_after, numbers_or_zeros, count_after, ListFollows, ListBroken};
 
 use crate::cursor::{Read, Unreadable, next_name, next_number};
 use text::name::NAME;
 
-// Reads as many numbers as the lent list has places, each of at most `most`: how far the text is read with them.
+// Reads as many numbers as the lent list has places, each of at most `most`: how far the text is read with them. Zeros
+// stand from one on that cannot be read.
 fn fill_numbers(
     text: &[u8],
     at: usize,
@@ -16,8 +17,10 @@ fn fill_numbers(
     into: &mut [u64],
 ) -> Result<usize, Unreadable>
     ensures { let numbers = numbers_after (length into.old) text.now at signed most in
-        MatchResult result (λ next. numbers ≡ Ok (read_of into.new next)) (λ broken. numbers ≡ Err broken) }
+        MatchResult result (λ next. numbers ≡ Ok (read_of into.new next))
+        (λ broken. (numbers ≡ Err broken) × (into.new ≡ numbers_or_zeros (length into.old) text.now at signed most)) }
 {
+    into.fill(0);
     let mut next = at;
     for place in into.iter_mut() {
         let number = next_number(text, next, signed, most)?;
@@ -52,7 +55,7 @@ pub(crate) fn read_list(
     ensures { let longest = length into.old in
         MatchResult result
         (λ read. ListFollows text.now at (name_text name) longest signed most read into.old into.new)
-        (λ broken. list_after text.now at (name_text name) longest signed most ≡ Err broken) }
+        (λ broken. ListBroken text.now at (name_text name) longest signed most broken into.old into.new) }
 {
     let counted = read_count(text, at, name, into.len() as u64)?;
     let value = counted.value;

@@ -1,4 +1,5 @@
--- The invariant: the first k parts are read, each list where the longest ones before it would end.
+-- The invariant: the first k parts are read, each list where the longest ones before it would end;
+-- the words from there on are as they were lent.
 use mathlib.Core.Path.{◌≡◌, ap}
 use Prim.Native.Nat.{◌+◌, ◌*◌, ◌^◌, ◌≤◌, ◌<◌}
 use native.Mathlib.Omega.{arith}
@@ -27,7 +28,8 @@ module _ (r : After-room) where
 
   fits : r.loop-k.start + r.room.result ≤ length r.loop-k.words
   fits =
-      rw r.room.ensures (form_fits _ _ _ r.loop-k.invariant (omega (arith, r.requires.room, r.loop-k.auto.words)) inside)
+      rw r.room.ensures
+      (form_fits _ _ _ _ r.loop-k.invariant (omega (arith, r.requires.room, r.loop-k.auto.words)) inside)
 
 pub overflow_add-room : goal.overflow_add-room
 overflow_add-room c =
@@ -45,8 +47,8 @@ returns-in_err-read c =
     let p = err_from_is_err_and c.from_residual.result c.from_residual.ensures.1 in
     let r = (goal.at.returns-in_err-read c).After-room in
     rw (p.1, p.2)
-    (form_broken _ _ _ c.loop-k.invariant (inside r) _ (ap (λ room. c.loop-k.start + room) c.room.ensures) (fits r)
-    c.read.new.into c.in_err-read.ensures)
+    (form_broken _ _ _ _ c.loop-k.invariant (inside r) _ (ap (λ room. c.loop-k.start + room) c.room.ensures) (fits r)
+    c.read.new.into c.in_err-read.ensures (omega arith))
 
 pub overflow_add-end : goal.overflow_add-end
 overflow_add-end c =
@@ -56,17 +58,17 @@ overflow_add-end c =
       short (goal.at.overflow_add-end c).At-loop-k,
       c.count.ensures,
       fits r,
-      few_words _ _ _ c.loop-k.invariant (inside r) _ (ap (λ room. c.loop-k.start + room) c.room.ensures) (fits r) _ _
+      few_words _ _ _ _ c.loop-k.invariant (inside r) _ (ap (λ room. c.loop-k.start + room) c.room.ensures) (fits r) _ _
           c.in_ok-read.ensures,
     )
 
 pub loop-k-preserved : goal.loop-k-preserved
 loop-k-preserved c =
     let r = (goal.at.loop-k-preserved c).After-room in
-    form_more _ _ _ c.loop-k.invariant (inside r) _ (ap (λ room. c.loop-k.start + room) c.room.ensures) (fits r) _ _
+    form_more _ _ _ _ c.loop-k.invariant (inside r) _ (ap (λ room. c.loop-k.start + room) c.room.ensures) (fits r) _ _
     c.in_ok-read.ensures _ (ap (λ count. c.loop-k.start + count) c.count.ensures)
 
 pub returns : goal.returns
 returns c =
     let last : c.loop-k.k ≡ length c.args.form.now = omega arith in
-    form_whole _ _ _ (rw last at c.loop-k.invariant) c.requires.few (room (goal.at.returns c).At-loop-k)
+    form_whole _ _ _ _ (rw last at c.loop-k.invariant) c.requires.few (room (goal.at.returns c).At-loop-k)

@@ -1,10 +1,11 @@
 -- The name and the count, and as many numbers into the first places.
-use mathlib.Core.Path.{◌≡◌, refl, sym, ◌∙◌}
+use mathlib.Core.Path.{◌≡◌, refl, sym, ◌∙◌, ap}
+use mathlib.Core.List.{◌++◌}
 use Prim.Native.Nat.{◌≤◌}
-use lib.ListN.{length, take}
+use lib.ListN.{length, take, drop}
 use lib.Seq.{length-take-le}
 use Rattle.std.proofs.lemmas.Result.{err_from_is_err_and, IfOk-at_ok}
-use Rattle.journal.specs.List.{list_after}
+use Rattle.journal.specs.List.{list_after, list_left}
 use Rattle.journal.proofs.ListLaws.{count_most, numbers_length}
 use Rattle.journal.proofs.list.read_list.Goals as goal
 use Rattle.journal.proofs.list.read_list.Goals.{In_ok-counted}
@@ -26,17 +27,23 @@ pub slice_bounds-fill_numbers-end-2 : goal.slice_bounds-fill_numbers-end-2
 slice_bounds-fill_numbers-end-2 c = sym (room (goal.at.slice_bounds-fill_numbers-end-2 c).In_ok-counted)
 
 pub returns-in_err-counted : goal.returns-in_err-counted
-unfolding list_after
+unfolding list_after list_left
 returns-in_err-counted c =
     let p = err_from_is_err_and c.from_residual.result c.from_residual.ensures.1 in
-    rw (p.1, p.2, sym c.read_count.ensures ∙ c.in_err-counted.was) refl
+    let e = sym c.read_count.ensures ∙ c.in_err-counted.was in
+    rw (p.1, p.2) (record { after = rw e refl; lent = rw e refl })
 
 pub returns-in_err-next : goal.returns-in_err-next
-unfolding list_after
+unfolding list_after list_left
 returns-in_err-next c =
     let p = err_from_is_err_and c.from_residual-in_err-next.result c.from_residual-in_err-next.ensures.1 in
-    rw (p.1, p.2, sym c.read_count.ensures ∙ c.in_ok-counted.was)
-    (rw (room (goal.at.returns-in_err-next c).In_ok-counted) at c.in_err-next.ensures)
+    let e = sym c.read_count.ensures ∙ c.in_ok-counted.was in
+    let broken = rw (room (goal.at.returns-in_err-next c).In_ok-counted) at c.in_err-next.ensures in
+    rw (p.1, p.2)
+    (record {
+      after = rw e broken.0;
+      lent = rw e (ap (λ l. l ++ drop c.in_ok-counted.counted.value c.args.into.now) broken.1);
+    })
 
 pub returns : goal.returns
 unfolding list_after
