@@ -13,11 +13,6 @@ unfolding fixing_call parts_in parts_below list_below
 returns-then-is_interim c =
     rw (
       c.if-is_interim.true,
-      ← c.number_of.ensures,
-      ← c.number_of-2.ensures,
-      ← c.number_of-3.ensures,
-      ← c.number_of-4.ensures,
-      ← c.number_of-5.ensures,
       ← c.words_of-series.ensures,
       ← c.words_of-lines.ensures,
       ← c.words_of-sectors.ensures,
@@ -25,18 +20,13 @@ returns-then-is_interim c =
       ← c.requires.prices,
       ← c.requires.power,
     )
-    c.interim.ensures
+    (rw (c.number_of.ensures, c.number_of-2.ensures, c.number_of-3.ensures, c.number_of-4.ensures, c.number_of-5.ensures) at c.interim.ensures)
 
 pub returns : goal.returns
 unfolding fixing_call parts_in parts_below list_below
 returns c =
     rw (
       c.if-is_interim.false,
-      ← c.number_of.ensures,
-      ← c.number_of-2.ensures,
-      ← c.number_of-3.ensures,
-      ← c.number_of-4.ensures,
-      ← c.number_of-5.ensures,
       part_none c.args.words.now c.requires.held 8 (omega arith)
           (ap (λ b. room_of (part_at (fixing_form b) 8)) c.if-is_interim.false),
       ← c.words_of-series.ensures,
@@ -45,4 +35,4 @@ returns c =
       ← c.requires.prices,
       ← c.requires.power,
     )
-    c.fix.ensures
+    (rw (c.number_of.ensures, c.number_of-2.ensures, c.number_of-3.ensures, c.number_of-4.ensures, c.number_of-5.ensures) at c.fix.ensures)
