@@ -6,13 +6,13 @@
 
 ghost use Rattle.std.specs.Prelude.{◌<◌};
 
-use answers::line::values_line;
+use answers::line::write_values;
 use ledger::fix::fix;
 use ledger::open::open;
 use series::table::{CPI, MONTHS, WORDS};
 use supply::line::{LINE_WORDS, POWER_START};
 use supply::market::FixingNumbers;
-use text::line::write_line;
+use text::buffer::Text;
 use text::row::write_rows;
 
 // The file descriptor of standard output.
@@ -23,6 +23,9 @@ const FIRST_CPI: usize = CPI as usize * MONTHS;
 
 // The words of the three lines.
 const LINES: usize = 3 * LINE_WORDS;
+
+// Room for a line of values and three rows of three numbers.
+const ANSWER: usize = 512;
 
 // Sets a distributor's line of no terms, whose words are 0: distributor, base price, offer and purchase factor, energy;
 // then a power base price, and a power term that takes the CPI of the month before over 10,000.
@@ -59,13 +62,6 @@ fn sectors() -> [u64; 24] {
     sectors
 }
 
-// Prints the first bytes of a text.
-fn print(text: &[u8], count: usize) {
-    if let Some(shown) = text.get(..count) {
-        io::write_all(STDOUT_FILENO, shown);
-    }
-}
-
 fn main() {
     let ledger = open(3).ledger;
     let mut series = [0u64; WORDS];
@@ -91,9 +87,10 @@ fn main() {
         &mut power,
     );
     if let Ok(values) = outcome.answer {
-        let mut text = io::buffer();
-        let end = write_line(&mut text, 0, values_line(values));
-        let end = write_rows(&mut text, end, &prices, 3, false, &[]);
-        print(&text, end);
+        let mut text = Text::<ANSWER>::new();
+        let no_column = [0u64; 0];
+        write_values(&mut text, values);
+        write_rows(&mut text, &prices, 3, &no_column);
+        io::write_all(STDOUT_FILENO, text.as_bytes());
     }
 }
