@@ -18,14 +18,14 @@ use text::row::write_rows;
 // The file descriptor of standard output.
 const STDOUT_FILENO: i32 = 1;
 
+// What the printed text has room for: a line of four values and three of four numbers.
+const TEXT_BYTES: usize = 512;
+
 // Where the CPI of the table's first month stands.
 const FIRST_CPI: usize = CPI as usize * MONTHS;
 
 // The words of the three lines.
 const LINES: usize = 3 * LINE_WORDS;
-
-// Room for a line of values and three rows of three numbers.
-const ANSWER: usize = 512;
 
 // Sets a distributor's line of no terms, whose words are 0: distributor, base price, offer and purchase factor, energy;
 // then a power base price, and a power term that takes the CPI of the month before over 10,000.
@@ -33,16 +33,9 @@ fn set_line(lines: &mut [u64; LINES], distributor: usize, base: u64, energy: u64
     requires { distributor < 3 }
 {
     let at = distributor * LINE_WORDS;
-    lines[at] = distributor as u64;
-    lines[at + 1] = base;
-    lines[at + 2] = 10000;
-    lines[at + 3] = 10000;
-    lines[at + 4] = energy;
+    lines[at..at + 5].copy_from_slice(&[distributor as u64, base, 10000, 10000, energy]);
     let power = at + POWER_START;
-    lines[power] = 10000;
-    lines[power + 1] = 1;
-    lines[power + 2] = 1;
-    lines[power + 3] = 10000;
+    lines[power..power + 4].copy_from_slice(&[10000, 1, 1, 10000]);
 }
 
 fn lines() -> [u64; LINES] {
@@ -87,10 +80,10 @@ fn main() {
         &mut power,
     );
     if let Ok(values) = outcome.answer {
-        let mut text = Text::<ANSWER>::new();
-        let no_column = [0u64; 0];
+        let mut text: Text<TEXT_BYTES> = Text::new();
         write_values(&mut text, values);
-        write_rows(&mut text, &prices, 3, &no_column);
+        let column: [u64; 0] = [];
+        write_rows(&mut text, &prices, 3, &column);
         io::write_all(STDOUT_FILENO, text.as_bytes());
     }
 }
