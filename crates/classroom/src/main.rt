@@ -33,16 +33,9 @@ fn set_line(lines: &mut [u64; LINES], distributor: usize, base: u64, energy: u64
     requires { distributor < 3 }
 {
     let at = distributor * LINE_WORDS;
-    lines[at] = distributor as u64;
-    lines[at + 1] = base;
-    lines[at + 2] = 10000;
-    lines[at + 3] = 10000;
-    lines[at + 4] = energy;
+    lines[at..at + 5].copy_from_slice(&[distributor as u64, base, 10000, 10000, energy]);
     let power = at + POWER_START;
-    lines[power] = 10000;
-    lines[power + 1] = 1;
-    lines[power + 2] = 1;
-    lines[power + 3] = 10000;
+    lines[power..power + 4].copy_from_slice(&[10000, 1, 1, 10000]);
 }
 
 fn lines() -> [u64; LINES] {

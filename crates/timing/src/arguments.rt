@@ -1,9 +1,8 @@
 // What the program is asked for by its arguments.
-use journal::cursor::{Cursor, next_number};
-use journal::form::MOST_WORD;
+use journal::cursor::next_number;
 use std::env::{Env, FillError};
 
-// Which calls of a ledger are made in each turn.
+// Which calls of a ledger are made in each turn. The flags are the task's data: one or both are asked for.
 #[derive(Clone, Copy)]
 pub(crate) struct Kinds {
     pub fixings: bool,
@@ -51,15 +50,7 @@ fn calls_of(call: &[u8]) -> Option<Calls> {
 
 // The number of a word.
 fn count_of(count: &[u8]) -> Option<u64> {
-    let start = Cursor {
-        at: 0,
-        broken: false,
-    };
-    let number = next_number(count, start, false, MOST_WORD);
-    if number.next.broken {
-        return None;
-    }
-    Some(number.value)
+    Some(next_number(count, 0, false, u64::MAX).ok()?.value)
 }
 
 // Whether there is an argument at this place, however long.

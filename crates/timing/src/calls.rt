@@ -3,7 +3,7 @@ use crate::arguments::Kinds;
 use crate::load::Load;
 use crate::report::PRICES;
 use ledger::fix::{FixingValues, fix};
-use ledger::ledger::Ledger;
+use ledger::ledger::{Ledger, Outcome};
 use ledger::open::open;
 use ledger::settle::settle;
 use numbers::sizes::MOST_DISTRIBUTORS;
@@ -25,50 +25,49 @@ pub(crate) struct Results {
     pub settled: Option<Ledger>,
 }
 
-// Makes one fixing that is not counted, for the ledger of the settlements, then the calls.
-pub(crate) fn make_calls(load: &Load, kinds: Kinds, count: u64, written: &mut Written) -> Results {
-    let opened = open(MOST_DISTRIBUTORS).ledger;
-    let numbers = load.numbers;
-    let mut results = Results {
-        fixings: 0,
-        settlements: 0,
-        values: None,
-        settled: None,
-    };
-    let fixed = fix(
-        opened,
-        numbers,
+// A fixing of the load.
+fn fix_load(load: &Load, ledger: Ledger, written: &mut Written) -> Outcome<FixingValues> {
+    fix(
+        ledger,
+        load.numbers,
         &load.series,
         &load.lines,
         &load.sectors,
         &mut written.prices,
         &mut written.power,
     )
-    .ledger;
+}
+
+// The settlement of the load, for the fixing's month.
+fn settle_load(load: &Load, ledger: Ledger, written: &mut Written) -> Outcome<()> {
+    settle(
+        ledger,
+        load.numbers.month,
+        &load.readings,
+        &load.losses,
+        &mut written.transfers,
+    )
+}
+
+// Makes one fixing that is not counted, for the ledger of the settlements, then the calls.
+pub(crate) fn make_calls(load: &Load, kinds: Kinds, count: u64, written: &mut Written) -> Results {
+    let opened = open(MOST_DISTRIBUTORS).ledger;
+    let fixed = fix_load(load, opened, written).ledger;
+    let mut results = Results {
+        fixings: 0,
+        settlements: 0,
+        values: None,
+        settled: None,
+    };
     for _ in 0..count {
         if kinds.fixings {
-            let fixing = fix(
-                opened,
-                numbers,
-                &load.series,
-                &load.lines,
-                &load.sectors,
-                &mut written.prices,
-                &mut written.power,
-            );
-            if let Ok(values) = fixing.answer {
+            if let Ok(values) = fix_load(load, opened, written).answer {
                 results.fixings += 1;
                 results.values = Some(values);
             }
         }
         if kinds.settlements {
-            let settlement = settle(
-                fixed,
-                numbers.month,
-                &load.readings,
-                &load.losses,
-                &mut written.transfers,
-            );
+            let settlement = settle_load(load, fixed, written);
             if settlement.answer.is_ok() {
                 results.settlements += 1;
                 results.settled = Some(settlement.ledger);

@@ -156,7 +156,8 @@ fn mixed_power(line: u64, word: u64) -> u64
     }
 }
 
-// A word of the lines of a load, by its place.
+// A word of the lines of a load, by its place. One function over the parts of either load would be no plainer: each
+// closure would carry the line's bound as a `requires` of its own.
 fn even_line(place: usize) -> u64
     requires { place < most_lines * line_words }
 {

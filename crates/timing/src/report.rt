@@ -1,12 +1,12 @@
 // What is printed of the calls, as bench/plain.rs prints it.
 use crate::calls::{Results, Written};
 use crate::sheets::ReadBack;
-use answers::answer::balance_words;
-use answers::line::values_line;
+use answers::line::write_values;
 use ledger::fix::FixingValues;
 use numbers::sizes::MOST_DISTRIBUTORS;
 use numbers::units::Pesos;
-use text::line::{ITEMS, Item, Shown, write_line};
+use text::buffer::Text;
+use text::number::write_item;
 use text::row::write_rows;
 
 // The file descriptor of standard output.
@@ -15,46 +15,43 @@ const STDOUT_FILENO: i32 = 1;
 // Average, final price and charge of each distributor.
 pub(crate) const PRICES: usize = MOST_DISTRIBUTORS * 3;
 
-// Prints the first bytes of a text.
-fn print(text: &[u8], count: usize) {
-    if let Some(shown) = text.get(..count) {
-        io::write_all(STDOUT_FILENO, shown);
-    }
-}
+// Room for two numbers with their names.
+const LINE: usize = 64;
+
+// Room for a line of values and a row of three numbers for each distributor.
+const ROWS: usize = 4096;
 
 fn print_counts(fixings: u64, settlements: u64) {
-    let mut text = io::buffer();
-    let mut counts = [Item(*b"            ", Shown::Nothing); ITEMS];
-    counts[0] = Item(*b"fixings     ", Shown::Number(fixings));
-    counts[1] = Item(*b"settlements ", Shown::Number(settlements));
-    let end = write_line(&mut text, 0, counts);
-    print(&text, end);
+    let mut text = Text::<LINE>::new();
+    write_item(&mut text, b"fixings", fixings);
+    write_item(&mut text, b" settlements", settlements);
+    text.push(b'\n');
+    io::write_all(STDOUT_FILENO, text.as_bytes());
 }
 
 // The last sheet: how many bytes it has, and the sum of the readings read back.
 pub(crate) fn print_sheet(read_back: ReadBack) {
-    let mut text = io::buffer();
-    let mut line = [Item(*b"            ", Shown::Nothing); ITEMS];
-    line[0] = Item(*b"used        ", Shown::Number(read_back.used as u64));
-    let end = write_line(&mut text, 0, line);
-    line[0] = Item(*b"sum         ", Shown::Number(read_back.sum));
-    let end = write_line(&mut text, end, line);
-    print(&text, end);
+    let mut text = Text::<LINE>::new();
+    write_item(&mut text, b"used", read_back.used as u64);
+    write_item(&mut text, b"\nsum", read_back.sum);
+    text.push(b'\n');
+    io::write_all(STDOUT_FILENO, text.as_bytes());
 }
 
 // The last fixing: its values, and average, final price and charge of each distributor.
 fn print_fixing(values: FixingValues, prices: &[i64]) {
-    let mut text = io::buffer();
-    let end = write_line(&mut text, 0, values_line(values));
-    let end = write_rows(&mut text, end, prices, 3, false, &[]);
-    print(&text, end);
+    let mut text = Text::<ROWS>::new();
+    let no_column = [0u64; 0];
+    write_values(&mut text, values);
+    write_rows(&mut text, prices, 3, &no_column);
+    io::write_all(STDOUT_FILENO, text.as_bytes());
 }
 
 // The last settlement: transfer and balance of each distributor.
-fn print_settlement(transfers: &[i64], balances: [Pesos; MOST_DISTRIBUTORS]) {
-    let mut text = io::buffer();
-    let end = write_rows(&mut text, 0, transfers, 1, true, &balance_words(balances));
-    print(&text, end);
+fn print_settlement(transfers: &[i64], balances: &[Pesos]) {
+    let mut text = Text::<ROWS>::new();
+    write_rows(&mut text, transfers, 1, balances);
+    io::write_all(STDOUT_FILENO, text.as_bytes());
 }
 
 pub(crate) fn print_results(results: Results, written: Written) {
@@ -63,6 +60,6 @@ pub(crate) fn print_results(results: Results, written: Written) {
         print_fixing(values, &written.prices);
     }
     if let Some(ledger) = results.settled {
-        print_settlement(&written.transfers, ledger.balances);
+        print_settlement(&written.transfers, &ledger.balances);
     }
 }

@@ -37,15 +37,13 @@ fn write_then_read(
     Ok(used)
 }
 
-// How many bytes the sheet has, if it is written at all, and the sum of what is read from it.
+// How many bytes the last sheet has, none where it is refused, and the sum of what is read from it.
 pub(crate) fn write_and_read(readings: &[u64; READINGS], count: u64) -> ReadBack {
     let mut buffer = [0u8; SHEET];
     let mut read_back = [0u64; READINGS];
     let mut used = 0;
     for _ in 0..count {
-        if let Ok(written) = write_then_read(readings, &mut buffer, &mut read_back) {
-            used = written;
-        }
+        used = write_then_read(readings, &mut buffer, &mut read_back).unwrap_or(0);
     }
     let sum = sum_of(&read_back);
     ReadBack { used, sum }
