@@ -18,7 +18,7 @@ use Rattle.text.proofs.SizeLaws.{choice_size, decimal_size, integer_size, column
 use Rattle.text.proofs.SizeLaws.{rows_size, numbers_line_size}
 use Rattle.answers.specs.Answer.{refused_text, outcome_line, used_line, error_line, changed_line, place_text}
 use Rattle.answers.specs.Answer.{values_line, fixing_line, signed_unwritten, all_unwritten, unwritten_word}
-use Rattle.answers.specs.Answer.{unwritten_byte, changed_text, answer_text, settled_text, fixed_text}
+use Rattle.answers.specs.Answer.{changed_text, answer_text, settled_text, fixed_text}
 use Rattle.answers.specs.Answer.{sheet_read_text, sheet_written_text}
 
 unsigned_size : (x : ℕ) → length (decimal x) ≤ 21
@@ -109,18 +109,19 @@ module _ (name : List ℕ) (short : length name ≤ 12) where
         rows_size decimal unsigned_size {B = ℕ} decimal [] 0 (column_none decimal) readings distributor_readings,
       ))
 
-  pub sheet_written_size : (answer : Result ℕ Refusal) (buffer : List ℕ) (most : ℕ) →
-      IfOk answer (λ used. used ≤ most) → length (sheet_written_text name answer buffer) ≤ 429 + most * 22
+  pub sheet_written_size : (unwritten : List ℕ → Bool) (answer : Result ℕ Refusal) (buffer : List ℕ) (most : ℕ) →
+      IfOk answer (λ used. used ≤ most) →
+      length (sheet_written_text decimal unwritten name answer buffer) ≤ 429 + most * 22
   unfolding sheet_written_text
-  sheet_written_size (Ok used) buffer most p =
+  sheet_written_size unwritten (Ok used) buffer most p =
       simp length-append
       (omega (
         arith,
         used_size (Ok used),
         numbers_line_size decimal unsigned_size (take used buffer),
         length-take used buffer,
-        changed_size (all_unwritten eqb unwritten_byte (drop used buffer)),
+        changed_size (unwritten (drop used buffer)),
       ))
-  sheet_written_size (Err refusal) buffer most p =
+  sheet_written_size unwritten (Err refusal) buffer most p =
       simp length-append
-      (omega (arith, used_size (Err refusal), changed_size (all_unwritten eqb unwritten_byte buffer)))
+      (omega (arith, used_size (Err refusal), changed_size (unwritten buffer)))

@@ -104,9 +104,9 @@ sheet_read_text name answer readings =
 
 -- "and one line with the U bytes as numbers"; "`changed` is printed also where a byte past the U used ones is no longer
 -- 255"
-unfoldable pub sheet_written_text : List ℕ → Result ℕ Refusal → List ℕ → List ℕ
-sheet_written_text name (Ok used) buffer =
-    used_line name (Ok used) ++ numbers_line decimal (take used buffer)
-    ++ changed_text (all_unwritten eqb unwritten_byte (drop used buffer))
-sheet_written_text name (Err refusal) buffer =
-    used_line name (Err refusal) ++ changed_text (all_unwritten eqb unwritten_byte buffer)
+unfoldable pub sheet_written_text : {A : Type 0} → (A → List ℕ) → (List A → Bool) → List ℕ → Result ℕ Refusal → List A →
+    List ℕ
+sheet_written_text shown unwritten name (Ok used) buffer =
+    used_line name (Ok used) ++ numbers_line shown (take used buffer) ++ changed_text (unwritten (drop used buffer))
+sheet_written_text shown unwritten name (Err refusal) buffer =
+    used_line name (Err refusal) ++ changed_text (unwritten buffer)

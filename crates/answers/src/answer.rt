@@ -10,6 +10,7 @@ use numbers::refusal::Refusal;
 use numbers::sizes::DISTRIBUTOR_READINGS;
 use numbers::units::Pesos;
 use text::buffer::Text;
+use text::number::Decimal;
 use text::row::{write_numbers_line, write_rows};
 
 // The word that stands in every place of a lent list before a call.
@@ -95,22 +96,24 @@ pub fn write_sheet_read<const SIZE: usize>(
 }
 
 // Writes the answer of a sheet that was written: its bytes, as numbers, and a line where the rest of the lent buffer
-// changed.
-pub fn write_sheet_written<const SIZE: usize>(
+// changed, of which each place was lent with `unwritten`.
+pub fn write_sheet_written<const SIZE: usize, N: Decimal + PartialEq>(
     text: &mut Text<SIZE>,
     name: &[u8],
     answer: Result<usize, Refusal>,
-    sheet: &[u8],
+    sheet: &[N],
+    unwritten: N,
 )
     requires { IfOk answer (λ used. used ≤ length sheet.now) }
-    ensures { text.new ≡ written SIZE (sheet_written_text name.now answer sheet.now) text.old }
+    ensures { text.new ≡ written SIZE
+        (sheet_written_text N.shown (all_unwritten N.PartialEq.eq unwritten) name.now answer sheet.now) text.old }
 {
     write_used(text, name, answer);
     match answer {
         Ok(used) => {
             write_numbers_line(text, &sheet[..used]);
-            write_changed(text, is_unwritten(&sheet[used..], UNWRITTEN_BYTE));
+            write_changed(text, is_unwritten(&sheet[used..], unwritten));
         }
-        Err(_) => write_changed(text, is_unwritten(sheet, UNWRITTEN_BYTE)),
+        Err(_) => write_changed(text, is_unwritten(sheet, unwritten)),
     }
 }

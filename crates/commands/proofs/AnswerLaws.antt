@@ -54,7 +54,7 @@ sheet_fits parts =
     let few : (v : Verdict) → write_verdict n readings buffer ≡ v →
     IfOk (answer_by v (length (sheet_bytes n readings))) (λ used. used ≤ 5280) =
     elim [ Ok _ ↦ λ e. used_few n readings buffer e | Err refusal ↦ λ e. tt ] in
-    le_trans (sheet_written_size (bytes "writesheet") (omega arith) _ _ 5280 (few _ refl)) (omega arith)
+    le_trans (sheet_written_size (bytes "writesheet") (omega arith) _ _ _ 5280 (few _ refl)) (omega arith)
 
 fixing_fits : (is_interim : Bool) → length (cond is_interim (bytes "interim") (bytes "fix")) ≤ 12
 fixing_fits true = omega arith

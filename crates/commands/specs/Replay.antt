@@ -1,13 +1,13 @@
 -- What a journal does to the ledger, and what it answers (docs/JOURNAL.md): each command is the call of the words that
 -- its text holds. Assumes nothing.
-use Rattle.std.specs.Prelude.{Bool, true, false, cond, List, [], ℕ, zero, suc, ◌%◌, ltb, length, get_or, replicate, ℤ, negsuc, Option, Some, None, Result, Ok, Err}
+use Rattle.std.specs.Prelude.{Bool, true, false, cond, List, [], ℕ, zero, suc, ◌%◌, eqb, ltb, length, get_or, replicate, ℤ, negsuc, Option, Some, None, Result, Ok, Err}
 use Rattle.numbers.specs.Bounded.{list_below}
 use Rattle.numbers.specs.Refusal.{answer_by}
 use Rattle.numbers.specs.Checks.{verdict_of}
 use Rattle.sheet.specs.Read.{read_checks, read_list}
 use Rattle.sheet.specs.Sheet.{sheet_bytes}
 use Rattle.sheet.specs.Write.{write_verdict, written_buffer}
-use Rattle.text.specs.Text.{bytes}
+use Rattle.text.specs.Text.{bytes, decimal}
 use Rattle.journal.specs.Cursor.{unreadable, read_of, Reading, and_then}
 use Rattle.journal.specs.Form.{Held, held_in, form_after, form_text}
 use Rattle.journal.specs.Command.{load_form, command_form, command_after}
@@ -23,7 +23,7 @@ use Rattle.ledger.specs.Settle.{SettlementCall, settlement_call_of, settlement_v
 use Rattle.ledger.specs.Join.{join_verdict, join_ledger}
 use Rattle.ledger.specs.declared.ledger.Ledger.{Ledger}
 use Rattle.store.specs.Store.{ledger_parts, loaded_ledger}
-use Rattle.answers.specs.Answer.{outcome_line, unwritten_word, unwritten_byte}
+use Rattle.answers.specs.Answer.{outcome_line, all_unwritten, unwritten_word, unwritten_byte}
 use Rattle.answers.specs.Answer.{settled_text, fixed_text, sheet_read_text, sheet_written_text}
 use Rattle.commands.specs.declared.run.Step.{Step}
 
@@ -102,7 +102,7 @@ sheet_writing_text parts =
     let n = (held_in parts 0).number in
     let readings = (held_in parts 1).words in
     let buffer = unwritten_bytes (held_in parts 2).number in
-    sheet_written_text (bytes "writesheet")
+    sheet_written_text decimal (all_unwritten eqb unwritten_byte) (bytes "writesheet")
     (answer_by (write_verdict n readings buffer) (length (sheet_bytes n readings)))
     (written_buffer n readings buffer)
 

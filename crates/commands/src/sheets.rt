@@ -49,5 +49,5 @@ pub(crate) fn run_write_sheet(parts: &Parts, words: &[u64], answer: &mut Text<LO
     let mut room = unwritten(UNWRITTEN_BYTE);
     let sheet = &mut room[..parts.number_of(2) as usize];
     let used = write_sheet(parts.number_of(0) as usize, readings, sheet);
-    write_sheet_written(answer, b"writesheet", used, sheet);
+    write_sheet_written(answer, b"writesheet", used, sheet, UNWRITTEN_BYTE);
 }
