@@ -17,7 +17,7 @@ use Rattle.numbers.specs.Units.{no_price}
 use Rattle.numbers.specs.declared.units.PesoPrice.{PesoPrice}
 use Rattle.numbers.proofs.ListLaws.{list_at}
 use Rattle.numbers.proofs.CheckLaws.{AllTold, check_told, verdict_told, passed_number, is_passed_lem}
-use Rattle.supply.proofs.LinePriceLaws.{answer_passed, answer_refused}
+use Rattle.numbers.proofs.CheckLaws.{answer_passed, answer_refused}
 use Rattle.fixing.specs.Input.{input_distributors}
 use Rattle.fixing.specs.Required.{RightLengths}
 use Rattle.fixing.specs.Prices.{fixed_prices, returned_values}

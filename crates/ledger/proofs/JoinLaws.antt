@@ -7,7 +7,7 @@ use Rattle.numbers.specs.declared.refusal.Refusal.{Refusal}
 use Rattle.numbers.specs.declared.refusal.Refusal.TheVariants.{Unsound, LedgerFull}
 use Rattle.std.specs.Prelude.{Ok, Err}
 use Rattle.numbers.proofs.CheckLaws.{AllTold, check_told, judged}
-use Rattle.supply.proofs.LinePriceLaws.{answer_passed, answer_refused}
+use Rattle.numbers.proofs.CheckLaws.{answer_passed, answer_refused}
 use Rattle.ledger.specs.Ledger.{joined_ledger}
 use Rattle.ledger.specs.Sound.{sound}
 use Rattle.ledger.specs.Join.{join_checks, join_verdict, joined_answer, join_ledger, JoinPromise}

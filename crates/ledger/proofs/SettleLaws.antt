@@ -19,7 +19,7 @@ use Rattle.std.specs.Prelude.{Ok, Err}
 use Rattle.numbers.proofs.BoolLaws.{and_three}
 use Rattle.numbers.proofs.ListLaws.{list_at}
 use Rattle.numbers.proofs.CheckLaws.{AllTold, check_told, judged}
-use Rattle.supply.proofs.LinePriceLaws.{answer_passed, answer_refused}
+use Rattle.numbers.proofs.CheckLaws.{answer_passed, answer_refused}
 use Rattle.fixing.specs.declared.sector.SectorCharges.{SectorCharges}
 use Rattle.settlement.specs.Amount.{billing_in_range}
 use Rattle.settlement.specs.Required.{BillingLists, Billed}

@@ -173,6 +173,18 @@ answers_by values checks worked told answer e =
     go (Ok _) = refl
     go (Err refusal) = refl
 
+-- an answer that was worked, and one that was refused
+module _ {A : Type 0} (worked : A) where
+  pub answer_passed : (given : A) (verdict : Verdict) → answer_by verdict worked ≡ Ok given →
+      (verdict ≡ Ok tt) × (given ≡ worked)
+  answer_passed given (Ok _) h = (refl, cc)
+  answer_passed given (Err refusal) h = absurd (let z : ◌≡◌ {A = ℕ} 0 1 = cc in omega arith)
+
+  pub answer_refused : (refusal : Refusal) (verdict : Verdict) → answer_by verdict worked ≡ Err refusal →
+      verdict ≡ Err refusal
+  answer_refused refusal (Ok _) h = absurd (let z : ◌≡◌ {A = ℕ} 0 1 = cc in omega arith)
+  answer_refused refusal (Err other) h = cc
+
 -- an answer that one test picks
 pub picked : {A : Type 0} (tell : A → Answered) (passed : Bool) (given missing : A) (values : List ℕ) (number : ℕ) →
     tell given ≡ accepted values → tell missing ≡ without_values number →

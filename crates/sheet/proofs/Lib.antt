@@ -1,4 +1,3 @@
-pub mod AnswerLaws
 pub mod StandLaws
 pub mod NumberLaws
 pub mod BitLaws

@@ -23,7 +23,7 @@ use Rattle.sheet.specs.Number.{number_size, number_at}
 use Rattle.sheet.specs.Sheet.{bit_at, reading_place, map_place, whole_check, reading_checks, distributor_checks}
 use Rattle.sheet.specs.Sheet.{sheet_readings, sheet_checks}
 use Rattle.sheet.specs.Read.{read_checks, read_list, ReadPromise}
-use Rattle.sheet.proofs.AnswerLaws.{answer_ok, answer_err}
+use Rattle.numbers.proofs.CheckLaws.{answer_passed, answer_refused}
 use Rattle.sheet.proofs.PlaceLaws.{Walked, walked_none, walked_bit, walked_more, reading_within, own_checks}
 use Rattle.sheet.proofs.PlaceLaws.{each_checks, places_within, next_map}
 
@@ -86,7 +86,7 @@ module _ (sheet : List ℕ) (place : ℕ) (whole : place + number_size ≤ lengt
 
     pub checked_more : (next : ℕ) → Ok next ≡ own_answer → Checked sheet place (bits / 2) next (b + 1)
     checked_more next e =
-        let w = answer_ok _ _ next e in
+        let w = answer_passed _ next _ (sym e) in
         record {
           walked = walked_more sheet place h.walked next w.1;
           within = rw w.1 (reading_within (bits % 2) sheet at (omega arith) h.within w.0);
@@ -101,7 +101,7 @@ module _ (sheet : List ℕ) (place : ℕ) (whole : place + number_size ≤ lengt
         rw (
           map_passes sheet place whole,
           join_refused (own_checks sheet place) b distributor_readings refusal p h.passed
-              (ap verdict_of (sym own_check) ∙ answer_err _ _ refusal e),
+              (ap verdict_of (sym own_check) ∙ answer_refused _ refusal _ (sym e)),
         ) refl
 
     pub checked_all : b ≡ distributor_readings →
@@ -150,7 +150,7 @@ module _ {sheet : List ℕ} {at i : ℕ} (h : SheetChecked sheet at i) where
 
   pub sheet_more : (next : ℕ) → Ok next ≡ each_answer → SheetChecked sheet next (i + 1)
   sheet_more next e =
-      let w = answer_ok _ _ next e in
+      let w = answer_passed _ next _ (sym e) in
       record {
         stands = w.1 ∙ ap (λ a. reading_place sheet a distributor_readings) h.stands ∙ sym (next_map sheet i);
         within = rw w.1 (places_within sheet at w.0 distributor_readings (omega arith));
@@ -161,7 +161,7 @@ module _ {sheet : List ℕ} {at i : ℕ} (h : SheetChecked sheet at i) where
       Err refusal ≡ verdict_of (sheet_checks n sheet)
   sheet_wrong n refusal e p =
       sym (sheet_refused n sheet refusal
-      (join_refused (each_checks sheet) i n refusal p h.passed (each_check ∙ answer_err _ _ refusal e)))
+      (join_refused (each_checks sheet) i n refusal p h.passed (each_check ∙ answer_refused _ refusal _ (sym e))))
 
 -- all distributors passed
 pub sheet_left : (n : ℕ) (sheet : List ℕ) (at : ℕ) → SheetChecked sheet at n → at < length sheet →

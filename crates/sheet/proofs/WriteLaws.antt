@@ -33,7 +33,7 @@ use Rattle.sheet.proofs.NumberLaws.{number_size_lem}
 use Rattle.sheet.proofs.BitLaws.{bits_below}
 use Rattle.sheet.proofs.MapLaws.{presence_most, reading_size}
 use Rattle.sheet.proofs.FrontLaws.{front_long}
-use Rattle.sheet.proofs.AnswerLaws.{answer_ok}
+use Rattle.numbers.proofs.CheckLaws.{answer_passed}
 
 -- the loop over the bits of a map
 pub record BitsAdded (readings : List ℕ) (map power b : ℕ) : Type 0 where
@@ -202,7 +202,7 @@ module _ (n : ℕ) (readings buffer : List ℕ) where
   module _ (used : ℕ) (left : List ℕ) (promise : WritePromise n readings buffer (Ok used) left) where
     pub written_passed : (write_verdict n readings buffer ≡ Ok tt) × (used ≡ length (sheet_bytes n readings))
     unfolding write_verdict
-    written_passed = answer_ok _ _ used promise.judged.answered
+    written_passed = answer_passed _ used _ (sym promise.judged.answered)
 
     pub written_within : used ≤ length left
     written_within =

@@ -9,7 +9,7 @@ use Rattle.numbers.specs.Checks.{verdict_of}
 use Rattle.numbers.specs.declared.refusal.Refusal.{Refusal}
 use Rattle.numbers.specs.Refusal.{Verdict, answer_by}
 use Rattle.numbers.proofs.CheckLaws.{FirstPass, AllTold, refused_first, passed_alone, all_passed, verdict_from}
-use Rattle.numbers.proofs.CheckLaws.{answers_by}
+use Rattle.numbers.proofs.CheckLaws.{answers_by, answer_passed, answer_refused}
 use Rattle.supply.specs.Months.{lacks_month, first_missing, month_check}
 use Rattle.supply.specs.Price.{term_mean, first_beyond, worked_prices, bounded_prices}
 use Rattle.supply.specs.Price.{price_checks, table_checks, LinePricesPromise}
@@ -17,18 +17,6 @@ use Rattle.supply.specs.declared.market.FixingNumbers.{FixingNumbers}
 use Rattle.supply.specs.declared.price.LinePrices.{LinePrices}
 use Rattle.supply.proofs.MonthLaws.{month_told, months_passed}
 use Rattle.supply.proofs.PriceLaws.{prices_told, bounds_passed}
-
--- an answer that was worked, and one that was refused
-module _ {A : Type 0} (worked : A) where
-  pub answer_passed : (given : A) (verdict : Verdict) → answer_by verdict worked ≡ Ok given →
-      (verdict ≡ Ok tt) × (given ≡ worked)
-  answer_passed given (Ok _) h = (refl, cc)
-  answer_passed given (Err refusal) h = absurd (let z : ◌≡◌ {A = ℕ} 0 1 = cc in omega arith)
-
-  pub answer_refused : (refusal : Refusal) (verdict : Verdict) → answer_by verdict worked ≡ Err refusal →
-      verdict ≡ Err refusal
-  answer_refused refusal (Ok _) h = absurd (let z : ◌≡◌ {A = ℕ} 0 1 = cc in omega arith)
-  answer_refused refusal (Err other) h = cc
 
 module _ (table : List (List ℕ)) (numbers : FixingNumbers) (lines in_force : List ℕ) where
   abbrev worked : LinePrices

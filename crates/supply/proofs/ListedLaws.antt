@@ -36,21 +36,6 @@ use Rattle.supply.specs.declared.market.FixingNumbers.{FixingNumbers}
 use Rattle.supply.proofs.MonthLaws.{EveryTerm, never_missing, none_missing, missing_same}
 use Rattle.supply.proofs.PriceLaws.{indexed_same, price_same, power_same, allowed_same}
 
--- a test of any element of a list is one of any index below its length
-module _ {A : Type 0} (test : A → Bool) (list : List A) (empty : A) where
-  any_taken : (k : ℕ) → k ≤ length list → list_any test (take k list) ≡ any_below k (λ i. test (get_or list i empty))
-  unfolding any_below
-  any_taken zero p = refl
-  any_taken (suc k) p =
-      ap (λ n. list_any test (take n list)) (sym (add-one k))
-      ∙ list_any_more test list k empty p
-      ∙ ap (λ b. b || test (get_or list k empty)) (any_taken k (omega arith))
-
-  pub any_listed : list_any test list ≡ any_below (length list) (λ k. test (get_or list k empty))
-  any_listed =
-      ap (list_any test) (sym (take_all (length list) list (omega arith)))
-      ∙ any_taken (length list) (omega arith)
-
 -- a mean of the list is at most that of the top value
 pub listed_most : (means : List ℕ) → ValuesWithin most_mean means → (term : Term) → listed_mean means term ≤ most_mean
 unfolding listed_mean mean_at

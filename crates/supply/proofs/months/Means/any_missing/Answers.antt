@@ -5,7 +5,7 @@ use Rattle.numbers.specs.Bounded.{any_below}
 use lib.Dec.{eqb}
 use lib.ListN.{length, get_or}
 use Rattle.series.specs.Means.{mean_count}
-use Rattle.supply.proofs.ListedLaws.{any_listed}
+use Rattle.numbers.proofs.ChainLaws.{any_listed}
 use Rattle.supply.proofs.months.Means.any_missing.Goals as goal
 
 pub returns : goal.returns
