@@ -16,7 +16,7 @@ use Rattle.text.specs.Text.{decimal, integer}
 use Rattle.text.specs.Row.{rows_text}
 use Rattle.text.proofs.SizeLaws.{choice_size, decimal_size, integer_size, column_size, column_none}
 use Rattle.text.proofs.SizeLaws.{rows_size, numbers_line_size}
-use Rattle.answers.specs.Answer.{refused_text, outcome_line, used_line, error_line, changed_line, place_text}
+use Rattle.answers.specs.Answer.{refused_text, outcome_line, used_line, changed_line, place_text}
 use Rattle.answers.specs.Answer.{values_line, fixing_line, signed_unwritten, all_unwritten, unwritten_word}
 use Rattle.answers.specs.Answer.{changed_text, answer_text, settled_text, fixed_text}
 use Rattle.answers.specs.Answer.{sheet_read_text, sheet_written_text}
@@ -28,10 +28,6 @@ place_size : (values : List ℕ) → length (place_text values) ≤ 52
 place_size [] = omega arith
 place_size (line ∷ []) = simp length-append (omega (arith, decimal_size line))
 place_size (line ∷ term ∷ more) = simp length-append (omega (arith, decimal_size line, decimal_size term))
-
-pub error_size : (at : ℕ) → length (error_line at) ≤ 204
-unfolding error_line
-error_size at = simp length-append (omega (arith, decimal_size at))
 
 changed_size : (unwritten : Bool) → length (changed_text unwritten) ≤ 204
 unfolding changed_text

@@ -1,4 +1,6 @@
-// The commands: each is made from what its numbers and words hold, and answered.
+// The commands: each is made from what its numbers and words hold, and answered. Parts are named by their places, as the
+// form has them. Whether a fixing is an interim one stays a flag, since the form, the call and the text by their
+// definitions take it.
 ghost use Rattle.std.specs.Prelude.{◌≡◌, length};
 ghost use Rattle.text.specs.Buffer.{written};
 ghost use Rattle.ledger.specs.Ledger.{opening_ledger};
@@ -7,8 +9,7 @@ ghost use Rattle.ledger.specs.Settle.{settlement_ledger};
 ghost use Rattle.ledger.specs.Join.{join_ledger};
 ghost use Rattle.store.specs.Store.{loaded_ledger};
 ghost use Rattle.journal.specs.Form.{FormHeld, number_of, parts_in};
-ghost use Rattle.journal.specs.Command.{open_form, fixing_form, settle_form, load_form};
-ghost use Rattle.answers.specs.Answer.{outcome_line};
+ghost use Rattle.journal.specs.Command.{fixing_form, settle_form, load_form};
 ghost use Rattle.commands.specs.Replay.{unwritten, unwritten_power, fixing_call, settlement_call};
 ghost use Rattle.commands.specs.Replay.{opening_text, fixing_name, fixing_text, settlement_text};
 ghost use Rattle.commands.specs.Replay.{joining_text, saving_text, loading_text, longest_answer};

@@ -1,5 +1,5 @@
 // Command after command of a journal. What cannot be read is told by its byte, and the broken command is not made.
-ghost use Rattle.std.specs.Prelude.{◌≡◌, ◌≤◌, length, [], replicate};
+ghost use Rattle.std.specs.Prelude.{◌≡◌, ◌≤◌, length, []};
 ghost use Rattle.text.specs.Buffer.{written};
 ghost use Rattle.journal.specs.Form.{FormHeld, parts_in};
 ghost use Rattle.journal.specs.Command.{command_form};
@@ -112,6 +112,7 @@ fn run_commands(text: &[u8]) -> Step
     let mut answer = Text::new();
     let mut ledger = open(0).ledger;
     let mut at: usize = 0;
+    // No count: each command tells where the next one begins.
     while at < text.len() {
         answer.clear();
         match run_command(text, at, ledger, &mut answer) {

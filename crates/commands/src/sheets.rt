@@ -13,7 +13,7 @@ use sheet::read::read_sheet;
 use sheet::write::write_sheet;
 use text::buffer::Text;
 
-// The words of a list as bytes, which they are.
+// The words of a list as bytes, which they are; the remainder, not a cast, since the definition (bytes_of) is of any words.
 fn narrow(words: &[u64], bytes: &mut [u8])
     requires { length bytes.old ≡ length words.now }
     ensures { bytes.new ≡ bytes_of words.now }

@@ -21,7 +21,7 @@ use Rattle.fixing.specs.Prices.{distributors, fixed_prices, charge_list}
 use Rattle.fixing.specs.Sector.{sector_charges}
 use Rattle.fixing.specs.Input.{FixingInput, SameButPower, input_mean, input_references, input_averages}
 use Rattle.fixing.specs.Input.{input_energies, input_distributors}
-use Rattle.fixing.specs.Fixing.{accepted_fixing, fixing_of}
+use Rattle.fixing.specs.Fixing.{accepted_fixing, worked_fixing}
 use Rattle.fixing.specs.declared.fix.Fixing.{Fixing}
 use Rattle.fixing.proofs.VerdictLaws.{passed_fixing}
 
@@ -74,7 +74,7 @@ module _ (n : ℕ) (one other : FixingInput) (same : SameButPower one other) whe
   unfolding input_distributors
   distributors_same = ap₂ (distributors n) averages_same energies_same
 
-  pub fixing_same : SameEnergyParts (fixing_of n one) (fixing_of n other)
+  pub fixing_same : SameEnergyParts (worked_fixing n one) (worked_fixing n other)
   unfolding accepted_fixing input_distributors
   fixing_same =
       rw (passed_fixing n one, passed_fixing n other)

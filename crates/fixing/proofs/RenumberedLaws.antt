@@ -35,7 +35,7 @@ use Rattle.fixing.specs.Sector.{most_factor, factor_at, sector_present, has_sect
 use Rattle.fixing.specs.Sector.{place_charge, filled_places, sector_charges, no_charges, renumbered_charges}
 use Rattle.fixing.specs.Input.{FixingInput, index_table, input_mean, input_checks}
 use Rattle.fixing.specs.Input.{input_references, input_power_prices, input_power, input_averages, input_energies}
-use Rattle.fixing.specs.Fixing.{accepted_fixing, fixing_of}
+use Rattle.fixing.specs.Fixing.{accepted_fixing, worked_fixing}
 use Rattle.fixing.specs.declared.fix.Fixing.{Fixing}
 use Rattle.fixing.specs.declared.sector.SectorCharges.{SectorCharges}
 use Rattle.fixing.proofs.VerdictLaws.{passed_fixing}
@@ -207,7 +207,7 @@ module _ {n : ℕ} (r : Renumbering n) (one other : FixingInput) (h : Renumbered
           energy = energies_renumbered;
         }
 
-    pub fixing_renumbered : RenumberedFixing r (fixing_of n one) (fixing_of n other)
+    pub fixing_renumbered : RenumberedFixing r (worked_fixing n one) (worked_fixing n other)
     unfolding accepted_fixing fixed_prices final_prices charge_list
     fixing_renumbered =
         let d = distributors_renumbered in

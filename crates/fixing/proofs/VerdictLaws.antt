@@ -37,7 +37,7 @@ use Rattle.fixing.specs.Sector.{sectors_allowed}
 use Rattle.fixing.specs.Input.{FixingInput, index_table, input_mean, ranged, supplied, beyond_line}
 use Rattle.fixing.specs.Input.{input_checks, input_verdict, input_references, input_power_prices, input_power}
 use Rattle.fixing.specs.Input.{input_averages, input_energies}
-use Rattle.fixing.specs.Fixing.{accepted_fixing, fixing_of, InputPromise}
+use Rattle.fixing.specs.Fixing.{accepted_fixing, worked_fixing, InputPromise}
 use Rattle.fixing.specs.Required.{OwnLines, AcceptedLines, PowerPricedLines, RightLengths, CheckedInput}
 use Rattle.fixing.specs.declared.fix.Fixing.{Fixing}
 use Rattle.fixing.proofs.InputLaws.{own_lines, accepted_range}
@@ -134,8 +134,8 @@ module _ (n : ℕ) (input : FixingInput) where
   pub input_refused : (refusal : Refusal) → verdict_of (input_checks n input) ≡ Err refusal →
       InputPromise n input (Err refusal)
   input_refused refusal h =
-      answers_by (λ _. []) (input_checks n input) (fixing_of n input) input_told (Err refusal)
-      (ap (λ v. answer_by v (fixing_of n input)) (sym h))
+      answers_by (λ _. []) (input_checks n input) (worked_fixing n input) input_told (Err refusal)
+      (ap (λ v. answer_by v (worked_fixing n input)) (sym h))
 
   -- input that passed causes 6 to 9: the checks of the index table give the verdict
   module _ (ok : CheckedInput n input) where
@@ -185,15 +185,15 @@ module _ (n : ℕ) (input : FixingInput) where
             fixing ≡ accepted_fixing n (average_list n prices.references input.lines)
             (power_averages n prices.power input.lines) (energy_list input.lines) input.sectors →
             InputPromise n input (Ok fixing)
-        unfolding fixing_of input_averages input_power input_energies
+        unfolding worked_fixing input_averages input_power input_energies
         priced_worked fixing f =
-            answers_by (λ _. []) (input_checks n input) (fixing_of n input) input_told (Ok fixing)
+            answers_by (λ _. []) (input_checks n input) (worked_fixing n input) input_told (Ok fixing)
             (rw (table_left, worked.0) (ap Ok (f ∙ rw (references_are, power_is))))
 
   -- the parts of its fixing
-  pub passed_fixing : fixing_of n input ≡ accepted_fixing n (input_averages n input) (input_power n input)
+  pub passed_fixing : worked_fixing n input ≡ accepted_fixing n (input_averages n input) (input_power n input)
       (input_energies input) input.sectors
-  unfolding fixing_of
+  unfolding worked_fixing
   passed_fixing = refl
 
   -- input that passed every check

@@ -25,11 +25,11 @@ accepted_fixing n averages power energies sectors =
     }
 
 -- what the input of a fixing comes to where it passes
-unfoldable pub fixing_of : ℕ → FixingInput → Fixing
-fixing_of n input =
+unfoldable pub worked_fixing : ℕ → FixingInput → Fixing
+worked_fixing n input =
     accepted_fixing n (input_averages n input) (input_power n input) (input_energies input) input.sectors
 
 -- what the fixing of input promises: it is the definition's where the checks pass, else the refusal, with the number and
 -- values of the checks
 abbrev pub InputPromise : ℕ → FixingInput → Result Fixing Refusal → Type 0
-InputPromise n input given = AnswersBy (λ _. []) given (input_checks n input) (fixing_of n input)
+InputPromise n input given = AnswersBy (λ _. []) given (input_checks n input) (worked_fixing n input)

@@ -26,7 +26,7 @@ use Rattle.fixing.specs.Prices.{returned_values}
 use Rattle.fixing.specs.Sector.{sectors_allowed, no_charges}
 use Rattle.fixing.specs.Input.{ranged, supplied, missing_place, beyond_line, some_moved, input_checks}
 use Rattle.fixing.specs.Input.{input_distributors}
-use Rattle.fixing.specs.Fixing.{accepted_fixing, fixing_of}
+use Rattle.fixing.specs.Fixing.{accepted_fixing, worked_fixing}
 use Rattle.fixing.specs.declared.fix.Fixing.{Fixing}
 use Rattle.fixing.proofs.VerdictLaws.{passed_fixing}
 use Rattle.settlement.specs.Amount.{billing_in_range}
@@ -215,7 +215,7 @@ fixing_step plain call h =
     ∙ ap (λ b. image (cond b (plain_change plain (fixing call)) plain)) (fixing_same plain call h).accepts
   where
     go : (b : Bool) →
-        cond b (fixed_ledger (image plain) call.input.numbers (fixing_of plain.count call.input).sectors)
+        cond b (fixed_ledger (image plain) call.input.numbers (worked_fixing plain.count call.input).sectors)
         (image plain) ≡ image (cond b (plain_change plain (fixing call)) plain)
     go true =
         let older = older_same plain call.input.numbers.month h in

@@ -25,7 +25,7 @@ use Rattle.numbers.proofs.RenumberingLaws.{moved_length}
 use Rattle.supply.specs.Line.{renumbered_lines}
 use Rattle.supply.proofs.RenumberedLaws.{lines_length}
 use Rattle.fixing.specs.Input.{FixingInput}
-use Rattle.fixing.specs.Fixing.{fixing_of}
+use Rattle.fixing.specs.Fixing.{worked_fixing}
 use Rattle.fixing.specs.declared.fix.Fixing.{Fixing}
 use Rattle.fixing.proofs.RenumberedLaws.{RenumberedInput, RenumberedFixing, input_checks_lem, fixing_renumbered}
 use Rattle.ledger.specs.Ledger.{next_month, makes_older, stays_older, older_stands, fixed_ledger}
@@ -46,7 +46,7 @@ use Rattle.history.proofs.RenumberedLedgerLaws.{any_settled_moved, sound_moved, 
 module _ (ledger : Ledger) (call : FixingCall) (v : fixing_verdict ledger call ≡ Ok tt) (i k : ℕ) (p : i < ledger.n)
   where
     abbrev worked : Fixing
-    worked = fixing_of ledger.n call.input
+    worked = worked_fixing ledger.n call.input
 
     word_in : k < 3 →
         get_or (fixing_list ledger call) (i * 3 + k) (pos 0) ≡ price_part (get_or worked.averages i no_price).0
@@ -163,7 +163,7 @@ module _ (ledger : Ledger) (r : Renumbering ledger.n) (call given : FixingCall) 
       unfolding fixing_verdict
       verdict = ap verdict_of (checks_same whole right) ∙ passed
 
-      fixing : RenumberedFixing r (fixing_of ledger.n call.input) (fixing_of ledger.n given.input)
+      fixing : RenumberedFixing r (worked_fixing ledger.n call.input) (worked_fixing ledger.n given.input)
       fixing = fixing_renumbered r call.input given.input (input whole right) (few whole right)
 
       answer_moved : fixing_answer (moved_ledger r ledger) given ≡ fixing_answer ledger call
@@ -187,7 +187,7 @@ module _ (ledger : Ledger) (r : Renumbering ledger.n) (call given : FixingCall) 
           let new = r.new_below i p in
           let at = r.new i in
           let back = r.old_new i p in
-          let before = fixing_of ledger.n call.input in
+          let before = worked_fixing ledger.n call.input in
           word_in (moved_ledger r ledger) given verdict at k new q
           ∙ part_same k
           (fixing.average at new ∙ ap (λ j. get_or before.averages j no_price) back)
@@ -201,7 +201,7 @@ module _ (ledger : Ledger) (r : Renumbering ledger.n) (call given : FixingCall) 
           let new = r.new_below i p in
           power_in (moved_ledger r ledger) given verdict (r.new i) k new q
           ∙ ap (λ (x : PowerPrice). x.0) (fixing.power (r.new i) new
-          ∙ ap (λ j. get_or (fixing_of ledger.n call.input).power j no_power) (r.old_new i p))
+          ∙ ap (λ j. get_or (worked_fixing ledger.n call.input).power j no_power) (r.old_new i p))
           ∙ sym (power_in ledger call passed i k p q)
 
     abbrev other : Ledger

@@ -21,7 +21,7 @@ use Rattle.numbers.proofs.CheckLaws.{answer_passed, answer_refused}
 use Rattle.fixing.specs.Input.{input_distributors}
 use Rattle.fixing.specs.Required.{RightLengths}
 use Rattle.fixing.specs.Prices.{fixed_prices, returned_values}
-use Rattle.fixing.specs.Fixing.{accepted_fixing, fixing_of}
+use Rattle.fixing.specs.Fixing.{accepted_fixing, worked_fixing}
 use Rattle.fixing.specs.declared.fix.Fixing.{Fixing}
 use Rattle.fixing.proofs.LimitLaws.{rounds_few}
 use Rattle.fixing.proofs.VerdictLaws.{input_told}
@@ -78,11 +78,11 @@ module _ (ledger : Ledger) (call : FixingCall) where
 
   pub answer_told : fixing_answered (fixing_answer ledger call) ≡ verdict_answered
       (returned_values (input_distributors ledger.n call.input)) (fixing_verdict ledger call)
-  unfolding fixing_answer accepted_values fixing_of accepted_fixing fixed_prices returned_values input_distributors
+  unfolding fixing_answer accepted_values worked_fixing accepted_fixing fixed_prices returned_values input_distributors
   answer_told = go (fixing_verdict ledger call)
     where
       go : (v : Verdict) →
-          fixing_answered (answer_by v (accepted_values (fixing_of ledger.n call.input).prices)) ≡ verdict_answered
+          fixing_answered (answer_by v (accepted_values (worked_fixing ledger.n call.input).prices)) ≡ verdict_answered
           (returned_values (input_distributors ledger.n call.input)) v
       go (Ok _) = refl
       go (Err refusal) = refl
@@ -117,13 +117,13 @@ module _ (ledger : Ledger) (call : FixingCall) where
       FixingPromise ledger call (Err refusal) ledger call.prices call.power
   unfolding fixing_ledger fixing_list fixing_power_list fixing_answer worked_answer
   fixed_refused refusal h =
-      let v = answer_refused (fixing_of ledger.n call.input) refusal (fixing_verdict ledger call) (sym h) in
+      let v = answer_refused (worked_fixing ledger.n call.input) refusal (fixing_verdict ledger call) (sym h) in
       fixing_promised (Err refusal) ledger call.prices call.power (rw v) refl (rw v) (rw v) (rw v)
 
   module _ (fixing : Fixing) (h : Ok fixing ≡ worked_answer ledger call) where
-    worked : (fixing_verdict ledger call ≡ Ok tt) × (fixing ≡ fixing_of ledger.n call.input)
+    worked : (fixing_verdict ledger call ≡ Ok tt) × (fixing ≡ worked_fixing ledger.n call.input)
     unfolding worked_answer
-    worked = answer_passed (fixing_of ledger.n call.input) fixing (fixing_verdict ledger call) (sym h)
+    worked = answer_passed (worked_fixing ledger.n call.input) fixing (fixing_verdict ledger call) (sym h)
 
     pub made_passed : FixingPassed ledger call
     made_passed = fixing_passed ledger call (ap is_passed worked.0)
@@ -138,7 +138,7 @@ module _ (ledger : Ledger) (call : FixingCall) where
     made_small = prices_small ledger.n call.input right made_passed.passed fixing worked.1
 
     few : fixing.prices.rounds < ledger.n
-    unfolding fixing_of accepted_fixing fixed_prices input_distributors
+    unfolding worked_fixing accepted_fixing fixed_prices input_distributors
     few =
         rw worked.1
         (rounds_few (input_distributors ledger.n call.input) (passed_range ledger.n call

@@ -26,7 +26,7 @@ use Rattle.fixing.specs.Limit.{Distributors, InRange, charge}
 use Rattle.fixing.specs.Sector.{most_factor, factor_at, sector_present, sector_charge, place_charge, sector_charges}
 use Rattle.fixing.specs.Sector.{no_charges}
 use Rattle.fixing.specs.Input.{input_distributors}
-use Rattle.fixing.specs.Fixing.{accepted_fixing, fixing_of}
+use Rattle.fixing.specs.Fixing.{accepted_fixing, worked_fixing}
 use Rattle.fixing.specs.declared.fix.Fixing.{Fixing}
 use Rattle.fixing.specs.declared.sector.SectorCharges.{SectorCharges}
 use Rattle.fixing.proofs.LimitLaws.{charge_size, sector_size}
@@ -175,11 +175,11 @@ fixing_keeps ledger call h = go (is_passed (fixing_verdict ledger call)) refl
     booked : SectorCharges → Ledger
     booked force = fixed_ledger ledger call.input.numbers force
 
-    accepted : FixingPassed ledger call → sound (booked (fixing_of ledger.n call.input).sectors) ≡ true
+    accepted : FixingPassed ledger call → sound (booked (worked_fixing ledger.n call.input).sectors) ≡ true
     accepted f =
         let g = sound_facts ledger h in
         let r : InRange d = passed_range ledger.n call g.some g.few f.lengths f.passed in
-        let e : (fixing_of ledger.n call.input).sectors ≡ sector_charges ledger.n (charge d)
+        let e : (worked_fixing ledger.n call.input).sectors ≡ sector_charges ledger.n (charge d)
         call.input.sectors =
         ap (λ (x : Fixing). x.sectors) (passed_fixing ledger.n call.input) in
         rw e
@@ -219,7 +219,7 @@ fixing_keeps ledger call h = go (is_passed (fixing_verdict ledger call)) refl
         }))
 
     go : (b : Bool) → is_passed (fixing_verdict ledger call) ≡ b →
-        sound (cond b (booked (fixing_of ledger.n call.input).sectors) ledger) ≡ true
+        sound (cond b (booked (worked_fixing ledger.n call.input).sectors) ledger) ≡ true
     go true e = accepted (fixing_passed ledger call e)
     go false e = h
 

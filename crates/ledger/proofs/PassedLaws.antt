@@ -14,7 +14,7 @@ use Rattle.fixing.specs.Average.{average_list}
 use Rattle.fixing.specs.Prices.{distributors, final_prices, fixed_prices}
 use Rattle.fixing.specs.Input.{FixingInput, input_verdict, input_averages, input_energies}
 use Rattle.fixing.specs.Required.{RightLengths}
-use Rattle.fixing.specs.Fixing.{accepted_fixing, fixing_of}
+use Rattle.fixing.specs.Fixing.{accepted_fixing, worked_fixing}
 use Rattle.fixing.specs.declared.fix.Fixing.{Fixing}
 use Rattle.std.specs.Prelude.{Ok}
 use Rattle.fixing.proofs.FixingLaws.{final_at}
@@ -58,7 +58,7 @@ module _ (n : ℕ) (input : FixingInput) (right : RightLengths n input) (passed 
       }
 
   -- so the prices of a fixing that passed fit their words
-  pub prices_small : (fixing : Fixing) → fixing ≡ fixing_of n input →
+  pub prices_small : (fixing : Fixing) → fixing ≡ worked_fixing n input →
       PricesSmall fixing.averages fixing.prices.finals
   unfolding accepted_fixing
   prices_small fixing e = rw (e, passed_fixing n input) accepted_small

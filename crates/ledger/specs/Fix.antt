@@ -15,7 +15,7 @@ use Rattle.supply.specs.Line.{line_words, most_lines, line_count}
 use Rattle.supply.specs.declared.market.FixingNumbers.{FixingNumbers}
 use Rattle.fixing.specs.Input.{FixingInput, input_of, input_checks, input_distributors}
 use Rattle.fixing.specs.Prices.{returned_values}
-use Rattle.fixing.specs.Fixing.{fixing_of}
+use Rattle.fixing.specs.Fixing.{worked_fixing}
 use Rattle.fixing.specs.declared.fix.Fixing.{Fixing}
 use Rattle.fixing.specs.declared.prices.FixedPrices.{FixedPrices}
 use Rattle.ledger.specs.Calendar.{day_allowed}
@@ -88,7 +88,7 @@ fixing_verdict ledger call = verdict_of (fixing_checks ledger call)
 
 -- the fixing, or why it is refused
 unfoldable pub worked_answer : Ledger → FixingCall → Result Fixing Refusal
-worked_answer ledger call = answer_by (fixing_verdict ledger call) (fixing_of ledger.n call.input)
+worked_answer ledger call = answer_by (fixing_verdict ledger call) (worked_fixing ledger.n call.input)
 
 -- an accepted fixing "returns L, r (0 if none), rounds, residue"
 unfoldable pub accepted_values : FixedPrices → FixingValues
@@ -106,7 +106,7 @@ FixingAnswer = Result FixingValues Refusal
 
 unfoldable pub fixing_answer : Ledger → FixingCall → FixingAnswer
 fixing_answer ledger call =
-    answer_by (fixing_verdict ledger call) (accepted_values (fixing_of ledger.n call.input).prices)
+    answer_by (fixing_verdict ledger call) (accepted_values (worked_fixing ledger.n call.input).prices)
 
 -- the number of each answer (0: accepted), and the values returned with it
 abbrev pub fixing_answered : FixingAnswer → Answered
@@ -121,7 +121,7 @@ rounds_below n (Err refusal) = true
 -- the ledger handed back: a refused one unchanged
 unfoldable pub fixing_ledger : Ledger → FixingCall → Ledger
 fixing_ledger ledger call =
-    let booked = fixed_ledger ledger call.input.numbers (fixing_of ledger.n call.input).sectors in
+    let booked = fixed_ledger ledger call.input.numbers (worked_fixing ledger.n call.input).sectors in
     cond (is_passed (fixing_verdict ledger call)) booked ledger
 
 -- "Fixing writes average, final, charge, distributor by distributor": the three words of one, and word k of the list
@@ -141,7 +141,7 @@ price_list n fixing =
 unfoldable pub fixing_list : Ledger → FixingCall → List ℤ
 fixing_list ledger call =
     cond (is_passed (fixing_verdict ledger call))
-    (price_list ledger.n (fixing_of ledger.n call.input))
+    (price_list ledger.n (worked_fixing ledger.n call.input))
     call.prices
 
 -- the average power price of each distributor
@@ -151,7 +151,7 @@ average_power_list n fixing = list_below n (λ i. (get_or fixing.power i no_powe
 unfoldable pub fixing_power_list : Ledger → FixingCall → List ℕ
 fixing_power_list ledger call =
     cond (is_passed (fixing_verdict ledger call))
-    (average_power_list ledger.n (fixing_of ledger.n call.input))
+    (average_power_list ledger.n (worked_fixing ledger.n call.input))
     call.power
 
 -- what the open calls promise, for every ledger and every call: answer, its number and values, rounds below n, ledger

@@ -1,5 +1,5 @@
-// Soundness of a ledger, clause by clause, for every bit pattern. Sizes are tested by two comparisons, since a forged
-// ledger may hold the least i64. The count of distributors stays a number with a `requires`: a forged one may be any.
+// Soundness of a ledger, clause by clause, for every bit pattern. The count of distributors stays a number with a
+// `requires`, and each flag stays beside what it tells of: in a forged ledger they may be any.
 ghost use Rattle.std.specs.Prelude.{◌≡◌, ◌≤◌};
 ghost use Rattle.numbers.specs.Sizes.{most_distributors};
 ghost use Rattle.series.specs.Series.{last_month};

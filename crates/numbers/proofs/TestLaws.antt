@@ -1,5 +1,5 @@
 -- Laws of the tests of all and of any index below a bound. Assumes nothing.
-use mathlib.Core.Path.{◌≡◌, refl, sym, ◌∙◌, ap, ap₂}
+use mathlib.Core.Path.{◌≡◌, refl, sym, ap₂}
 use mathlib.Core.Bool.{Bool, true, false, not, ◌&&◌, ◌||◌, and-false}
 use Prim.Native.Nat.{ℕ, zero, suc, ◌+◌, ◌-◌, ◌<◌, ◌≤◌}
 use native.Mathlib.Numerals.{add-one}
@@ -132,20 +132,3 @@ any_unless (suc k) t = rw (any_unless k t) (either (all_below k (λ i. not (t i)
     either true true = refl
     either true false = refl
     either false b = refl
-
--- a loop that looks for an index that passes and stops at the first tests that each before it fails
-pub record Searched (bound : ℕ) (t : ℕ → Bool) (k : ℕ) : Type 0 where
-  pub failed : Tested bound (λ i. not (t i)) k
-
-pub searched_none : (bound : ℕ) (t : ℕ → Bool) → Searched bound t 0
-searched_none bound t = record { failed = tested_none _ _ }
-
-module _ {bound : ℕ} {t : ℕ → Bool} {k : ℕ} (h : Searched bound t k) where
-  pub searched_more : k < bound → t k ≡ false → Searched bound t (k + 1)
-  searched_more p e = record { failed = tested_more h.failed p (ap not e) }
-
-  pub searched_found : k < bound → t k ≡ true → true ≡ any_below bound t
-  searched_found p e = ap not (tested_fails h.failed p (ap not e)) ∙ sym (any_unless bound t)
-
-  pub searched_all : bound ≤ k → false ≡ any_below bound t
-  searched_all p = ap not (tested_all h.failed p) ∙ sym (any_unless bound t)

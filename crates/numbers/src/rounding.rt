@@ -29,7 +29,7 @@ pub fn half_away(x: i64, b: u64) -> i64
     }
 }
 
-// a / b rounded up.
+// a / b rounded up: std's method under the definition's name, on which the edit division_up_made_floor stands.
 pub fn divide_up(a: u64, b: u64) -> u64
     requires fact_1 { 0 < b }
     requires fact_2 { a < 2 ^ 62 }

@@ -1,5 +1,5 @@
-// The signed toolkit: the only functions that turn unsigned numbers into signed ones and back. A bound on the size
-// is put as two comparisons, since the least i64 has no size in an i64.
+// The signed toolkit: the only functions that turn unsigned numbers into signed ones and back. Each is std's method, kept
+// under its own name, since the definitions, the laws and docs/ speak of it by that.
 ghost use Rattle.std.specs.Prelude.{◌≡◌, ◌<◌, ◌^◌, nat_abs};
 ghost use Rattle.std.proofs.Math.IntN.{sub_ℕ};
 ghost use Rattle.numbers.specs.Signed.{is_negative, within_size, word_of, signed_of};

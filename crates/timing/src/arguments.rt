@@ -19,6 +19,7 @@ pub(crate) enum Calls {
 // On which load, which calls, and how often.
 #[derive(Clone, Copy)]
 pub(crate) struct Task {
+    // The even load or the mixed one: the argument tells.
     pub mixed: bool,
     pub calls: Calls,
     pub count: u64,

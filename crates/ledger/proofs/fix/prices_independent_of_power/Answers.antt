@@ -1,7 +1,7 @@
 -- What each call hands back is worked from the parts of its fixing that are worked from energy.
 use mathlib.Core.Path.{◌≡◌, sym, ◌∙◌, ap, ap₂}
 use Rattle.std.specs.Prelude.{Ok}
-use Rattle.fixing.specs.Fixing.{fixing_of}
+use Rattle.fixing.specs.Fixing.{worked_fixing}
 use Rattle.fixing.proofs.IndependenceLaws.{fixing_same}
 use Rattle.ledger.specs.Ledger.{fixed_ledger}
 use Rattle.ledger.specs.Fix.{FixingCall, fixing_verdict, accepted_values, fixing_answer}
@@ -15,15 +15,15 @@ module _ (ledger : Ledger) (call : FixingCall) (given : HandedBack) (h : FixingA
   verdict : fixing_verdict ledger call ≡ Ok tt
   verdict = accepted_passed ledger call given h.promise h.number
 
-  answered : given.answer ≡ Ok (accepted_values (fixing_of ledger.n call.input).prices)
+  answered : given.answer ≡ Ok (accepted_values (worked_fixing ledger.n call.input).prices)
   unfolding fixing_answer
   answered = rw verdict at h.promise.answered
 
-  booked : given.ledger ≡ fixed_ledger ledger call.input.numbers (fixing_of ledger.n call.input).sectors
+  booked : given.ledger ≡ fixed_ledger ledger call.input.numbers (worked_fixing ledger.n call.input).sectors
   unfolding fixing_ledger
   booked = rw verdict at h.promise.booked
 
-  listed : given.prices ≡ price_list ledger.n (fixing_of ledger.n call.input)
+  listed : given.prices ≡ price_list ledger.n (worked_fixing ledger.n call.input)
   unfolding fixing_list
   listed = rw verdict at h.promise.listed
 
