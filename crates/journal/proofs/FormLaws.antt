@@ -420,11 +420,7 @@ module _ (parts : Parts) (words : List ℕ) (k : ℕ) (p : k < part_count) where
   unfolding parts_in parts_below
   part_held = list_at (λ j. held_of (number_of parts j) (words_in parts words j)) part_count (held_of 0 []) k p
 
--- a part of a form lies within the words, and has no more words than there is room for
-pub part_lies : {form : List Part} {parts : Parts} {size : ℕ} → FormHeld form parts size → (k : ℕ) → k < part_count →
-    (k < part_count) × ((start_of parts k ≤ end_of parts k) × (end_of parts k ≤ size))
-part_lies h k p = (p, (omega (arith, h.counted k p), h.within k p))
-
+-- a part of a form has no more words than there is room for
 pub part_few : {form : List Part} {parts : Parts} (words : List ℕ) → FormHeld form parts (length words) → (k : ℕ) →
     k < part_count → length (words_in parts words k) ≤ room_of (part_at form k)
 part_few {form} {parts} words h k p =
