@@ -4,14 +4,11 @@ use mathlib.Core.Path.{◌≡◌, refl}
 use mathlib.Core.Bool.{Bool, true, false, cond}
 use mathlib.Core.List.{List}
 use Prim.Native.Nat.{ℕ, ◌+◌, ◌≤◌, ◌<◌}
-use native.Mathlib.Numerals.{add-one}
 use native.Mathlib.Omega.{arith}
-use lib.ListN.{length, get_or, drop}
-use lib.Seq.{drop-cons}
+use lib.ListN.{length}
 use lib.Dec.{eqb}
 use borrow.Author.Tests.{eq-eqb, ne_eqb, eqb-false}
 use Rattle.std.specs.Prelude.{Ok, Option, Some, None, IfSome}
-use Rattle.std.specs.List.{find}
 use Rattle.journal.specs.Token.{token_after, bytes_of}
 use Rattle.journal.specs.Cursor.{and_then, token_read}
 use Rattle.journal.specs.Form.{part_count}
@@ -34,14 +31,6 @@ form_few Interim = omega arith
 form_few Join = omega arith
 form_few ReadSheet = omega arith
 form_few WriteSheet = omega arith
-
--- a search comes to item k: it is found, or sought after it
-module _ {A : Type 0} (test : A → Bool) (items : List A) (k : ℕ) (d : A) (p : k < length items) where
-  pub find_here : test (get_or items k d) ≡ true → find test (drop k items) ≡ Some (get_or items k d)
-  find_here h = rw (drop-cons items k d p, h)
-
-  pub find_on : test (get_or items k d) ≡ false → find test (drop (k + 1) items) ≡ find test (drop k items)
-  find_on h = rw (add-one, drop-cons items k d p, h)
 
 -- the next command is that of the next token
 module _ (text : List ℕ) (at : ℕ) (token : Token) (e : token ≡ token_after text at) where

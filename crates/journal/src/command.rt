@@ -146,15 +146,12 @@ pub fn form_of(command: Command) -> &'static [Part]
 }
 
 // The command of a word.
+#[tactic(auto, unfolding(crate::specs::Command::command_named))]
 fn command_named(word: &[u8]) -> Option<Command>
     ensures { result ≡ command_named word.now }
 {
-    for row in &COMMANDS {
-        if word == name_bytes(&row.0) {
-            return Some(row.1);
-        }
-    }
-    None
+    let row = COMMANDS.iter().find(|row| word == name_bytes(&row.0))?;
+    Some(row.1)
 }
 
 // Reads the next command's word; none where no token is left.
