@@ -61,7 +61,8 @@ module _ (text : List ℕ) (at : ℕ) (p : at < length text) where
   past_named h (Some command) = past_read h
   past_named h None = token_inside text at
 
-  pub command_past : ReadWithin text (command_after text at) (λ found. IfSome found (λ read. Past text (at + 1) read.next))
+  pub command_past :
+      ReadWithin text (command_after text at) (λ found. IfSome found (λ read. Past text (at + 1) read.next))
   unfolding command_after
   command_past = go (eqb next.start (length text)) refl
     where
@@ -71,5 +72,6 @@ module _ (text : List ℕ) (at : ℕ) (p : at < length text) where
           (λ found. IfSome found (λ read. Past text (at + 1) read.next))
       go true h = tt
       go false h =
-          within_then text (token_read next (command_named (bytes_of text next))) _ (λ read. Past text (at + 1) read.next) _
+          within_then text (token_read next (command_named (bytes_of text next))) _
+          (λ read. Past text (at + 1) read.next) _
           (past_named (eqb-false next.start (length text) h) (command_named (bytes_of text next))) (λ read q. q)
