@@ -36,8 +36,8 @@ module _ (text : List ℕ) (at : ℕ) (p : at < length text) (ledger : Ledger) w
   made_later command (Err broken) o read r = absurd (let z : ◌≡◌ {A = ℕ} 0 1 = cc in omega arith)
 
   after_later : (found : Result (Option (Read Command)) Unreadable) →
-      ReadWithin text found (λ given. IfSome given (λ command. Past text (at + 1) command.next)) → (read : Read Ledger) →
-      and_then found (ledger_of text ledger) ≡ Ok read → at < read.next
+      ReadWithin text found (λ given. IfSome given (λ command. Past text (at + 1) command.next)) →
+      (read : Read Ledger) → and_then found (ledger_of text ledger) ≡ Ok read → at < read.next
   after_later (Ok None) o read r =
       let same : read_of ledger (length text) ≡ read = cc in
       omega (arith, p, ap (λ (q : Read Ledger). q.next) same)
