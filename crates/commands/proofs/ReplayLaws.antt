@@ -7,7 +7,7 @@ use native.Mathlib.Omega.{arith}
 use native.Mathlib.Decide.{dec_lt}
 use lib.ListN.{length}
 use borrow.Author.Tests.{lt-ltb, le-ltb}
-use Rattle.std.specs.Prelude.{Option, Some, None, Result, Ok, Err, IfOk, IfSome}
+use Rattle.std.specs.Prelude.{Option, Some, None, Result, Ok, Err, IfSome}
 use Rattle.numbers.specs.Checks.{verdict_of}
 use Rattle.numbers.specs.Units.{between}
 use Rattle.journal.specs.Cursor.{read_of, Reading, and_then}
@@ -16,7 +16,7 @@ use Rattle.journal.specs.Command.{command_form}
 use Rattle.journal.specs.declared.command.Command.{Command}
 use Rattle.journal.specs.declared.cursor.Unreadable.{Unreadable}
 use Rattle.journal.specs.declared.cursor.Read.{Read}
-use Rattle.journal.proofs.CursorLaws.{Past}
+use Rattle.journal.proofs.CursorLaws.{ReadWithin, Past}
 use Rattle.journal.proofs.FormLaws.{then_form}
 use Rattle.journal.proofs.CommandLaws.{command_past}
 use Rattle.ledger.specs.Ledger.{empty_ledger, opening_checks, opening_verdict, opening_ledger}
@@ -28,7 +28,7 @@ use Rattle.commands.specs.declared.run.Step.{Step}
 -- a command reads on
 module _ (text : List ℕ) (at : ℕ) (p : at < length text) (ledger : Ledger) where
   made_later : (command : Read Command) (form : Reading (List Held)) →
-      IfOk form (λ read. Past text (at + 1) read.next) → (read : Read Ledger) →
+      ReadWithin text form (λ read. Past text (at + 1) read.next) → (read : Read Ledger) →
       ledger_by command.value ledger form ≡ Ok read → at < read.next
   made_later command (Ok parts) o read r =
       let same : read_of (command_ledger command.value parts.value ledger) parts.next ≡ read = cc in
@@ -36,8 +36,8 @@ module _ (text : List ℕ) (at : ℕ) (p : at < length text) (ledger : Ledger) w
   made_later command (Err broken) o read r = absurd (let z : ◌≡◌ {A = ℕ} 0 1 = cc in omega arith)
 
   after_later : (found : Result (Option (Read Command)) Unreadable) →
-      IfOk found (λ given. IfSome given (λ command. Past text (at + 1) command.next)) → (read : Read Ledger) →
-      and_then found (ledger_of text ledger) ≡ Ok read → at < read.next
+      ReadWithin text found (λ given. IfSome given (λ command. Past text (at + 1) command.next)) →
+      (read : Read Ledger) → and_then found (ledger_of text ledger) ≡ Ok read → at < read.next
   after_later (Ok None) o read r =
       let same : read_of ledger (length text) ≡ read = cc in
       omega (arith, p, ap (λ (q : Read Ledger). q.next) same)

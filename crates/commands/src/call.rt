@@ -2,8 +2,7 @@
 ghost use Rattle.std.specs.Prelude.{◌≡◌, replicate};
 ghost use Rattle.journal.specs.Command.{longest_list};
 
-// The longest list that a call is ever lent.
-const LONGEST_LIST: usize = 8192;
+use journal::command::LONGEST_LIST;
 
 // Room for the longest list, unwritten; from a function so that no goal writes its places out.
 pub(crate) fn unwritten<T: Copy>(word: T) -> [T; LONGEST_LIST]

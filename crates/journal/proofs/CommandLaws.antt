@@ -4,14 +4,11 @@ use mathlib.Core.Path.{◌≡◌, refl}
 use mathlib.Core.Bool.{Bool, true, false, cond}
 use mathlib.Core.List.{List}
 use Prim.Native.Nat.{ℕ, ◌+◌, ◌≤◌, ◌<◌}
-use native.Mathlib.Numerals.{add-one}
 use native.Mathlib.Omega.{arith}
-use lib.ListN.{length, get_or, drop}
-use lib.Seq.{drop-cons}
+use lib.ListN.{length}
 use lib.Dec.{eqb}
 use borrow.Author.Tests.{eq-eqb, ne_eqb, eqb-false}
-use Rattle.std.specs.Prelude.{Ok, Option, Some, None, IfOk, IfSome}
-use Rattle.std.specs.List.{find}
+use Rattle.std.specs.Prelude.{Ok, Option, Some, None, IfSome}
 use Rattle.journal.specs.Token.{token_after, bytes_of}
 use Rattle.journal.specs.Cursor.{and_then, token_read}
 use Rattle.journal.specs.Form.{part_count}
@@ -20,8 +17,8 @@ use Rattle.journal.specs.declared.token.Token.{Token}
 use Rattle.journal.specs.declared.command.Command.{Command}
 use Rattle.journal.specs.declared.command.Command.TheVariants.{Open, Fix, Settle, Save, Load, Interim, Join}
 use Rattle.journal.specs.declared.command.Command.TheVariants.{ReadSheet, WriteSheet}
-use Rattle.journal.proofs.TokenLaws.{token_ordered, token_within, token_later, token_some}
-use Rattle.journal.proofs.CursorLaws.{Past, if_then}
+use Rattle.journal.proofs.TokenLaws.{token_within, token_inside, token_later, token_some}
+use Rattle.journal.proofs.CursorLaws.{ReadWithin, within_then, Past}
 
 -- no command has more parts than a form may have
 pub form_few : (command : Command) → length (command_form command) ≤ part_count
@@ -34,14 +31,6 @@ form_few Interim = omega arith
 form_few Join = omega arith
 form_few ReadSheet = omega arith
 form_few WriteSheet = omega arith
-
--- a search comes to item k: it is found, or sought after it
-module _ {A : Type 0} (test : A → Bool) (items : List A) (k : ℕ) (d : A) (p : k < length items) where
-  pub find_here : test (get_or items k d) ≡ true → find test (drop k items) ≡ Some (get_or items k d)
-  find_here h = rw (drop-cons items k d p, h)
-
-  pub find_on : test (get_or items k d) ≡ false → find test (drop (k + 1) items) ≡ find test (drop k items)
-  find_on h = rw (add-one, drop-cons items k d p, h)
 
 -- the next command is that of the next token
 module _ (text : List ℕ) (at : ℕ) (token : Token) (e : token ≡ token_after text at) where
@@ -61,26 +50,28 @@ module _ (text : List ℕ) (at : ℕ) (p : at < length text) where
 
   past_read : (next.start ≡ length text → ⊥) → Past text (at + 1) next.end
   past_read h =
-      let inside : next.start < length text = omega (arith, token_ordered text at, token_within text at) in
+      let inside : next.start < length text = omega (arith, token_inside text at) in
       record {
         within = token_within text at;
         later = omega (arith, token_later text at (omega arith), token_some text at inside);
       }
 
   past_named : (next.start ≡ length text → ⊥) → (command : Option Command) →
-      IfOk (token_read next command) (λ read. Past text (at + 1) read.next)
+      ReadWithin text (token_read next command) (λ read. Past text (at + 1) read.next)
   past_named h (Some command) = past_read h
-  past_named h None = tt
+  past_named h None = token_inside text at
 
-  pub command_past : IfOk (command_after text at) (λ found. IfSome found (λ read. Past text (at + 1) read.next))
+  pub command_past :
+      ReadWithin text (command_after text at) (λ found. IfSome found (λ read. Past text (at + 1) read.next))
   unfolding command_after
   command_past = go (eqb next.start (length text)) refl
     where
       go : (b : Bool) → eqb next.start (length text) ≡ b →
-          IfOk (cond b (Ok None)
+          ReadWithin text (cond b (Ok None)
           (and_then (token_read next (command_named (bytes_of text next))) (λ read. Ok (Some read))))
           (λ found. IfSome found (λ read. Past text (at + 1) read.next))
       go true h = tt
       go false h =
-          if_then (token_read next (command_named (bytes_of text next))) _ (λ read. Past text (at + 1) read.next) _
+          within_then text (token_read next (command_named (bytes_of text next))) _
+          (λ read. Past text (at + 1) read.next) _
           (past_named (eqb-false next.start (length text) h) (command_named (bytes_of text next))) (λ read q. q)

@@ -9,16 +9,27 @@ use native.Mathlib.Decide.{ℕ_discrete}
 use lib.Dec.{leb}
 use lib.ListN.{length, length-append}
 use borrow.Author.Tests.{leb-true}
-use Rattle.std.specs.Prelude.{Result, Ok, Err, Option, Some, None, IfOk, bytes_eq}
+use Rattle.std.specs.Prelude.{Result, Ok, Err, Option, Some, None, IfOk, MatchResult, bytes_eq}
 use Rattle.journal.specs.Token.{token_after, bytes_of}
 use Rattle.journal.specs.Number.{reading_in}
 use Rattle.journal.specs.Cursor.{unreadable, read_of, Reading, and_then, reads_below, token_read, word_after}
 use Rattle.journal.specs.Cursor.{at_most, number_after}
 use Rattle.journal.specs.declared.token.Token.{Token}
 use Rattle.journal.specs.declared.cursor.Unreadable.{Unreadable}
-use Rattle.journal.proofs.TokenLaws.{token_ordered, token_within, token_later}
+use Rattle.journal.proofs.TokenLaws.{token_ordered, token_within, token_inside, token_later}
 
--- what holds after two readings
+-- what holds of what was read, and that the byte which is told where a reading is broken lies within the text
+abbrev pub ReadWithin : {A : Type 0} → List ℕ → Result A Unreadable → (A → Type 0) → Type 0
+ReadWithin text reading P = MatchResult reading P (λ broken. broken.0 ≤ length text)
+
+-- either after two readings
+pub within_then : {A B : Type 0} (text : List ℕ) (first : Result A Unreadable) (later : A → Result B Unreadable)
+    (P : A → Type 0) (Q : B → Type 0) → ReadWithin text first P →
+    ((x : A) → P x → ReadWithin text (later x) Q) → ReadWithin text (and_then first later) Q
+within_then text (Ok x) later P Q h k = k x h
+within_then text (Err broken) later P Q h k = h
+
+-- what holds of what was read alone
 pub if_then : {A B : Type 0} (first : Result A Unreadable) (later : A → Result B Unreadable) (P : A → Type 0)
     (Q : B → Type 0) → IfOk first P → ((x : A) → P x → IfOk (later x) Q) → IfOk (and_then first later) Q
 if_then (Ok x) later P Q h k = k x h
@@ -52,14 +63,15 @@ module _ {A : Type 0} (readings : ℕ → ℕ → Reading A) (at : ℕ) where
         go before (no other) = rw (before (omega arith)) refl
 
 -- what holds of where each reading ends, if it is so of the place before
-pub reads_keep : {A : Type 0} (P : ℕ → Type 0) (k : ℕ) (readings : ℕ → ℕ → Reading A) →
-    ((j from : ℕ) → P from → IfOk (readings j from) (λ read. P read.next)) → (at : ℕ) → P at →
-    IfOk (reads_below k readings at) (λ read. P read.next)
+pub reads_keep : {A : Type 0} (text : List ℕ) (P : ℕ → Type 0) (k : ℕ) (readings : ℕ → ℕ → Reading A) →
+    ((j from : ℕ) → P from → ReadWithin text (readings j from) (λ read. P read.next)) → (at : ℕ) → P at →
+    ReadWithin text (reads_below k readings at) (λ read. P read.next)
 unfolding reads_below
-reads_keep P zero readings keep at p = p
-reads_keep P (suc k) readings keep at p =
-    if_then (reads_below k readings at) _ (λ read. P read.next) _ (reads_keep P k readings keep at p)
-    (λ before q. if_then (readings k before.next) _ (λ read. P read.next) _ (keep k before.next q) (λ last r. r))
+reads_keep text P zero readings keep at p = p
+reads_keep text P (suc k) readings keep at p =
+    within_then text (reads_below k readings at) _ (λ read. P read.next) _ (reads_keep text P k readings keep at p)
+    (λ before q. within_then text (readings k before.next) _ (λ read. P read.next) _ (keep k before.next q)
+    (λ last r. r))
 
 -- there are as many
 pub reads_length : {A : Type 0} (k : ℕ) (readings : ℕ → ℕ → Reading A) (at : ℕ) →
@@ -87,22 +99,22 @@ module _ {text : List ℕ} {place at : ℕ} (o : Past text place at) where
     later = omega (arith, o.later, token_later text at o.within, token_ordered text at);
   }
 
-  pub then_word : (word : List ℕ) → IfOk (word_after text at word) (Past text place)
+  pub then_word : (word : List ℕ) → ReadWithin text (word_after text at word) (Past text place)
   unfolding word_after
   then_word word = go (bytes_eq (bytes_of text token) word)
     where
-      go : (same : Bool) → IfOk (cond same (Ok token.end) (Err (unreadable token.start))) (Past text place)
+      go : (same : Bool) → ReadWithin text (cond same (Ok token.end) (Err (unreadable token.start))) (Past text place)
       go true = past_read
-      go false = tt
+      go false = token_inside text at
 
   pub then_number : (signed : Bool) (most : ℕ) →
-      IfOk (number_after text at signed most) (λ read. Past text place read.next)
+      ReadWithin text (number_after text at signed most) (λ read. Past text place read.next)
   unfolding number_after
   then_number signed most = go (at_most (reading_in signed (bytes_of text token)) most)
     where
-      go : (reading : Option ℕ) → IfOk (token_read token reading) (λ read. Past text place read.next)
+      go : (reading : Option ℕ) → ReadWithin text (token_read token reading) (λ read. Past text place read.next)
       go (Some value) = past_read
-      go None = tt
+      go None = token_inside text at
 
 -- a number is not above the most
 pub number_most : (text : List ℕ) (at : ℕ) (signed : Bool) (most : ℕ) →

@@ -35,7 +35,7 @@ use Rattle.journal.specs.declared.form.Kind.TheVariants.{Nothing, Number, List a
 use Rattle.journal.specs.declared.form.Part.{Part}
 use Rattle.journal.specs.declared.form.Parts.{Parts}
 use Rattle.journal.specs.declared.form.Placed.{Placed}
-use Rattle.journal.proofs.CursorLaws.{reads_more, reads_broken, reads_keep, Past, then_number}
+use Rattle.journal.proofs.CursorLaws.{ReadWithin, reads_more, reads_broken, reads_keep, Past, then_number}
 use Rattle.journal.proofs.CursorLaws.{number_most}
 use Rattle.journal.proofs.ListLaws.{count_most, list_most, then_count, then_list, list_left_on}
 
@@ -72,21 +72,21 @@ module _ (part : Part) (text : List ℕ) (at : ℕ) (kind : Kind) (k : part.1 �
 
 -- past a place still by a part
 then_part : {text : List ℕ} {place at : ℕ} → Past text place at → (part : Part) →
-    IfOk (part_after part text at) (λ read. Past text place read.next)
+    ReadWithin text (part_after part text at) (λ read. Past text place read.next)
 unfolding part_after
 then_part {text} {place} {at} o part = go part.1
   where
-    number : (reading : Reading ℕ) → IfOk reading (λ read. Past text place read.next) →
-        IfOk (number_part reading) (λ read. Past text place read.next)
+    number : (reading : Reading ℕ) → ReadWithin text reading (λ read. Past text place read.next) →
+        ReadWithin text (number_part reading) (λ read. Past text place read.next)
     number (Ok read) h = h
-    number (Err broken) h = tt
+    number (Err broken) h = h
 
-    list : (reading : Reading (List ℕ)) → IfOk reading (λ read. Past text place read.next) →
-        IfOk (list_part reading) (λ read. Past text place read.next)
+    list : (reading : Reading (List ℕ)) → ReadWithin text reading (λ read. Past text place read.next) →
+        ReadWithin text (list_part reading) (λ read. Past text place read.next)
     list (Ok read) h = h
-    list (Err broken) h = tt
+    list (Err broken) h = h
 
-    go : (kind : Kind) → IfOk (part_by kind (name_text part.0) text at) (λ read. Past text place read.next)
+    go : (kind : Kind) → ReadWithin text (part_by kind (name_text part.0) text at) (λ read. Past text place read.next)
     go Nothing = o
     go (Number most) = number _ (then_number o false most)
     go (Words longest most) = list _ (then_list o (name_text part.0) longest false most)
@@ -95,10 +95,10 @@ then_part {text} {place} {at} o part = go part.1
 
 -- by a form
 pub then_form : {text : List ℕ} {place at : ℕ} → Past text place at → (form : List Part) →
-    IfOk (form_after form text at) (λ read. Past text place read.next)
+    ReadWithin text (form_after form text at) (λ read. Past text place read.next)
 unfolding form_after parts_after
 then_form {text} {place} {at} o form =
-    reads_keep (Past text place) part_count _ (λ j from p. then_part p (part_at form j)) at o
+    reads_keep text (Past text place) part_count _ (λ j from p. then_part p (part_at form j)) at o
 
 -- a part's number is one that it takes, and it has as many words as its number says
 record Sized (part : Part) (held : Held) : Type 0 where
@@ -420,11 +420,7 @@ module _ (parts : Parts) (words : List ℕ) (k : ℕ) (p : k < part_count) where
   unfolding parts_in parts_below
   part_held = list_at (λ j. held_of (number_of parts j) (words_in parts words j)) part_count (held_of 0 []) k p
 
--- a part of a form lies within the words, and has no more words than there is room for
-pub part_lies : {form : List Part} {parts : Parts} {size : ℕ} → FormHeld form parts size → (k : ℕ) → k < part_count →
-    (k < part_count) × ((start_of parts k ≤ end_of parts k) × (end_of parts k ≤ size))
-part_lies h k p = (p, (omega (arith, h.counted k p), h.within k p))
-
+-- a part of a form has no more words than there is room for
 pub part_few : {form : List Part} {parts : Parts} (words : List ℕ) → FormHeld form parts (length words) → (k : ℕ) →
     k < part_count → length (words_in parts words k) ≤ room_of (part_at form k)
 part_few {form} {parts} words h k p =

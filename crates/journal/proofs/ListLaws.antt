@@ -20,7 +20,7 @@ use Rattle.journal.specs.List.{numbers_after, value_or_zero, number_at, numbers_
 use Rattle.journal.specs.List.{left_by_count, list_left}
 use Rattle.journal.specs.declared.cursor.Unreadable.{Unreadable}
 use Rattle.journal.proofs.CursorLaws.{if_then, if_any, reads_none, reads_more, reads_broken, reads_keep, reads_length}
-use Rattle.journal.proofs.CursorLaws.{Past, then_word, then_number, number_most}
+use Rattle.journal.proofs.CursorLaws.{ReadWithin, within_then, Past, then_word, then_number, number_most}
 
 -- there are as many numbers as are read
 pub numbers_length : (count : ℕ) (text : List ℕ) (at : ℕ) (signed : Bool) (most : ℕ) →
@@ -46,18 +46,18 @@ module _ (text : List ℕ) (at : ℕ) (name : List ℕ) (longest : ℕ) where
 
 -- past a place still by a list's name and count, and by a list
 module _ {text : List ℕ} {place at : ℕ} (o : Past text place at) (name : List ℕ) (longest : ℕ) where
-  pub then_count : IfOk (count_after text at name longest) (λ read. Past text place read.next)
+  pub then_count : ReadWithin text (count_after text at name longest) (λ read. Past text place read.next)
   unfolding count_after
   then_count =
-      if_then (word_after text at name) _ (Past text place) _ (then_word o name)
+      within_then text (word_after text at name) _ (Past text place) _ (then_word o name)
       (λ next p. then_number p false longest)
 
   pub then_list : (signed : Bool) (most : ℕ) →
-      IfOk (list_after text at name longest signed most) (λ read. Past text place read.next)
+      ReadWithin text (list_after text at name longest signed most) (λ read. Past text place read.next)
   unfolding list_after numbers_after
   then_list signed most =
-      if_then (count_after text at name longest) _ (λ read. Past text place read.next) _ then_count
-      (λ count p. reads_keep (Past text place) count.value _ (λ j from q. then_number q signed most) count.next p)
+      within_then text (count_after text at name longest) _ (λ read. Past text place read.next) _ then_count
+      (λ count p. reads_keep text (Past text place) count.value _ (λ j from q. then_number q signed most) count.next p)
 
 -- a list that is filled up to a place past which the function is empty
 filled_rest : {A : Type 0} (size : ℕ) (empty : A) (k : ℕ) (f : ℕ → A) →

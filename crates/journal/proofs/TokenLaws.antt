@@ -125,6 +125,9 @@ module _ (text : List ℕ) (from : ℕ) where
   unfolding token_after
   token_within = end_most text _ (start_most text (min from (length text)) (omega arith))
 
+  pub token_inside : (token_after text from).start ≤ length text
+  token_inside = omega (arith, token_ordered, token_within)
+
   pub token_later : from ≤ length text → from ≤ (token_after text from).start
   token_later p = rw (token_from p) (start_least text from)
 

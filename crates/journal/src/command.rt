@@ -9,12 +9,12 @@ use numbers::sizes::{MOST_DISTRIBUTORS, PLACES};
 use text::name::{NAME, name_bytes};
 
 // The longest list that a call is ever lent.
-const LONGEST_LIST: u64 = 8192;
+pub const LONGEST_LIST: usize = 8192;
 
 // A list of any numbers, and the length of a lent one.
-const LIST: Kind = Kind::List(LONGEST_LIST, MOST_WORD);
+const LIST: Kind = Kind::List(LONGEST_LIST as u64, MOST_WORD);
 
-const LENGTH: Kind = Kind::Length(LONGEST_LIST);
+const LENGTH: Kind = Kind::Length(LONGEST_LIST as u64);
 
 // Any number.
 const NUMBER: Kind = Kind::Number(MOST_WORD);
@@ -32,7 +32,7 @@ pub enum Command {
     WriteSheet,
 }
 
-// A command by its name.
+// A command by its name, an array of one size, as a part's is.
 #[derive(Clone, Copy)]
 struct CommandRow(pub [u8; NAME], pub Command);
 
@@ -68,7 +68,7 @@ const LOSSES: Part = Part(*b"losses      ", LIST);
 
 const TRANSFERS: Part = Part(*b"transfers   ", LENGTH);
 
-// No part: a fixing has none where an interim one has the prices in force.
+// No part: a fixing has none where an interim one has the prices in force, and the parts after it keep their places.
 const NOTHING: Part = Part(*b"            ", Kind::Nothing);
 
 const OPEN_FORM: [Part; 1] = [N];
@@ -103,7 +103,7 @@ const LOAD_FORM: [Part; PARTS] = [
 
 const READ_SHEET_FORM: [Part; 3] = [
     N,
-    Part(*b"sheet       ", Kind::List(LONGEST_LIST, 255)),
+    Part(*b"sheet       ", Kind::List(LONGEST_LIST as u64, 255)),
     Part(*b"readings    ", LENGTH),
 ];
 
@@ -146,15 +146,12 @@ pub fn form_of(command: Command) -> &'static [Part]
 }
 
 // The command of a word.
+#[tactic(auto, unfolding(crate::specs::Command::command_named))]
 fn command_named(word: &[u8]) -> Option<Command>
     ensures { result ≡ command_named word.now }
 {
-    for row in &COMMANDS {
-        if word == name_bytes(&row.0) {
-            return Some(row.1);
-        }
-    }
-    None
+    let row = COMMANDS.iter().find(|row| word == name_bytes(&row.0))?;
+    Some(row.1)
 }
 
 // Reads the next command's word; none where no token is left.

@@ -12,7 +12,8 @@ use text::name::{NAME, name_bytes};
 #[derive(Clone, Copy, PartialEq, Eq)]
 pub struct Unreadable(pub usize);
 
-// What was read, and how far the text is read with it.
+// What was read, and how far the text is read with it. A text and a place in it stay two parameters of what reads: each
+// reading answers a new place, and the definitions take both.
 #[derive(Clone, Copy)]
 pub struct Read<T> {
     pub value: T,
@@ -55,7 +56,7 @@ fn at_most(number: Option<u64>, most: u64) -> Option<u64>
     }
 }
 
-// Reads a number of at most `most`, signed or not.
+// Reads a number of at most `most`, signed or not: a flag, as at `read_digits`, which `number_after` takes.
 pub fn next_number(text: &[u8], at: usize, signed: bool, most: u64) -> Result<Read<u64>, Unreadable>
     ensures { result ≡ number_after text.now at signed most }
 {

@@ -23,6 +23,7 @@ pub const MOST_WORD: u64 = u64::MAX;
 // What a part of a form is, with the bounds of what it takes.
 #[derive(Clone, Copy)]
 pub enum Kind {
+    // A hole: the parts after it keep their places, as `fixing_call` counts them.
     Nothing,
     // A number, and its greatest value.
     Number(u64),
@@ -77,7 +78,7 @@ impl Placed {
 pub struct Parts(pub [Placed; PARTS]);
 
 impl Parts {
-    // The number of part k.
+    // The number of part k; a part is known by its place, as the form counts its parts.
     pub fn number_of(&self, k: usize) -> u64
         requires { k < part_count }
         ensures { result ≡ number_of self.now k }
@@ -166,6 +167,7 @@ pub fn read_form(
 }
 
 // Writes words, each after a blank, as numbers of either sign where they are signed.
+// `signed` is a flag, since the kind of a part says it when the text is written, and `words_by` takes it.
 fn write_words_by<const SIZE: usize>(text: &mut Text<SIZE>, signed: bool, words: &[u64])
     ensures { text.new ≡ written SIZE (words_by signed words.now) text.old }
 {
@@ -178,6 +180,7 @@ fn write_words_by<const SIZE: usize>(text: &mut Text<SIZE>, signed: bool, words:
 }
 
 // Writes a list, or a length, as a line of its own: its name, its number and its words.
+// `signed` is a flag, as at `write_words_by`, which `list_text` takes.
 fn write_list<const SIZE: usize>(
     text: &mut Text<SIZE>,
     name: [u8; NAME],

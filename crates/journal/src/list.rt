@@ -8,7 +8,7 @@ use crate::cursor::{Read, Unreadable, next_name, next_number};
 use text::name::NAME;
 
 // Reads as many numbers as the lent list has places, each of at most `most`: how far the text is read with them. Zeros
-// stand from one on that cannot be read.
+// stand from one on that cannot be read. `signed` is a flag, as at `read_digits`, which `numbers_after` takes.
 fn fill_numbers(
     text: &[u8],
     at: usize,
@@ -44,6 +44,7 @@ pub(crate) fn read_count(
 }
 
 // Reads a list by its name, of at most as many numbers as the lent list has places, into its first places: its count.
+// `signed` is a flag, as at `read_digits`, which `list_after` takes.
 pub(crate) fn read_list(
     text: &[u8],
     at: usize,

@@ -55,6 +55,7 @@ fn read_signed(bytes: &[u8]) -> Option<u64>
 }
 
 // The number of the bytes, of either sign as the word of 64 bits that holds it, or without a sign.
+// `signed` is a flag, since the kind of a part says it when the text is read, and `reading_in` takes it.
 pub(crate) fn read_digits(bytes: &[u8], signed: bool) -> Option<u64>
     ensures { result ≡ reading_in signed bytes.now }
 {
