@@ -21,7 +21,7 @@ use supply::market::FixingNumbers;
 use supply::price::{LinePrices, price_lines};
 use supply::range::input_in_range;
 
-// What an accepted fixing comes to.
+// What an accepted fixing comes to. Lists of their own: `price_word` and `average_power_list` read each by itself.
 #[derive(Clone, Copy)]
 pub struct Fixing {
     pub averages: [PesoPrice; MOST_DISTRIBUTORS],

@@ -1,5 +1,6 @@
 // The call on averages and energies alone: limit, surcharge, rounds, residue and final prices of 1 to 40
 // distributors; and their charges. It has no lines and no ledger in it.
+// n stays a number, its bound a clause: `fix_input` takes a number, and `numbers::sizes` has the bound.
 ghost use Rattle.std.specs.Prelude.{◌≡◌, ◌+◌, ◌≤◌, min, get_or, pos};
 ghost use Rattle.std.proofs.Math.IntN.{sub_ℕ};
 ghost use Rattle.numbers.specs.Bounded.{filled_below};
@@ -14,6 +15,7 @@ use numbers::signed::difference;
 use numbers::sizes::MOST_DISTRIBUTORS;
 use numbers::units::{Energy, PesoPrice, UnsignedPesos};
 
+// The final prices are a list of their own: `price_word` reads it beside the averages, which this call is given.
 #[derive(Clone, Copy)]
 pub struct FixedPrices {
     pub limit: PesoPrice,
@@ -24,7 +26,7 @@ pub struct FixedPrices {
     pub finals: [PesoPrice; MOST_DISTRIBUTORS],
 }
 
-// n distributors, which the limit is worked from.
+// n distributors, which the limit is worked from. Two lists: each comes whole, from a pass of its own over the lines.
 #[derive(Clone, Copy)]
 pub(crate) struct PricedDistributors {
     pub n: usize,
