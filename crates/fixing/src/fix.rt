@@ -10,8 +10,9 @@ ghost use Rattle.fixing.specs.Fixing.{accepted_fixing, InputPromise};
 ghost use Rattle.fixing.specs.Required.{AcceptedLines, PowerPricedLines, RightLengths};
 
 use crate::average::{averages, energies, every_energy};
+use crate::distributors::PricedDistributors;
 use crate::power::power_averages;
-use crate::prices::{FixedPrices, PricedDistributors};
+use crate::prices::FixedPrices;
 use crate::sector::{SectorCharges, sector_charges, sectors_allowed};
 use numbers::refusal::Refusal;
 use numbers::sizes::MOST_DISTRIBUTORS;
