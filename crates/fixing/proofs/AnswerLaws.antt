@@ -13,8 +13,8 @@ use Rattle.numbers.specs.declared.units.Energy.{Energy}
 use Rattle.numbers.proofs.SumLaws.{sum_same}
 use Rattle.numbers.proofs.ListLaws.{filled_at, filled_same}
 use Rattle.fixing.specs.Limit.{Distributors, InRange, contract_total, total_energy, limit, rounds, surcharge}
-use Rattle.fixing.specs.Limit.{final_price, collected, residue}
-use Rattle.fixing.specs.Prices.{distributors, last_round, final_prices, fixed_prices, PricesPromise}
+use Rattle.fixing.specs.Limit.{final_price, collected, residue, distributors}
+use Rattle.fixing.specs.Prices.{last_round, final_prices, fixed_prices, PricesPromise}
 use Rattle.fixing.specs.declared.prices.LastRound.{LastRound}
 use Rattle.fixing.proofs.LimitLaws.{limit_most, surcharge_most, rounds_few, final_min, final_least, final_most}
 use Rattle.fixing.proofs.LimitLaws.{collects}

@@ -13,8 +13,8 @@ use Rattle.numbers.specs.declared.units.PesoPrice.{PesoPrice}
 use Rattle.numbers.specs.declared.units.PowerPrice.{PowerPrice}
 use Rattle.numbers.specs.declared.units.Energy.{Energy}
 use Rattle.numbers.proofs.ListLaws.{filled_at, filled_same}
-use Rattle.fixing.specs.Limit.{InRange, final_price, charge}
-use Rattle.fixing.specs.Prices.{distributors, final_prices, fixed_prices, charge_list}
+use Rattle.fixing.specs.Limit.{InRange, final_price, charge, distributors}
+use Rattle.fixing.specs.Prices.{final_prices, fixed_prices, charge_list}
 use Rattle.fixing.specs.Sector.{sectors_allowed, sector_charges}
 use Rattle.fixing.specs.Required.{ChargedSectors}
 use Rattle.fixing.specs.Fixing.{accepted_fixing}

@@ -16,8 +16,8 @@ use Rattle.supply.specs.Line.{SameEnergyWords, line_count}
 use Rattle.supply.proofs.EnergyLaws.{count_same, distributor_same, energy_same, references_same}
 use Rattle.fixing.specs.Average.{own_part, own_sum, supplied_energy, lines_amount, average_price, energy_list}
 use Rattle.fixing.specs.Average.{average_list}
-use Rattle.fixing.specs.Limit.{charge}
-use Rattle.fixing.specs.Prices.{distributors, fixed_prices, charge_list}
+use Rattle.fixing.specs.Limit.{charge, distributors}
+use Rattle.fixing.specs.Prices.{fixed_prices, charge_list}
 use Rattle.fixing.specs.Sector.{sector_charges}
 use Rattle.fixing.specs.Input.{FixingInput, SameButPower, input_mean, input_references, input_averages}
 use Rattle.fixing.specs.Input.{input_energies, input_distributors}

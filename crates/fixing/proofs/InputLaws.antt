@@ -21,8 +21,7 @@ use Rattle.numbers.proofs.RoundingLaws.{half_up_ge, half_up_le}
 use Rattle.supply.specs.Line.{most_lines, line_count, line_of}
 use Rattle.supply.specs.Range.{lines_in_range}
 use Rattle.supply.proofs.RangeLaws.{checked_lines, lines_distributor}
-use Rattle.fixing.specs.Limit.{InRange, total_energy}
-use Rattle.fixing.specs.Prices.{distributors}
+use Rattle.fixing.specs.Limit.{InRange, total_energy, distributors}
 use Rattle.fixing.specs.Average.{own_part, own_sum, lines_amount, supplied_energy, average_price, energy_list}
 use Rattle.fixing.specs.Average.{average_list}
 use Rattle.fixing.specs.Required.{OwnLines, AcceptedLines}

@@ -29,8 +29,8 @@ use Rattle.supply.proofs.RenumberedLaws.{references_renumbered, power_renumbered
 use Rattle.fixing.specs.Average.{own_part, own_sum, supplied_energy, lines_amount, average_price, has_line}
 use Rattle.fixing.specs.Average.{everyone_supplied, energy_list, average_list}
 use Rattle.fixing.specs.Power.{power_averages}
-use Rattle.fixing.specs.Limit.{Distributors, charge}
-use Rattle.fixing.specs.Prices.{distributors, final_prices, charge_list, fixed_prices}
+use Rattle.fixing.specs.Limit.{Distributors, charge, distributors}
+use Rattle.fixing.specs.Prices.{final_prices, charge_list, fixed_prices}
 use Rattle.fixing.specs.Sector.{most_factor, factor_at, sector_present, has_sector, sectors_allowed, sector_charge}
 use Rattle.fixing.specs.Sector.{place_charge, filled_places, sector_charges, no_charges, renumbered_charges}
 use Rattle.fixing.specs.Input.{FixingInput, index_table, input_mean, input_checks}

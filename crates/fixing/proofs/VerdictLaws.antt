@@ -30,8 +30,7 @@ use Rattle.supply.proofs.RangeLaws.{input_numbers, input_lines, input_in_force}
 use Rattle.supply.proofs.PriceLaws.{search_within, power_within, bounds_passed}
 use Rattle.supply.proofs.LinePriceLaws.{table_told, passed_bounds, passed_prices, passed_refused}
 use Rattle.fixing.specs.Average.{energy_list, average_list}
-use Rattle.fixing.specs.Limit.{InRange}
-use Rattle.fixing.specs.Prices.{distributors}
+use Rattle.fixing.specs.Limit.{InRange, distributors}
 use Rattle.fixing.specs.Power.{power_averages}
 use Rattle.fixing.specs.Sector.{sectors_allowed}
 use Rattle.fixing.specs.Input.{FixingInput, index_table, input_mean, ranged, supplied, beyond_line}

@@ -6,8 +6,8 @@ use Rattle.numbers.specs.declared.refusal.Refusal.{Refusal}
 use Rattle.numbers.specs.declared.units.PesoPrice.{PesoPrice}
 use Rattle.numbers.specs.declared.units.PowerPrice.{PowerPrice}
 use Rattle.numbers.specs.declared.units.Energy.{Energy}
-use Rattle.fixing.specs.Limit.{charge}
-use Rattle.fixing.specs.Prices.{distributors, fixed_prices, charge_list}
+use Rattle.fixing.specs.Limit.{charge, distributors}
+use Rattle.fixing.specs.Prices.{fixed_prices, charge_list}
 use Rattle.fixing.specs.Sector.{sector_charges}
 use Rattle.fixing.specs.Input.{FixingInput, input_checks, input_averages, input_power, input_energies}
 use Rattle.fixing.specs.declared.fix.Fixing.{Fixing}

@@ -16,8 +16,7 @@ use Rattle.supply.specs.Price.{term_mean, line_power, first_beyond, any_line_mov
 use Rattle.supply.specs.Price.{power_list}
 use Rattle.supply.specs.declared.line.Term.{Term}
 use Rattle.supply.specs.declared.market.FixingNumbers.{FixingNumbers}
-use Rattle.fixing.specs.Limit.{Distributors}
-use Rattle.fixing.specs.Prices.{distributors}
+use Rattle.fixing.specs.Limit.{Distributors, distributors}
 use Rattle.fixing.specs.Average.{average_price, everyone_supplied, energy_list, average_list}
 use Rattle.fixing.specs.Power.{power_averages}
 use Rattle.fixing.specs.Sector.{sectors_allowed}

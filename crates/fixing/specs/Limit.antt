@@ -4,17 +4,25 @@
 -- A difference below is never cut off at 0 and no divisor is 0: proofs/LimitLaws shows it for every input in range.
 -- Assumes nothing.
 use Rattle.std.specs.Prelude.{Bool, cond, not, ◌&&◌, ◌||◌, ℕ, zero, suc, ◌+◌, ◌-◌, ◌*◌, ◌/◌, ◌≤◌, ◌<◌, ltb, ℤ}
-use Rattle.std.specs.Prelude.{Option, Some, None}
+use Rattle.std.specs.Prelude.{Option, Some, None, List, get_or}
 use Rattle.std.proofs.Math.IntN.{sub_ℕ}
 use Rattle.numbers.specs.Bounded.{sum_below, any_below, first_below}
 use Rattle.numbers.specs.Rounding.{divide_up}
 use Rattle.numbers.specs.Sizes.{most_distributors}
+use Rattle.numbers.specs.Units.{no_price, no_energy}
+use Rattle.numbers.specs.declared.units.PesoPrice.{PesoPrice}
+use Rattle.numbers.specs.declared.units.Energy.{Energy}
 
 -- n distributors, the average p_i in 0.001 $/kWh and the energy E_i in MWh of each
 pub record Distributors : Type 0 where
   pub count : ℕ
   pub average : ℕ → ℕ
   pub energy : ℕ → ℕ
+
+-- the distributors of a list of averages and one of energies
+abbrev pub distributors : ℕ → List PesoPrice → List Energy → Distributors
+distributors n averages energies =
+    record { count = n; average = λ i. (get_or averages i no_price).0; energy = λ i. (get_or energies i no_energy).0 }
 
 -- R, the "contract total" (a term of 01): the sum of p_i * E_i, in $
 unfoldable pub contract_total : Distributors → ℕ

@@ -1,21 +1,15 @@
 -- The call on averages and energies alone: what it answers, by the definitions of the limit. Assumes nothing.
-use Rattle.std.specs.Prelude.{◌≡◌, Bool, List, [], ◌∷◌, ℕ, ◌*◌, ◌<◌, get_or, ℤ, pos}
+use Rattle.std.specs.Prelude.{◌≡◌, Bool, List, [], ◌∷◌, ℕ, ◌*◌, ◌<◌, ℤ, pos}
 use Rattle.numbers.specs.Bounded.{filled_below}
-use Rattle.numbers.specs.Units.{no_price, no_energy}
+use Rattle.numbers.specs.Units.{no_price}
 use Rattle.numbers.specs.Sizes.{most_distributors}
 use Rattle.numbers.specs.declared.units.PesoPrice.{PesoPrice}
-use Rattle.numbers.specs.declared.units.Energy.{Energy}
 use Rattle.fixing.specs.Limit.{Distributors, sum_inside, sum_outside, limit, rounds, surcharge, residue, final_price}
-use Rattle.fixing.specs.Limit.{charge}
-use Rattle.fixing.specs.declared.prices.PricedDistributors.{PricedDistributors}
+use Rattle.fixing.specs.Limit.{distributors, charge}
+use Rattle.fixing.specs.declared.distributors.PricedDistributors.{PricedDistributors}
 use Rattle.fixing.specs.declared.prices.FixedPrices.{FixedPrices}
 use Rattle.fixing.specs.declared.prices.RoundSums.{RoundSums}
 use Rattle.fixing.specs.declared.prices.LastRound.{LastRound}
-
--- the distributors of a list of averages and one of energies
-abbrev pub distributors : ℕ → List PesoPrice → List Energy → Distributors
-distributors n averages energies =
-    record { count = n; average = λ i. (get_or averages i no_price).0; energy = λ i. (get_or energies i no_energy).0 }
 
 -- those of the code
 abbrev pub distributors_of : PricedDistributors → Distributors

@@ -10,7 +10,7 @@ use Rattle.numbers.specs.declared.units.UnsignedPesos.{UnsignedPesos}
 use Rattle.series.specs.Series.{word_count, values_in_range}
 use Rattle.supply.specs.Line.{most_lines, line_count, line_of}
 use Rattle.supply.specs.Required.{CheckedLines, most_power_in_pesos}
-use Rattle.fixing.specs.Limit.{Distributors, InRange, limit}
+use Rattle.fixing.specs.Limit.{Distributors, limit}
 use Rattle.fixing.specs.Average.{everyone_supplied}
 use Rattle.fixing.specs.Sector.{most_factor, factor_at, sectors_allowed}
 use Rattle.fixing.specs.Input.{FixingInput, ranged, supplied}
@@ -55,10 +55,9 @@ pub record Divisible (n : ℕ) (amounts : List UnsignedPesos) (energies : List E
 abbrev pub PricesWithin : ℕ → ℕ → List PesoPrice → Type 0
 PricesWithin most n prices = (i : ℕ) → i < n → (get_or prices i no_price).0 ≤ most
 
--- distributors in range, and their limit
-pub record Limited (d : Distributors) (price : PesoPrice) : Type 0 where
-  pub range : InRange d
-  pub limited : price.0 ≡ limit d
+-- the limit of distributors
+abbrev pub Limited : Distributors → PesoPrice → Type 0
+Limited d price = price.0 ≡ limit d
 
 -- what the charges of sectors are worked from: checked factors, and charges of at most 2,000,000 in size
 pub record ChargedSectors (n : ℕ) (charges : List ℤ) (sectors : List ℕ) : Type 0 where

@@ -1,4 +1,5 @@
 // Energy and average price of each distributor, from its lines.
+// n stays a number, its bound a clause: `fix_input` takes a number, and `numbers::sizes` has the bound.
 ghost use Rattle.std.specs.Prelude.{◌≡◌, true, ◌≤◌, get_or};
 ghost use Rattle.numbers.specs.Bounded.{list_below, filled_below};
 ghost use Rattle.numbers.specs.Rounding.{half_up};

@@ -10,8 +10,9 @@ ghost use Rattle.fixing.specs.Fixing.{accepted_fixing, InputPromise};
 ghost use Rattle.fixing.specs.Required.{AcceptedLines, PowerPricedLines, RightLengths};
 
 use crate::average::{averages, energies, every_energy};
+use crate::distributors::PricedDistributors;
 use crate::power::power_averages;
-use crate::prices::{FixedPrices, PricedDistributors};
+use crate::prices::FixedPrices;
 use crate::sector::{SectorCharges, sector_charges, sectors_allowed};
 use numbers::refusal::Refusal;
 use numbers::sizes::MOST_DISTRIBUTORS;
@@ -21,7 +22,7 @@ use supply::market::FixingNumbers;
 use supply::price::{LinePrices, price_lines};
 use supply::range::input_in_range;
 
-// What an accepted fixing comes to.
+// What an accepted fixing comes to. Lists of their own: `price_word` and `average_power_list` read each by itself.
 #[derive(Clone, Copy)]
 pub struct Fixing {
     pub averages: [PesoPrice; MOST_DISTRIBUTORS],

@@ -4,6 +4,7 @@
 #![tactic(auto)]
 
 mod average;
+mod distributors;
 pub mod fix;
 mod power;
 pub mod prices;

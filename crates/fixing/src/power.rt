@@ -1,5 +1,6 @@
 // The average power price of each distributor, from its lines. What the power of a distributor's lines comes to passes
 // 64 bits.
+// n stays a number, its bound a clause: `fix_input` takes a number, and `numbers::sizes` has the bound.
 ghost use Rattle.std.specs.Prelude.{◌≡◌, true, ◌≤◌};
 ghost use Rattle.numbers.specs.Bounded.{list_below};
 ghost use Rattle.numbers.specs.Rounding.{half_up};
@@ -26,7 +27,8 @@ fn power_amounts(prices: [PowerPrice; MOST_LINES], lines: &[u64]) -> [u128; MOST
     amounts
 }
 
-// The average of an amount, half up; the `half_up` of numbers is of 64 bits.
+// The average of an amount, half up. One `half_up` over u64 and u128 would ask `can_mul`, `can_add`, `can_div` of its
+// parameter, and a number for each value of it: no plainer than this line.
 fn power_average(amount: u128, energy: Energy) -> PowerPrice
     requires { PowerWithin amount energy.0 }
     ensures { result ≡ record { 0 = half_up amount energy.0 } }

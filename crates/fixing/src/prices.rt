@@ -5,15 +5,17 @@ ghost use Rattle.std.proofs.Math.IntN.{sub_ℕ};
 ghost use Rattle.numbers.specs.Bounded.{filled_below};
 ghost use Rattle.numbers.specs.Units.{no_price, most_price};
 ghost use Rattle.numbers.specs.Sizes.{most_distributors};
-ghost use Rattle.fixing.specs.Limit.{InRange, contract_total, total_energy, above_limit};
-ghost use Rattle.fixing.specs.Prices.{distributors, distributors_of, round_sums, last_round, PricesPromise};
+ghost use Rattle.fixing.specs.Limit.{InRange, distributors, contract_total, total_energy, above_limit};
+ghost use Rattle.fixing.specs.Prices.{distributors_of, round_sums, last_round, PricesPromise};
 ghost use Rattle.fixing.specs.Required.{Limited, PricesWithin};
 
+use crate::distributors::PricedDistributors;
 use numbers::rounding::divide_up;
 use numbers::signed::difference;
 use numbers::sizes::MOST_DISTRIBUTORS;
 use numbers::units::{Energy, PesoPrice, UnsignedPesos};
 
+// The final prices are a list of their own: `price_word` reads it beside the averages, which this call is given.
 #[derive(Clone, Copy)]
 pub struct FixedPrices {
     pub limit: PesoPrice,
@@ -22,14 +24,6 @@ pub struct FixedPrices {
     pub rounds: u64,
     pub residue: UnsignedPesos,
     pub finals: [PesoPrice; MOST_DISTRIBUTORS],
-}
-
-// n distributors, which the limit is worked from.
-#[derive(Clone, Copy)]
-pub(crate) struct PricedDistributors {
-    pub n: usize,
-    pub averages: [PesoPrice; MOST_DISTRIBUTORS],
-    pub energies: [Energy; MOST_DISTRIBUTORS],
 }
 
 // What a round sums: what its set pays at the averages, the set's energy and the energy outside the set.
@@ -76,7 +70,6 @@ impl PricedDistributors {
 
     // The energy of all distributors.
     fn energy(self) -> Energy
-        requires { InRange (distributors_of self) }
         ensures { result ≡ record { 0 = total_energy (distributors_of self) } }
     {
         let mut total: u64 = 0;
@@ -142,9 +135,7 @@ impl PricedDistributors {
 
     // The final price of each distributor.
     fn final_prices(self, limit: PesoPrice, surcharge: PesoPrice) -> [PesoPrice; MOST_DISTRIBUTORS]
-        requires few { self.n ≤ most_distributors }
-        requires raised { surcharge.0 ≤ 2100000 }
-        requires priced { PricesWithin most_price self.n self.averages }
+        requires { surcharge.0 ≤ 2100000 }
         ensures { result ≡ filled_below most_distributors no_price self.n
             (λ i. record { 0 = min limit.0 ((get_or self.averages i no_price).0 + surcharge.0) }) }
     {
@@ -157,9 +148,7 @@ impl PricedDistributors {
 
     // The charge of each distributor: final price less average, signed, in 0.001 $/kWh.
     pub(crate) fn charges(self, finals: [PesoPrice; MOST_DISTRIBUTORS]) -> [i64; MOST_DISTRIBUTORS]
-        requires few { self.n ≤ most_distributors }
-        requires priced { PricesWithin most_price self.n self.averages }
-        requires final_priced { PricesWithin most_price self.n finals }
+        requires { PricesWithin most_price self.n finals }
         ensures { result ≡ filled_below most_distributors (pos 0) self.n
             (λ i. sub_ℕ (get_or finals i no_price).0 (get_or self.averages i no_price).0) }
     {
@@ -172,7 +161,6 @@ impl PricedDistributors {
 
     // The limit and the rounds of document 01.
     pub(crate) fn fix_prices(self) -> FixedPrices
-        requires { InRange (distributors_of self) }
         ensures { PricesPromise (distributors_of self) result }
     {
         let total = self.collected(self.averages);

@@ -1,4 +1,5 @@
 // Sector factors: their test (cause 8), and the presences and charges that a fixing puts in force.
+// n stays a number, its bound a clause: `fix_input` takes a number, and `numbers::sizes` has the bound.
 ghost use Rattle.std.specs.Prelude.{◌≡◌, false, ◌*◌, ◌≤◌, ◌<◌, length, get_or, pos, nat_abs};
 ghost use Rattle.numbers.specs.Bounded.{all_below};
 ghost use Rattle.numbers.specs.Sizes.{most_distributors, sector_count};
@@ -12,7 +13,8 @@ use numbers::signed::difference;
 use numbers::sizes::{MOST_DISTRIBUTORS, PLACES, SECTORS};
 use numbers::units::all_between;
 
-// Presence and charge of 8 sectors of 40 distributors: what a fixing puts in force, without its month.
+// Presence and charge of 8 sectors of 40 distributors: what a fixing puts in force, without its month. Two lists, no
+// Option: `sound` judges an absent sector's charge too (`place_test`), and the kept form has each list.
 #[derive(Clone, Copy)]
 pub struct SectorCharges {
     pub present: [bool; PLACES],

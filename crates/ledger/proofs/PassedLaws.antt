@@ -11,7 +11,8 @@ use Rattle.numbers.specs.Units.{no_price, most_price}
 use Rattle.numbers.specs.declared.units.PesoPrice.{PesoPrice}
 use Rattle.numbers.proofs.ListLaws.{filled_length, filled_past}
 use Rattle.fixing.specs.Average.{average_list}
-use Rattle.fixing.specs.Prices.{distributors, final_prices, fixed_prices}
+use Rattle.fixing.specs.Limit.{distributors}
+use Rattle.fixing.specs.Prices.{final_prices, fixed_prices}
 use Rattle.fixing.specs.Input.{FixingInput, input_verdict, input_averages, input_energies}
 use Rattle.fixing.specs.Required.{RightLengths}
 use Rattle.fixing.specs.Fixing.{accepted_fixing, worked_fixing}

@@ -25,6 +25,7 @@ pub(crate) struct Billing<'a> {
 
 impl<'a> Billing<'a> {
     // The reading of kind k (billed AT, injected AT, billed BT, injected BT) of distributor i in sector s.
+    // The kind is a number, as `reading_of` takes it.
     fn reading(&self, i: usize, s: usize, k: usize) -> u64
         requires known { i < self.now.n }
         requires sector { s < sector_count }

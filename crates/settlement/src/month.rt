@@ -1,4 +1,5 @@
 // One month: positions and their test (cause 13), transfers and new balances.
+// n stays a number, its bound a clause: `settle_positions` takes a number, and `numbers::sizes` has the bound.
 ghost use Rattle.std.specs.Prelude.{◌≡◌, ◌≤◌};
 ghost use Rattle.numbers.specs.Sizes.{most_distributors};
 ghost use Rattle.settlement.specs.Settlement.{positions_in_range, side_size};
@@ -14,7 +15,8 @@ use numbers::units::Pesos;
 // Balances and positions lie within 10^15 of zero.
 pub const MOST_POSITION: u64 = 1000000000000000;
 
-// A month's outcome: new balances and transfers, paid negative, received positive.
+// A month's outcome: new balances and transfers, paid negative, received positive. Two lists: `settled_ledger` keeps
+// the balances alone.
 #[derive(Clone, Copy)]
 pub struct SettledMonth {
     pub balances: [Pesos; MOST_DISTRIBUTORS],
@@ -57,7 +59,8 @@ pub fn positions_in_range(n: usize, positions: [Pesos; MOST_DISTRIBUTORS]) -> bo
         .all(|position| within_size(position.0, MOST_POSITION))
 }
 
-// The sizes of one side: of those who are owed, with a position below zero, or of those who owe.
+// The sizes of one side: of those who are owed, with a position below zero, or of those who owe. The side is a flag,
+// as `side_size` takes it: a function for each would be a twin.
 fn side_sizes(
     n: usize,
     positions: [Pesos; MOST_DISTRIBUTORS],

@@ -1,5 +1,6 @@
 // The shares of one side: floors, and one peso each of what they leave, by the largest remainders. A side is a size for
 // each distributor, 0 for those who are not on it.
+// n stays a number, its bound a clause: `settle_positions` takes a number, and `numbers::sizes` has the bound.
 ghost use Rattle.std.specs.Prelude.{◌≡◌, ◌≤◌, ◌<◌, get_or};
 ghost use Rattle.numbers.specs.Sizes.{most_distributors};
 ghost use Rattle.settlement.specs.Share.{side_total, rank};

@@ -11,14 +11,14 @@ use numbers::signed::signed_of;
 use numbers::units::Pesos;
 use std::array;
 
-// A word as a truth: any but 0.
+// A word as a truth: any but 0. It stands by itself, since the definition `word_truth` does.
 fn word_truth(word: u64) -> bool
     ensures { result ≡ word_truth word }
 {
     word != 0
 }
 
-// Word k of a list, 0 where it is not given.
+// Word k of a list, 0 where it is not given, as the definition `word_at` has it: no Option.
 fn word_at(words: &[u64], k: usize) -> u64
     ensures { result ≡ word_at words.now k }
 {

@@ -2,15 +2,17 @@
 -- leaves 64 bits; and what a line that passes has: indexed and purchase in 1 to 1,000,000, reference in 1,000 to
 -- 2,000,000, of power 1 to 100,000,000; and which price it takes. Assumes nothing.
 use mathlib.Core.Path.{◌≡◌, refl, sym, ◌∙◌, ap, ap₂}
-use mathlib.Core.Bool.{Bool, true, false, cond, ◌&&◌, and-false}
+use mathlib.Core.Bool.{Bool, true, false, cond, ◌&&◌, and-false, true≢false}
 use mathlib.Core.List.{List}
 use Rattle.std.specs.Prelude.{Option, Some, None, Ok, Err, IfSome}
 use Rattle.std.proofs.lemmas.Option.{none-some, cond_some}
 use Prim.Native.Nat.{ℕ, ◌*◌, ◌≤◌, ◌<◌}
 use native.Mathlib.Omega.{arith}
 use native.Mathlib.Nat.{mul-le-mul}
+use native.Mathlib.Decide.{dec_lt}
 use lib.Dec.{leb, ltb, eqb}
 use lib.ListN.{length, get_or}
+use borrow.Author.Tests.{lt-ltb, le-ltb}
 use Rattle.numbers.specs.Required.{ValuesWithin}
 use Rattle.numbers.specs.Rounding.{half_up}
 use Rattle.numbers.specs.Bounded.{first_below}
@@ -78,16 +80,19 @@ within_most most price x h =
     rw p.1 at (between_high 1 most price p.0)
 
 -- a base price indexed by a factor
-indexed_bound : (most base factor : ℕ) → indexed_within most base factor ≡ true → indexed_of base factor ≤ most
-unfolding indexed_within
-indexed_bound most base factor h =
-    between_high 1 most (indexed_of base factor) (and_right (leb factor most_index_factor) _ h)
+module _ (most base factor : ℕ) where
+  pub indexed_bounds : indexed_within most base factor ≡ true →
+      (1 ≤ indexed_of base factor) × (indexed_of base factor ≤ most)
+  unfolding indexed_within
+  indexed_bounds h =
+      let b = and_right (leb factor most_index_factor) (between 1 most (indexed_of base factor)) h in
+      (between_low 1 most (indexed_of base factor) b, between_high 1 most (indexed_of base factor) b)
 
 pub indexed_most : (most base factor x : ℕ) → indexed_by most base factor ≡ Some x → x ≤ most
 unfolding indexed_by
 indexed_most most base factor x h =
     let p = cond_some (indexed_within most base factor) (indexed_of base factor) x h in
-    rw p.1 at (indexed_bound most base factor p.0)
+    rw p.1 at (indexed_bounds most base factor p.0).1
 
 module _ (mean : Term → ℕ) (line : Line) where
   abbrev ratio : ℕ
@@ -131,7 +136,7 @@ module _ (mean : Term → ℕ) (line : Line) where
 
   allowed_bound : indexed_allowed mean line ≡ true → line_indexed mean line ≤ 1000000
   unfolding indexed_allowed line_indexed
-  allowed_bound h = indexed_bound 1000000 line.base_price (index_factor mean line) h
+  allowed_bound h = (indexed_bounds 1000000 line.base_price (index_factor mean line) h).1
 
   -- where it has them, both prices are allowed
   pub record Worded (words : LineWords) : Type 0 where
@@ -201,6 +206,22 @@ unfolding price_words
 words_at mean lines words j e p few =
     ap (λ (w : List (Option LineWords)). get_or w j None) e
     ∙ filled_at most_lines None (λ i. line_words mean (line_of lines i)) (line_count lines) j p (omega arith)
+
+-- by whether it moved: the new price, else the one in force
+pub taken_new : (old : Option ℕ) (indexed : ℕ) → moved old indexed ≡ true → price_taken old indexed ≡ indexed
+unfolding price_taken
+taken_new None indexed h = refl
+taken_new (Some old) indexed h = rw h
+
+pub taken_old : (in_force : List ℕ) (j indexed : ℕ) → moved (price_in_force in_force j) indexed ≡ false →
+    (j < length in_force) × (price_taken (price_in_force in_force j) indexed ≡ get_or in_force j 0)
+unfolding moved price_taken price_in_force
+taken_old in_force j indexed h = go (dec_lt j (length in_force))
+  where
+    go : Dec (j < length in_force) →
+        (j < length in_force) × (price_taken (price_in_force in_force j) indexed ≡ get_or in_force j 0)
+    go (yes p) = let e = lt-ltb j (length in_force) p in (p, rw (e, rw e at h))
+    go (no p) = absurd (true≢false (rw (le-ltb j (length in_force) (omega arith)) at h))
 
 -- a line's price in force keeps the bounds of an indexed price
 pub in_force_most : (in_force : List ℕ) → ValuesWithin 1000000 in_force → (j : ℕ) →
@@ -304,18 +325,30 @@ module _ (mean : Term → ℕ) (numbers : FixingNumbers) (lines in_force : List 
         half_up_le (power_purchase mean (line_of lines j) * numbers.dollar) 100 (omega arith) most_power_in_pesos
         (mul-le-mul {n₂ = most_power_price} (power_bound mean (line_of lines j) searched.2) most)
 
-  -- what is answered: a line out of bounds is 11, whether any moved or not; then 14 where none did, else the prices
+  -- the verdict: a line out of bounds is 11, whether any moved or not; then 14 where none did
+  pub prices_beyond : (j : ℕ) → first_beyond mean numbers lines in_force ≡ Some j →
+      verdict_of (price_checks mean numbers lines in_force) ≡ Err (OutOfBounds j)
+  unfolding price_checks bounds_check verdict_of
+  prices_beyond j h = rw h
+
+  -- and what is answered: by it the refusal, else the prices
   pub bounded_beyond : (j : ℕ) → j < line_count lines → first_below j (beyond_in mean numbers lines in_force) ≡ None →
       beyond_in mean numbers lines in_force j ≡ Some j →
       Err (OutOfBounds j) ≡ bounded_prices mean numbers lines in_force
-  unfolding bounded_prices price_checks bounds_check verdict_of first_beyond
-  bounded_beyond j p h e = rw (first_is (beyond_in mean numbers lines in_force) j (line_count lines) j p h e) refl
+  unfolding bounded_prices first_beyond
+  bounded_beyond j p h e =
+      rw (prices_beyond j (first_is (beyond_in mean numbers lines in_force) j (line_count lines) j p h e)) refl
 
   module _ (h : first_beyond mean numbers lines in_force ≡ None) where
+    pub prices_unmoved : any_line_moved mean lines in_force ≡ false →
+        verdict_of (price_checks mean numbers lines in_force) ≡ Err NoLineMoved
+    unfolding price_checks bounds_check verdict_of
+    prices_unmoved e = rw (h, e)
+
     pub bounded_unmoved : any_line_moved mean lines in_force ≡ false →
         Err NoLineMoved ≡ bounded_prices mean numbers lines in_force
-    unfolding bounded_prices price_checks bounds_check verdict_of
-    bounded_unmoved e = rw (h, e) refl
+    unfolding bounded_prices
+    bounded_unmoved e = rw (prices_unmoved e) refl
 
     pub bounded_passed : any_line_moved mean lines in_force ≡ true →
         Ok (worked_prices mean numbers lines in_force) ≡ bounded_prices mean numbers lines in_force

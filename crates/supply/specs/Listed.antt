@@ -3,7 +3,6 @@
 -- proofs/PriceLaws that a line has no prices where a factor, ratio or price is out of bounds. Assumes nothing.
 use Rattle.std.specs.Prelude.{Bool, cond, ◌&&◌, List, ℕ, eqb}
 use Rattle.std.specs.Prelude.{Option, Some, None}
-use Rattle.std.specs.Prelude.{Option, None}
 use Rattle.numbers.specs.Bounded.{filled_below}
 use Rattle.numbers.specs.Units.{between}
 use Rattle.series.specs.Means.{mean_at}

@@ -204,7 +204,7 @@ fn reference_price(numbers: FixingNumbers, checked: CheckedLine, taken: u64) -> 
     PesoPrice::checked(reference)
 }
 
-// The references and the power prices of all lines.
+// The references and the power prices of all lines. Two lists: `averages` and `power_averages` read each by itself.
 #[derive(Clone, Copy)]
 pub struct LinePrices {
     pub references: [PesoPrice; MOST_LINES],

@@ -1,6 +1,5 @@
 -- Averages and energies are in the limit's range, and the parts are the definition's.
-use Rattle.fixing.specs.Limit.{InRange}
-use Rattle.fixing.specs.Prices.{distributors}
+use Rattle.fixing.specs.Limit.{InRange, distributors}
 use Rattle.fixing.proofs.InputLaws.{listed_range}
 use Rattle.fixing.proofs.FixingLaws.{finals_most, fixing_charged, fixing_is}
 use Rattle.fixing.proofs.fix.accepted.Goals as goal
@@ -12,18 +11,14 @@ module _ (c : After-averages-averages) where
       listed_range c.args.n c.args.priced.references c.args.lines.now c.requires.checked _ _
       c.averages-averages.ensures c.requires.supplied
 
-pub fix_prices-prices-requires : goal.fix_prices-prices-requires
-fix_prices-prices-requires c = range (goal.at.fix_prices-prices-requires c).After-averages-averages
+pub invariant_of-distributors : goal.invariant_of-distributors
+invariant_of-distributors c =
+    record { range = range (goal.at.invariant_of-distributors c).After-averages-averages }
 
 pub charges-charges-requires : goal.charges-charges-requires
 charges-charges-requires c =
     let r = range (goal.at.charges-charges-requires c).After-averages-averages in
-    record {
-      few = r.few;
-      priced = r.most;
-      final_priced = finals_most c.args.n c.averages-averages.result c.args.energies r _
-          c.fix_prices-prices.ensures.answered;
-    }
+    finals_most c.args.n c.averages-averages.result c.args.energies r _ c.fix_prices-prices.ensures.answered
 
 pub sector_charges-sectors-requires : goal.sector_charges-sectors-requires
 sector_charges-sectors-requires c =

@@ -7,7 +7,7 @@ use Rattle.numbers.specs.Sizes.{most_distributors}
 use Rattle.numbers.specs.Bounded.{filled_below}
 use Rattle.numbers.specs.Units.{no_price}
 use Rattle.numbers.specs.declared.units.PesoPrice.{PesoPrice}
-use Rattle.fixing.proofs.prices.PricedDistributors.final_prices.Given as goal
+use Rattle.fixing.proofs.distributors.PricedDistributors.final_prices.Given as goal
 
 -- the final price of distributor j
 abbrev pub final : List PesoPrice → ℕ → ℕ → ℕ → PesoPrice

@@ -5,12 +5,11 @@ use lib.ListN.{get_or}
 use Rattle.numbers.specs.Bounded.{sum_below}
 use Rattle.numbers.specs.Units.{no_price, no_energy}
 use Rattle.numbers.proofs.SumLaws.{sum_step}
-use Rattle.fixing.specs.Limit.{contract_total}
-use Rattle.fixing.specs.Prices.{distributors}
+use Rattle.fixing.specs.Limit.{contract_total, distributors}
 use Rattle.fixing.proofs.PassLaws.{paid_most}
 use native.Mathlib.Omega.{arith}
-use Rattle.fixing.proofs.prices.PricedDistributors.collected.Goals as goal
-use Rattle.fixing.proofs.prices.PricedDistributors.collected.Goals.{After-loop-i, In-loop-i}
+use Rattle.fixing.proofs.distributors.PricedDistributors.collected.Goals as goal
+use Rattle.fixing.proofs.distributors.PricedDistributors.collected.Goals.{After-loop-i, In-loop-i}
 
 pub loop-i-init : goal.loop-i-init
 unfolding sum_below

@@ -4,14 +4,14 @@ use Prim.Native.Nat.{◌*◌, ◌/◌, ◌-◌, ◌≤◌}
 use native.Mathlib.Omega.{arith}
 use Rattle.numbers.specs.declared.units.Energy.{Energy}
 use Rattle.numbers.specs.declared.units.UnsignedPesos.{UnsignedPesos}
-use Rattle.fixing.specs.Limit.{InRange, contract_total, total_energy, limit}
-use Rattle.fixing.specs.Prices.{distributors, distributors_of}
+use Rattle.fixing.specs.Limit.{InRange, contract_total, total_energy, limit, distributors}
+use Rattle.fixing.specs.Prices.{distributors_of}
 use Rattle.fixing.proofs.LimitLaws.{energy_some}
 use Rattle.fixing.proofs.PassLaws.{total_fits}
 use Rattle.fixing.proofs.AnswerLaws.{limit_is, last_most_lem, finals_range, finals_over, prices_promised}
-use Rattle.fixing.proofs.prices.PricedDistributors.fix_prices.Goals as goal
-use Rattle.fixing.proofs.prices.PricedDistributors.fix_prices.Goals.{After-collected-collected, After-energy-energy}
-use Rattle.fixing.proofs.prices.PricedDistributors.fix_prices.Goals.{After-final_prices-finals}
+use Rattle.fixing.proofs.distributors.PricedDistributors.fix_prices.Goals as goal
+use Rattle.fixing.proofs.distributors.PricedDistributors.fix_prices.Goals.{After-collected-collected, After-energy-energy}
+use Rattle.fixing.proofs.distributors.PricedDistributors.fix_prices.Goals.{After-final_prices-finals}
 
 -- contract total and energy
 module _ (c : After-energy-energy) where
@@ -30,7 +30,7 @@ overflow_mul-floor c = omega (
   arith,
   total_is (goal.at.overflow_mul-floor c).After-energy-energy,
   total_fits
-      (distributors_of c.args.self) c.requires,
+      (distributors_of c.args.self) c.args.self.range,
 )
 
 pub nonzero_div-floor : goal.nonzero_div-floor
@@ -38,36 +38,28 @@ nonzero_div-floor c = omega (
   arith,
   energy_is (goal.at.nonzero_div-floor c).After-energy-energy,
   energy_some
-      (distributors_of c.args.self) c.requires,
+      (distributors_of c.args.self) c.args.self.range,
 )
 
 pub last_round-last-requires : goal.last_round-last-requires
-last_round-last-requires c = record {
-  range = c.requires;
-  limited = topped (goal.at.last_round-last-requires
-      c).After-energy-energy;
-}
+last_round-last-requires c = topped (goal.at.last_round-last-requires c).After-energy-energy
 
 pub final_prices-finals-requires : goal.final_prices-finals-requires
 final_prices-finals-requires c =
-    record {
-      few = c.requires.few;
-      raised = last_most_lem (distributors_of c.args.self) c.requires _ c.last_round-last.ensures;
-      priced = c.requires.most;
-    }
+    last_most_lem (distributors_of c.args.self) c.args.self.range _ c.last_round-last.ensures
 
 -- the final prices are in range, and collect the contract total
 module _ (c : After-final_prices-finals) where
   ranged : InRange (distributors c.args.self.n c.final_prices-finals.result c.args.self.energies)
   ranged =
-      finals_range c.args.self.n c.args.self.averages c.args.self.energies c.requires _ (topped
+      finals_range c.args.self.n c.args.self.averages c.args.self.energies c.args.self.range _ (topped
       (goal.at.collected-collected-requires c).After-energy-energy) _
       c.last_round-last.ensures _ c.final_prices-finals.ensures
 
   over : contract_total (distributors_of c.args.self) ≤ contract_total
       (distributors c.args.self.n c.final_prices-finals.result c.args.self.energies)
   over =
-      finals_over c.args.self.n c.args.self.averages c.args.self.energies c.requires _ (topped
+      finals_over c.args.self.n c.args.self.averages c.args.self.energies c.args.self.range _ (topped
       (goal.at.collected-collected-requires c).After-energy-energy) _
       c.last_round-last.ensures _ c.final_prices-finals.ensures
 
@@ -91,7 +83,7 @@ overflow_sub-residue c = omega (
 
 pub returns : goal.returns
 returns c =
-    prices_promised c.args.self.n c.args.self.averages c.args.self.energies c.requires
+    prices_promised c.args.self.n c.args.self.averages c.args.self.energies c.args.self.range
     _ (topped (goal.at.returns c).After-energy-energy) _ c.last_round-last.ensures _ c.final_prices-finals.ensures
     _ (ap₂ ◌-◌ (collected_is (goal.at.returns c).After-collected-collected) (total_is (goal.at.returns
     c).After-energy-energy))

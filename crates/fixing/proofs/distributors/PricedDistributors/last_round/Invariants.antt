@@ -3,7 +3,7 @@
 use Prim.Native.Nat.{◌-◌}
 use Rattle.fixing.specs.Prices.{distributors_of}
 use Rattle.fixing.proofs.LoopLaws.{Round}
-use Rattle.fixing.proofs.prices.PricedDistributors.last_round.Given as goal
+use Rattle.fixing.proofs.distributors.PricedDistributors.last_round.Given as goal
 
 abbrev pub invariant-loop-sums : goal.invariant-loop-sums
 invariant-loop-sums l =

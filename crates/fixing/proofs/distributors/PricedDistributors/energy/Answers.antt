@@ -7,7 +7,7 @@ use Rattle.numbers.specs.Units.{no_energy}
 use Rattle.numbers.proofs.SumLaws.{summed_none, summed_more, summed_all}
 use Rattle.numbers.proofs.SearchLaws.{sum_next}
 use Rattle.fixing.specs.Limit.{total_energy}
-use Rattle.fixing.proofs.prices.PricedDistributors.energy.Goals as goal
+use Rattle.fixing.proofs.distributors.PricedDistributors.energy.Goals as goal
 
 pub loop-i-init : goal.loop-i-init
 loop-i-init c = summed_none _ _
@@ -19,7 +19,7 @@ overflow_add-total c =
       arith,
       sum_next c.loop-i.i c.args.self.n (λ j. (get_or c.args.self.energies j no_energy).0)
           (omega arith),
-      c.requires.total,
+      c.args.self.range.total,
     )
 
 pub loop-i-preserved : goal.loop-i-preserved

@@ -7,7 +7,7 @@ use lib.Dec.{ltb}
 use Rattle.numbers.specs.Units.{no_price, no_energy}
 use Rattle.numbers.specs.declared.units.PesoPrice.{PesoPrice}
 use Rattle.fixing.proofs.PassLaws.{Sums}
-use Rattle.fixing.proofs.prices.PricedDistributors.round_sums.Given as goal
+use Rattle.fixing.proofs.distributors.PricedDistributors.round_sums.Given as goal
 
 -- whether distributor j is in the set
 abbrev pub above : List PesoPrice → ℕ → ℕ → ℕ → Bool

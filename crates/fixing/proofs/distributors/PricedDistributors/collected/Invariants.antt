@@ -4,7 +4,7 @@ use Prim.Native.Nat.{◌*◌}
 use lib.ListN.{get_or}
 use Rattle.numbers.specs.Bounded.{sum_below}
 use Rattle.numbers.specs.Units.{no_price, no_energy}
-use Rattle.fixing.proofs.prices.PricedDistributors.collected.Given as goal
+use Rattle.fixing.proofs.distributors.PricedDistributors.collected.Given as goal
 
 abbrev pub invariant-loop-i : goal.invariant-loop-i
 invariant-loop-i l =

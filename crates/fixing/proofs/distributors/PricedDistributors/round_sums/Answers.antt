@@ -10,10 +10,10 @@ use Rattle.fixing.specs.Prices.{distributors_of}
 use Rattle.fixing.proofs.LimitLaws.{limit_most}
 use Rattle.fixing.proofs.PassLaws.{Sums, sums_none, sums_more, paid_fits, energy_fits, sums_all}
 use native.Mathlib.Omega.{arith}
-use Rattle.fixing.proofs.prices.PricedDistributors.round_sums.Goals as goal
-use Rattle.fixing.proofs.prices.PricedDistributors.round_sums.Invariants.{above}
-use Rattle.fixing.proofs.prices.PricedDistributors.round_sums.Goals.{After-loop-i, In-loop-i, then-limit-average}
-use Rattle.fixing.proofs.prices.PricedDistributors.round_sums.Goals.{else-limit-average}
+use Rattle.fixing.proofs.distributors.PricedDistributors.round_sums.Goals as goal
+use Rattle.fixing.proofs.distributors.PricedDistributors.round_sums.Invariants.{above}
+use Rattle.fixing.proofs.distributors.PricedDistributors.round_sums.Goals.{After-loop-i, In-loop-i, then-limit-average}
+use Rattle.fixing.proofs.distributors.PricedDistributors.round_sums.Goals.{else-limit-average}
 
 pub loop-i-init : goal.loop-i-init
 loop-i-init c = sums_none _ _ _
@@ -27,13 +27,13 @@ module _ (c : In-loop-i) where
   set = above c.args.self.averages c.args.limit.0 c.args.raise.0
 
   raised : d.average c.loop-i.i + c.args.raise.0 ≤ 4100000
-  raised = omega (arith, c.requires.limited.range.most c.loop-i.i (omega arith), limit_most d c.requires.limited.range)
+  raised = omega (arith, c.args.self.range.most c.loop-i.i (omega arith), limit_most d c.args.self.range)
 
   paid : c.loop-i.paid + d.average c.loop-i.i * d.energy c.loop-i.i ≤ 5120000000000000
-  paid = paid_fits set d c.requires.limited.range _ _ _ _ (omega arith) c.loop-i.invariant
+  paid = paid_fits set d c.args.self.range _ _ _ _ (omega arith) c.loop-i.invariant
 
   energy : c.loop-i.inside + c.loop-i.outside + d.energy c.loop-i.i ≤ 2560000000
-  energy = energy_fits set d c.requires.limited.range _ _ _ _ (omega arith) c.loop-i.invariant
+  energy = energy_fits set d c.args.self.range _ _ _ _ (omega arith) c.loop-i.invariant
 
 pub overflow_add-average : goal.overflow_add-average
 overflow_add-average c = omega (arith, raised (goal.at.overflow_add-average c).In-loop-i)
@@ -71,4 +71,4 @@ whole c =
 
 pub returns : goal.returns
 returns c =
-    sums_all (distributors_of c.args.self) _ _ _ _ _ c.requires.limited.limited (whole c)
+    sums_all (distributors_of c.args.self) _ _ _ _ _ c.requires.limited (whole c)

@@ -6,16 +6,16 @@ use Rattle.numbers.specs.Rounding.{divide_up}
 use Rattle.fixing.proofs.LoopLaws.{none_above, round_first, made_few, pays_more, pays_most, outside_least}
 use Rattle.fixing.proofs.LoopLaws.{outside_most, raise_most, round_more, round_last}
 use native.Mathlib.Omega.{arith}
-use Rattle.fixing.proofs.prices.PricedDistributors.last_round.Goals as goal
-use Rattle.fixing.proofs.prices.PricedDistributors.last_round.Goals.{After-divide_up}
+use Rattle.fixing.proofs.distributors.PricedDistributors.last_round.Goals as goal
+use Rattle.fixing.proofs.distributors.PricedDistributors.last_round.Goals.{After-divide_up}
 
 pub returns-then-sums-eq0 : goal.returns-then-sums-eq0
 returns-then-sums-eq0 c =
-    none_above c.requires.range c.requires.limited c.round_sums-sums.ensures c.if-sums-eq0.true
+    none_above c.args.self.range c.requires c.round_sums-sums.ensures c.if-sums-eq0.true
 
 pub loop-sums-init : goal.loop-sums-init
 loop-sums-init c =
-    round_first c.requires.range c.requires.limited c.round_sums-sums.ensures c.if-sums-eq0.false
+    round_first c.args.self.range c.requires c.round_sums-sums.ensures c.if-sums-eq0.false
 
 pub overflow_mul-excess : goal.overflow_mul-excess
 overflow_mul-excess c = omega (arith, pays_more c.loop-sums.invariant, pays_most c.loop-sums.invariant)
@@ -41,7 +41,7 @@ pub round_sums-next-requires : goal.round_sums-next-requires
 round_sums-next-requires c =
     let at = c.loop-sums.invariant in
     record {
-      limited = record { range = at.range; limited = at.topped };
+      limited = at.topped;
       raised = raise_most at (worked c);
     }
 

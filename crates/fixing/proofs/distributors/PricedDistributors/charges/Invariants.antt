@@ -8,7 +8,7 @@ use Rattle.numbers.specs.Sizes.{most_distributors}
 use Rattle.numbers.specs.Bounded.{filled_below}
 use Rattle.numbers.specs.Units.{no_price}
 use Rattle.numbers.specs.declared.units.PesoPrice.{PesoPrice}
-use Rattle.fixing.proofs.prices.PricedDistributors.charges.Given as goal
+use Rattle.fixing.proofs.distributors.PricedDistributors.charges.Given as goal
 
 -- the charge of distributor j
 abbrev pub charge_of : List PesoPrice → List PesoPrice → ℕ → ℤ

@@ -3,8 +3,8 @@ use Rattle.numbers.specs.Sizes.{most_distributors}
 use Rattle.numbers.specs.Units.{no_price}
 use Rattle.numbers.proofs.ListLaws.{filled_none, filled_next}
 use native.Mathlib.Omega.{arith}
-use Rattle.fixing.proofs.prices.PricedDistributors.final_prices.Goals as goal
-use Rattle.fixing.proofs.prices.PricedDistributors.final_prices.Invariants.{final}
+use Rattle.fixing.proofs.distributors.PricedDistributors.final_prices.Goals as goal
+use Rattle.fixing.proofs.distributors.PricedDistributors.final_prices.Invariants.{final}
 
 pub loop-i-init : goal.loop-i-init
 loop-i-init c = filled_none most_distributors no_price _

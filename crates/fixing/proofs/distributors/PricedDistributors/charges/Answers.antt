@@ -7,8 +7,8 @@ use Rattle.numbers.specs.Sizes.{most_distributors}
 use Rattle.numbers.proofs.ListLaws.{filled_none, filled_next}
 use native.Mathlib.Omega.{arith}
 use mir.Syntax.{w64}
-use Rattle.fixing.proofs.prices.PricedDistributors.charges.Goals as goal
-use Rattle.fixing.proofs.prices.PricedDistributors.charges.Invariants.{charge_of}
+use Rattle.fixing.proofs.distributors.PricedDistributors.charges.Goals as goal
+use Rattle.fixing.proofs.distributors.PricedDistributors.charges.Invariants.{charge_of}
 
 pub loop-i-init : goal.loop-i-init
 loop-i-init c = filled_none most_distributors (pos 0) _
