@@ -1,2 +1,3 @@
 pub mod AnswerLaws
 pub mod SizeLaws
+pub mod UnwrittenLaws

@@ -12,11 +12,12 @@ use Rattle.numbers.specs.Sizes.{distributor_readings}
 use Rattle.numbers.specs.declared.refusal.Refusal.{Refusal}
 use Rattle.numbers.specs.declared.units.Pesos.{Pesos}
 use Rattle.ledger.specs.Fix.{FixingAnswer}
+use Rattle.ledger.specs.declared.fix.FixingValues.{FixingValues}
 use Rattle.text.specs.Text.{decimal, integer}
 use Rattle.text.specs.Row.{rows_text}
 use Rattle.text.proofs.SizeLaws.{choice_size, decimal_size, integer_size, column_size, column_none}
 use Rattle.text.proofs.SizeLaws.{rows_size, numbers_line_size}
-use Rattle.answers.specs.Answer.{refused_text, outcome_line, used_line, changed_line, place_text}
+use Rattle.answers.specs.Answer.{refused_by, refused_text, outcome_line, used_line, error_line, changed_line, place_text}
 use Rattle.answers.specs.Answer.{values_line, fixing_line, signed_unwritten, all_unwritten, unwritten_word}
 use Rattle.answers.specs.Answer.{changed_text, answer_text, settled_text, fixed_text}
 use Rattle.answers.specs.Answer.{sheet_read_text, sheet_written_text}
@@ -29,7 +30,7 @@ place_size [] = omega arith
 place_size (line ∷ []) = simp length-append (omega (arith, decimal_size line))
 place_size (line ∷ term ∷ more) = simp length-append (omega (arith, decimal_size line, decimal_size term))
 
-changed_size : (unwritten : Bool) → length (changed_text unwritten) ≤ 204
+pub changed_size : (unwritten : Bool) → length (changed_text unwritten) ≤ 204
 unfolding changed_text
 changed_size unwritten = choice_size unwritten [] changed_line 204 (omega arith) (omega arith)
 
@@ -44,7 +45,7 @@ answer_size line (Err refusal) rows unwritten most p q r =
 -- a name of 12 bytes at most, and a line with it
 module _ (name : List ℕ) (short : length name ≤ 12) where
   refused_size : (refusal : Refusal) → length (refused_text name refusal) ≤ 41
-  unfolding refused_text
+  unfolding refused_by refused_text
   refused_size refusal = simp length-append (omega (arith, decimal_size (refusal_answered refusal).number))
 
   pub outcome_size : (answer : Verdict) → length (outcome_line name answer) ≤ 204
@@ -52,12 +53,12 @@ module _ (name : List ℕ) (short : length name ≤ 12) where
   outcome_size (Ok passed) = simp length-append (omega arith)
   outcome_size (Err refusal) = simp length-append (omega (arith, refused_size refusal))
 
-  used_size : (answer : Result ℕ Refusal) → length (used_line name answer) ≤ 204
+  pub used_size : (answer : Result ℕ Refusal) → length (used_line name answer) ≤ 204
   unfolding used_line
   used_size (Ok used) = simp length-append (omega (arith, decimal_size used))
   used_size (Err refusal) = outcome_size (Err refusal)
 
-  fixing_size : (answer : FixingAnswer) → length (fixing_line name answer) ≤ 204
+  pub fixing_size : (answer : FixingAnswer) → length (fixing_line name answer) ≤ 204
   unfolding fixing_line values_line
   fixing_size (Ok values) =
       simp length-append
@@ -121,3 +122,20 @@ module _ (name : List ℕ) (short : length name ≤ 12) where
   sheet_written_size unwritten (Err refusal) buffer most p =
       simp length-append
       (omega (arith, used_size (Err refusal), changed_size (unwritten buffer)))
+
+-- the line of a broken journal, and a line of values
+pub error_size : (at : ℕ) → length (error_line at) ≤ 64
+unfolding error_line
+error_size at = simp length-append (omega (arith, decimal_size at))
+
+pub values_size : (values : FixingValues) → length (values_line values) ≤ 204
+unfolding values_line
+values_size values =
+    simp length-append
+    (omega (
+      arith,
+      decimal_size values.limit.0,
+      decimal_size values.surcharge.0,
+      decimal_size values.rounds,
+      decimal_size values.residue.0,
+    ))

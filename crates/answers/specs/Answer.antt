@@ -17,9 +17,12 @@ use Rattle.text.specs.Row.{rows_text, numbers_line}
 abbrev item : String → ℕ → List ℕ
 item name number = bytes name ++ blank ∷ decimal number
 
--- "open refused 1": a refused command and the number of its refusal
+-- "open refused 1": a refused command and a number, which is that of its refusal
+unfoldable pub refused_by : List ℕ → ℕ → List ℕ
+refused_by name number = name ++ item " refused" number
+
 unfoldable pub refused_text : List ℕ → Refusal → List ℕ
-refused_text name refusal = name ++ item " refused" (refusal_answered refusal).number
+refused_text name refusal = refused_by name (refusal_answered refusal).number
 
 -- "open accepted", "open refused 1"
 unfoldable pub outcome_line : List ℕ → Verdict → List ℕ
@@ -78,12 +81,21 @@ unwritten_byte = 255
 unfoldable pub changed_text : Bool → List ℕ
 changed_text unwritten = cond unwritten [] changed_line
 
+-- what stands under the line of a command: rows where it was accepted, and else what a change of a lent list gives
+unfoldable pub under_text : Bool → List ℕ → Bool → List ℕ
+under_text accepted rows unwritten = cond accepted rows (changed_text unwritten)
+
 -- "One line for each command, and rows under an accepted one"
 unfoldable pub answer_text : {A : Type 0} → List ℕ → Result A Refusal → List ℕ → Bool → List ℕ
 answer_text line (Ok given) rows unwritten = line ++ rows
 answer_text line (Err refusal) rows unwritten = line ++ changed_text unwritten
 
 -- "I TRANSFER BALANCE"; "if a word of it is no longer -1, `replay` prints the line `changed`"
+unfoldable pub settled_rows : Bool → List ℤ → List Pesos → List ℕ
+settled_rows accepted transfers balances =
+    under_text accepted (rows_text integer (λ balance. integer balance.0) transfers 1 balances)
+    (signed_unwritten transfers)
+
 unfoldable pub settled_text : List ℕ → Verdict → List ℤ → List Pesos → List ℕ
 settled_text name answer transfers balances =
     answer_text (outcome_line name answer) answer
@@ -91,12 +103,22 @@ settled_text name answer transfers balances =
     (signed_unwritten transfers)
 
 -- "I AVERAGE FINAL CHARGE POWER"; "`changed` is printed once where either list changed in a refused call"
+unfoldable pub fixed_rows : Bool → List ℤ → List ℕ → List ℕ
+fixed_rows accepted prices power =
+    under_text accepted (rows_text integer decimal prices 3 power)
+    (signed_unwritten prices && all_unwritten eqb unwritten_word power)
+
 unfoldable pub fixed_text : List ℕ → FixingAnswer → List ℤ → List ℕ → List ℕ
 fixed_text name answer prices power =
     answer_text (fixing_line name answer) answer (rows_text integer decimal prices 3 power)
     (signed_unwritten prices && all_unwritten eqb unwritten_word power)
 
 -- "with a row `I R0 .. R31` for each distributor"
+unfoldable pub sheet_read_rows : Bool → List ℕ → List ℕ
+sheet_read_rows accepted readings =
+    under_text accepted (rows_text {B = ℕ} decimal decimal readings distributor_readings [])
+    (all_unwritten eqb unwritten_word readings)
+
 unfoldable pub sheet_read_text : List ℕ → Verdict → List ℕ → List ℕ
 sheet_read_text name answer readings =
     answer_text (outcome_line name answer) answer (rows_text {B = ℕ} decimal decimal readings distributor_readings [])
@@ -104,6 +126,10 @@ sheet_read_text name answer readings =
 
 -- "and one line with the U bytes as numbers"; "`changed` is printed also where a byte past the U used ones is no longer
 -- 255"
+unfoldable pub sheet_written_rows : {A : Type 0} → (A → List ℕ) → (List A → Bool) → Bool → ℕ → List A → List ℕ
+sheet_written_rows shown unwritten accepted used buffer =
+    cond accepted (numbers_line shown (take used buffer)) [] ++ changed_text (unwritten (drop used buffer))
+
 unfoldable pub sheet_written_text : {A : Type 0} → (A → List ℕ) → (List A → Bool) → List ℕ → Result ℕ Refusal → List A →
     List ℕ
 sheet_written_text shown unwritten name (Ok used) buffer =

@@ -11,7 +11,7 @@ use Rattle.std.specs.Prelude.{Option, Some, None, Result, Ok, Err, IfSome}
 use Rattle.numbers.specs.Checks.{verdict_of}
 use Rattle.numbers.specs.Units.{between}
 use Rattle.journal.specs.Cursor.{read_of, Reading, and_then}
-use Rattle.journal.specs.Form.{Held}
+use Rattle.journal.specs.Form.{part_count, Held, form_after}
 use Rattle.journal.specs.Command.{command_form}
 use Rattle.journal.specs.declared.command.Command.{Command}
 use Rattle.journal.specs.declared.cursor.Unreadable.{Unreadable}
@@ -38,11 +38,12 @@ module _ (text : List ℕ) (at : ℕ) (p : at < length text) (ledger : Ledger) w
   after_later : (found : Result (Option (Read Command)) Unreadable) →
       ReadWithin text found (λ given. IfSome given (λ command. Past text (at + 1) command.next)) →
       (read : Read Ledger) → and_then found (ledger_of text ledger) ≡ Ok read → at < read.next
+  unfolding form_after
   after_later (Ok None) o read r =
       let same : read_of ledger (length text) ≡ read = cc in
       omega (arith, p, ap (λ (q : Read Ledger). q.next) same)
   after_later (Ok (Some command)) o read r =
-      made_later command _ (then_form o (command_form command.value)) read r
+      made_later command _ (then_form o (command_form command.value) part_count) read r
   after_later (Err broken) o read r = absurd (let z : ◌≡◌ {A = ℕ} 0 1 = cc in omega arith)
 
   pub ledger_later : (read : Read Ledger) → ledger_after text at ledger ≡ Ok read → at < read.next
@@ -61,16 +62,16 @@ module _ (k m : ℕ) (text : List ℕ)
     (same : (at : ℕ) (ledger : Ledger) → length text - at ≤ k → length text - at ≤ m → replay_from k text at
     ledger ≡ replay_from m text at ledger) (at : ℕ) (ledger : Ledger) (p : length text - at ≤ suc k)
     (q : length text - at ≤ suc m) where
-  by : at < length text → (found : Reading Ledger) → found ≡ ledger_after text at ledger →
-      go_on ledger found (replay_from k text) ≡ go_on ledger found (replay_from m text)
-  by h (Ok read) e =
+  by : (kept : Ledger) → at < length text → (found : Reading Ledger) → found ≡ ledger_after text at ledger →
+      go_on kept found (replay_from k text) ≡ go_on kept found (replay_from m text)
+  by kept h (Ok read) e =
       let later : at < read.next = ledger_later text at h ledger read (sym e) in
       same read.next read.value (omega arith) (omega arith)
-  by h (Err broken) e = refl
+  by kept h (Err broken) e = refl
 
   one_more : Dec (at < length text) → replay_from (suc k) text at ledger ≡ replay_from (suc m) text at ledger
   unfolding replay_from
-  one_more (yes h) = rw (lt-ltb at (length text) h) (by h _ refl)
+  one_more (yes h) = rw (lt-ltb at (length text) h) (by _ h _ refl)
   one_more (no h) = rw (le-ltb at (length text) (omega arith))
 
 enough : (k m : ℕ) (text : List ℕ) (at : ℕ) (ledger : Ledger) → length text - at ≤ k → length text - at ≤ m →

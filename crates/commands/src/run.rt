@@ -89,7 +89,11 @@ fn run_command(
         });
     };
     let mut words = word_buffer();
-    let form = read_form(text, command.next, form_of(command.value), &mut words)?;
+    let form = form_of(Some(command.value));
+    let form = match read_form(text, Ok(command.next), form, &mut words) {
+        Ok(form) => form,
+        Err(broken) => return Err(broken.broken),
+    };
     let after = make_command(command.value, &form.value, ledger, &words, answer);
     Ok(Read {
         value: after,

@@ -13,7 +13,7 @@ use lib.ListN.{get_or-replicate, get_or-eq_default}
 use lib.Seq.{length-take-le, drop-drop, drop-append-le, take-append-le, take-append_seam, drop_at, get_or-set_same}
 use lib.Seq.{get_or-set_other}
 use borrow.Rule.Slice.PartMut.{put_mid, mid_len}
-use Rattle.std.specs.Prelude.{Ok, Err, IfOk, MatchResult}
+use Rattle.std.specs.Prelude.{Result, Ok, Err, IfOk, MatchResult}
 use Rattle.std.proofs.lemmas.Slice.{drop-put_mid}
 use Rattle.std.proofs.lemmas.Result.{IfOk-at_ok}
 use Rattle.numbers.proofs.BoolLaws.{by_last}
@@ -22,14 +22,15 @@ use Rattle.numbers.proofs.ListLaws.{list_at, list_same}
 use Rattle.numbers.specs.Bounded.{sum_below, list_below}
 use Rattle.text.specs.Text.{name_text, text_below}
 use Rattle.journal.specs.Cursor.{read_of, Reading, reads_below, most_word}
-use Rattle.journal.specs.List.{list_after, list_left, ListFollows, ListBroken}
+use Rattle.journal.specs.List.{value_or_zero, count_after, list_after, list_left, ListFollows, ListBroken}
 use Rattle.journal.specs.Form.{part_count, part_at, Held, held_of, held_in, bound_by, bound_of, count_by, count_of}
 use Rattle.journal.specs.Form.{room_of, place_of, number_part, list_part, part_by, part_after, parts_after, form_after}
 use Rattle.journal.specs.Form.{placed, placed_none, number_of, start_of, end_of, words_in, parts_below, parts_in}
-use Rattle.journal.specs.Form.{FormHeld, left_by, part_left, PartFollows, PartBroken, FormFollows, FormBroken}
+use Rattle.journal.specs.Form.{FormHeld, left_by, part_left, number_by, number_left, numberless}
+use Rattle.journal.specs.Form.{PartFollows, PartBroken, FormFollows, FormBroken}
 use Rattle.journal.specs.Form.{part_text}
 use Rattle.journal.specs.declared.cursor.Read.{Read}
-use Rattle.journal.specs.declared.cursor.Unreadable.{Unreadable}
+use Rattle.journal.specs.declared.list.BrokenPart.{BrokenPart}
 use Rattle.journal.specs.declared.form.Kind.{Kind}
 use Rattle.journal.specs.declared.form.Kind.TheVariants.{Nothing, Number, List as Words, Signed, Length}
 use Rattle.journal.specs.declared.form.Part.{Part}
@@ -42,33 +43,36 @@ use Rattle.journal.proofs.ListLaws.{count_most, list_most, then_count, then_list
 -- a part by its kind, as the code reads it
 module _ (part : Part) (text : List ℕ) (at : ℕ) (kind : Kind) (k : part.1 ≡ kind) where
   pub follows : (found : List ℕ) (reading : Reading ℕ) → number_part reading ≡ part_by kind (name_text part.0) text at →
-      ((number : ℕ) → count_by kind number ≡ 0) → found ≡ left_by kind (name_text part.0) text at found →
-      MatchResult reading (λ read. PartFollows part text at read found found)
+      ((number : ℕ) → count_by kind number ≡ 0) → 0 ≡ number_by kind (name_text part.0) text at →
+      found ≡ left_by kind (name_text part.0) text at found →
+      MatchResult (numberless reading) (λ read. PartFollows part text at read found found)
       (λ broken. PartBroken part text at broken found found)
-  unfolding part_after part_left
-  follows found (Ok read) e none left =
+  unfolding part_after part_left number_left
+  follows found (Ok read) e none no_count left =
       record { words = []; after = rw (k, ← e) refl; lent = rw (k, none read.value) refl }
-  follows found (Err broken) e none left = record { after = rw (k, ← e) refl; lent = rw k left }
+  follows found (Err broken) e none no_count left =
+      record { after = rw (k, ← e) refl; number = rw k no_count; lent = rw k left }
 
   -- a list into as many places as it may have words
-  pub follows_list : (signed : Bool) (most : ℕ) (found left : List ℕ) (result : Reading ℕ) →
+  pub follows_list : (signed : Bool) (most : ℕ) (found left : List ℕ) (result : Result (Read ℕ) BrokenPart) →
       list_part (list_after text at (name_text part.0) (length found) signed most)
       ≡ part_by kind (name_text part.0) text at → ((number : ℕ) → count_by kind number ≡ number) →
+      value_or_zero (count_after text at (name_text part.0) (length found)) ≡ number_by kind (name_text part.0) text at →
       list_left text at (name_text part.0) (length found) signed most found
       ≡ left_by kind (name_text part.0) text at found →
       MatchResult result (λ read. ListFollows text at (name_text part.0) (length found) signed most read found left)
       (λ broken. ListBroken text at (name_text part.0) (length found) signed most broken found left) →
       MatchResult result (λ read. PartFollows part text at read found left)
       (λ broken. PartBroken part text at broken found left)
-  unfolding part_after part_left
-  follows_list signed most found left (Ok read) e whole same f =
+  unfolding part_after part_left number_left
+  follows_list signed most found left (Ok read) e whole count same f =
       record {
         words = f.words;
         after = rw (k, ← e, f.after, f.counted) refl;
         lent = rw (k, whole read.value) f.lent;
       }
-  follows_list signed most found left (Err broken) e whole same f =
-      record { after = rw (k, ← e, f.after) refl; lent = rw k (f.lent ∙ same) }
+  follows_list signed most found left (Err broken) e whole count same f =
+      record { after = rw (k, ← e, f.after) refl; number = rw k (f.counted ∙ count); lent = rw k (f.lent ∙ same) }
 
 -- past a place still by a part
 then_part : {text : List ℕ} {place at : ℕ} → Past text place at → (part : Part) →
@@ -93,12 +97,12 @@ then_part {text} {place} {at} o part = go part.1
     go (Signed longest) = list _ (then_list o (name_text part.0) longest true most_word)
     go (Length longest) = number _ (then_count o (name_text part.0) longest)
 
--- by a form
-pub then_form : {text : List ℕ} {place at : ℕ} → Past text place at → (form : List Part) →
-    ReadWithin text (form_after form text at) (λ read. Past text place read.next)
-unfolding form_after parts_after
-then_form {text} {place} {at} o form =
-    reads_keep text (Past text place) part_count _ (λ j from p. then_part p (part_at form j)) at o
+-- by the first k parts of a form
+pub then_form : {text : List ℕ} {place at : ℕ} → Past text place at → (form : List Part) (k : ℕ) →
+    ReadWithin text (parts_after k form text at) (λ read. Past text place read.next)
+unfolding parts_after
+then_form {text} {place} {at} o form k =
+    reads_keep text (Past text place) k _ (λ j from p. then_part p (part_at form j)) at o
 
 -- a part's number is one that it takes, and it has as many words as its number says
 record Sized (part : Part) (held : Held) : Type 0 where
@@ -133,6 +137,23 @@ part_sized part text at = go part.1 refl
     go (Length longest) k =
         number longest _ (ap bound_by k) (λ n. ap (λ kind. count_by kind n) k)
         (count_most text at (name_text part.0) longest)
+
+-- the number of a broken part is one that it takes
+number_left_most : (part : Part) (text : List ℕ) (at : ℕ) → number_left part text at ≤ bound_of part
+unfolding number_left
+number_left_most part text at = go part.1
+  where
+    count : (longest : ℕ) (reading : Reading ℕ) → IfOk reading (λ read. read.value ≤ longest) →
+        value_or_zero reading ≤ longest
+    count longest (Ok read) h = h
+    count longest (Err broken) h = omega arith
+
+    go : (kind : Kind) → number_by kind (name_text part.0) text at ≤ bound_by kind
+    go Nothing = omega arith
+    go (Number most) = omega arith
+    go (Words longest most) = count longest _ (count_most text at (name_text part.0) longest)
+    go (Signed longest) = count longest _ (count_most text at (name_text part.0) longest)
+    go (Length longest) = omega arith
 
 -- a number that a part takes gives no more words than there is room for
 count_room : (part : Part) (number : ℕ) → number ≤ bound_of part → count_of part number ≤ room_of part
@@ -282,31 +303,85 @@ module _ (form : List Part) (text : List ℕ) (from : ℕ) (found : List ℕ) wh
       abbrev pub new : List ℕ
       new = put_mid place (end - place) words left
 
+      -- the list of the parts when part k is placed
+      module _ (number close : ℕ) where
+        abbrev pub parts_with : List Placed
+        parts_with = set parts k (placed number place close)
+
+        same_before : (j : ℕ) → j < k → get_or parts_with j placed_none ≡ get_or parts j placed_none
+        same_before j r = get_or-set_other parts k j (placed number place close) placed_none (λ t. absurd (omega arith))
+
+        same_last : get_or parts_with k placed_none ≡ placed number place close
+        same_last = get_or-set_same parts k (placed number place close) placed_none (omega (arith, f.long))
+
+        same_after : (j : ℕ) → k < j → get_or parts_with j placed_none ≡ placed_none
+        same_after j r =
+            get_or-set_other parts k j (placed number place close) placed_none (λ t. absurd (omega arith))
+            ∙ f.rest j (omega arith)
+
       -- a part that is broken breaks the form
-      pub form_broken : {broken : Unreadable} →
+      module _ {broken : BrokenPart}
+          (b : PartBroken (part_at form k) text at broken (take (end - place) (drop place words)) left) where
+        broken_most : broken.number ≤ bound_of (part_at form k)
+        broken_most = rw b.number (number_left_most (part_at form k) text at)
+
+        pub few_broken : place + count_of (part_at form k) broken.number ≤ end
+        few_broken = omega (arith, e, count_room (part_at form k) broken.number broken_most)
+
+      pub form_broken : {broken : BrokenPart} →
           PartBroken (part_at form k) text at broken (take (end - place) (drop place words)) left → k < length form →
-          FormBroken form text from broken found new
+          length left ≡ end - place → (close : ℕ) → close ≡ place + count_of (part_at form k) broken.number →
+          FormBroken form text from
+          (record { broken = broken.broken; parts = parts_of (parts_with broken.number close) }) found new
       unfolding form_after parts_after
-      form_broken b more = record {
+      form_broken {broken} b more kept close c = record {
         after = reads_broken _ from f.after b.after part_count p;
         k = k;
-        parts = parts_of parts;
         next = at;
-        before = f.after ∙ ap (λ list. Ok (read_of list at)) (below_same parts (end - place) left here (λ j r. refl));
+        before = f.after
+            ∙ ap (λ list. Ok (read_of list at))
+            (below_same (parts_with broken.number close) (end - place) left here (same_before broken.number close));
         held = record {
-          bounded = λ j r. (lies_still j (dec_lt j k)).bounded;
-          counted = λ j r. (lies_still j (dec_lt j k)).counted;
-          within = λ j r. (lies_still j (dec_lt j k)).within;
+          bounded = λ j r. (lies_still j (dec_lt j k) (dec_lt k j)).bounded;
+          counted = λ j r. (lies_still j (dec_lt j k) (dec_lt k j)).counted;
+          within = λ j r. (lies_still j (dec_lt j k) (dec_lt k j)).within;
         };
-        placed = λ j r. f.starts j r (omega arith);
-        here = rw (← f.standing) (record { after = b.after; lent = left_here });
+        placed = λ j r. starts_still j r (dec_lt j k);
+        here = rw (← f.standing) (record {
+          after = b.after;
+          number = ap (λ (q : Placed). q.number) (same_last broken.number close) ∙ b.number;
+          lent = left_here;
+        });
+        rest = same_after broken.number close;
       }
         where
-          lies_still : (j : ℕ) → Dec (j < k) → Lies (part_at form j) (get_or parts j placed_none) (length new)
-          lies_still j (yes r) =
-              lies_on (f.lies j r) (length new)
-              (rw length-append (omega (arith, length-take-le place words here)))
-          lies_still j (no r) = rw (f.rest j (omega arith)) (lies_none (part_at form j) (length new))
+          whole : length new ≡ length words
+          whole =
+              simp (length-append, length-drop)
+              (omega (arith, length-take-le place words here, kept, e, fits, here))
+
+          lies_last : Lies (part_at form k) (placed broken.number place close) (length new)
+          lies_last = record {
+            bounded = broken_most b;
+            counted = c;
+            within = omega (arith, c, few_broken b, whole, fits);
+          }
+
+          lies_still : (j : ℕ) → Dec (j < k) → Dec (k < j) →
+              Lies (part_at form j) (get_or (parts_with broken.number close) j placed_none) (length new)
+          lies_still j (yes r) q = rw (same_before broken.number close j r) (lies_on (f.lies j r) (length new) (omega (arith, whole, here)))
+          lies_still j (no r) (yes q) =
+              rw (same_after broken.number close j q) (lies_none (part_at form j) (length new))
+          lies_still j (no r) (no q) =
+              let last : j ≡ k = omega arith in
+              rw (last, same_last broken.number close) lies_last
+
+          starts_still : (j : ℕ) → j ≤ k → Dec (j < k) →
+              (get_or (parts_with broken.number close) j placed_none).start ≡ place_of form j
+          starts_still j r (yes q) = rw (same_before broken.number close j q) (f.starts j q (omega arith))
+          starts_still j r (no q) =
+              let last : j ≡ k = omega arith in
+              rw (last, same_last broken.number close) f.standing
 
           left_here : drop place new ≡ part_left (part_at form k) text at (drop place found)
           left_here =

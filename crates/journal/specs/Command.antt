@@ -85,6 +85,11 @@ command_form Join = empty_form
 command_form ReadSheet = read_sheet_form
 command_form WriteSheet = write_sheet_form
 
+-- the same where there may be no command, which nothing follows
+abbrev pub form_by : Option Command → List Part
+form_by (Some command) = command_form command
+form_by None = empty_form
+
 -- the commands by their names
 abbrev row : String → Command → CommandRow
 row name command = record { 0 = bytes name; 1 = command }

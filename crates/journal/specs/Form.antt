@@ -1,14 +1,16 @@
 -- A form: the parts of a command's text in their order (docs/JOURNAL.md, "Input"), what a text holds of them, and the
 -- text that is written of them. Assumes nothing.
 use Rattle.std.specs.Prelude.{Bool, true, false, ◌≡◌, List, [], ◌∷◌, ◌++◌, ℕ, ◌+◌, ◌-◌, ◌≤◌, ◌<◌, length, get_or, take}
-use Rattle.std.specs.Prelude.{drop, Ok, Err}
+use Rattle.std.specs.Prelude.{drop, replicate, Result, Ok, Err, MatchResult}
 use Prim.Native.String.{String}
 use Rattle.numbers.specs.Bounded.{sum_below, list_below}
 use Rattle.text.specs.Text.{bytes, line_end, word, words_by, text_below, name_text}
 use Rattle.journal.specs.Cursor.{Reading, read_of, map_read, reads_below, number_after, most_word}
-use Rattle.journal.specs.List.{count_after, list_after, list_left}
+use Rattle.journal.specs.List.{value_or_zero, count_after, list_after, list_left}
 use Rattle.journal.specs.declared.cursor.Read.{Read}
 use Rattle.journal.specs.declared.cursor.Unreadable.{Unreadable}
+use Rattle.journal.specs.declared.list.BrokenPart.{BrokenPart}
+use Rattle.journal.specs.declared.form.BrokenForm.{BrokenForm}
 use Rattle.journal.specs.declared.form.Kind.{Kind}
 use Rattle.journal.specs.declared.form.Kind.TheVariants.{Nothing, Number, List as Words, Signed, Length}
 use Rattle.journal.specs.declared.form.Part.{Part}
@@ -164,10 +166,28 @@ left_by (Length longest) name text at found = found
 unfoldable pub part_left : Part → List ℕ → ℕ → List ℕ → List ℕ
 part_left part text at found = left_by part.1 (name_text part.0) text at found
 
+-- the number of a broken part: of a list its count where that was read, of the others none
+abbrev pub number_by : Kind → List ℕ → List ℕ → ℕ → ℕ
+number_by Nothing name text at = 0
+number_by (Number most) name text at = 0
+number_by (Words longest most) name text at = value_or_zero (count_after text at name longest)
+number_by (Signed longest) name text at = value_or_zero (count_after text at name longest)
+number_by (Length longest) name text at = 0
+
+unfoldable pub number_left : Part → List ℕ → ℕ → ℕ
+number_left part text at = number_by part.1 (name_text part.0) text at
+
+-- a reading of a number alone, as that of a part
+abbrev pub numberless : Reading ℕ → Result (Read ℕ) BrokenPart
+numberless (Ok read) = Ok read
+numberless (Err broken) = Err (record { broken = broken; number = 0 })
+
 -- a part that is broken
-pub record PartBroken (part : Part) (text : List ℕ) (at : ℕ) (broken : Unreadable) (found left : List ℕ) : Type 0 where
-  pub after : part_after part text at ≡ Err broken
-  pub lent : left ≡ part_left part text at found
+pub record PartBroken (part : Part) (text : List ℕ) (at : ℕ) (left_part : BrokenPart) (found left : List ℕ) : Type 0
+  where
+    pub after : part_after part text at ≡ Err left_part.broken
+    pub number : left_part.number ≡ number_left part text at
+    pub lent : left ≡ part_left part text at found
 
 -- a form that was read: its parts, and how far the text is read
 pub record FormFollows (form : List Part) (text : List ℕ) (at : ℕ) (read : Read Parts) (words : List ℕ) : Type 0 where
@@ -175,18 +195,29 @@ pub record FormFollows (form : List Part) (text : List ℕ) (at : ℕ) (read : R
   pub held : FormHeld form read.value (length words)
 
 -- a form that is broken: the parts before the broken one were read, and their words stand in the lent ones; from the
--- broken one's place on stands what it leaves of the words that were lent
-pub record FormBroken (form : List Part) (text : List ℕ) (at : ℕ) (broken : Unreadable) (found words : List ℕ) : Type 0
+-- broken one's place on stands what it leaves of the words that were lent; the parts after it hold nothing
+pub record FormBroken (form : List Part) (text : List ℕ) (at : ℕ) (broken : BrokenForm) (found words : List ℕ) : Type 0
   where
-    pub after : form_after form text at ≡ Err broken
+    pub after : form_after form text at ≡ Err broken.broken
     pub k : ℕ
-    pub parts : Parts
     pub next : ℕ
-    pub before : parts_after k form text at ≡ Ok (read_of (parts_below k parts words) next)
-    pub held : FormHeld form parts (length words)
-    pub placed : (j : ℕ) → j < k → start_of parts j ≡ place_of form j
-    pub here : PartBroken (part_at form k) text next broken (drop (place_of form k) found)
+    pub before : parts_after k form text at ≡ Ok (read_of (parts_below k broken.parts words) next)
+    pub held : FormHeld form broken.parts (length words)
+    pub placed : (j : ℕ) → j ≤ k → start_of broken.parts j ≡ place_of form j
+    pub here : PartBroken (part_at form k) text next
+        (record { broken = broken.broken; number = number_of broken.parts k }) (drop (place_of form k) found)
         (drop (place_of form k) words)
+    pub rest : (j : ℕ) → k < j → placed_at broken.parts j ≡ placed_none
+
+-- a form that is read from where a reading ended: after a broken one nothing is read, and the lent words stay
+abbrev pub FormRead : List Part → List ℕ → Result ℕ Unreadable → Result (Read Parts) BrokenForm → List ℕ → List ℕ →
+    Type 0
+FormRead form text (Ok at) result found words =
+    MatchResult result (λ read. FormFollows form text at read words)
+    (λ broken. FormBroken form text at broken found words)
+FormRead form text (Err broken) result found words =
+    (result ≡ Err (record { broken = broken; parts = record { 0 = replicate part_count placed_none } }))
+    × (words ≡ found)
 
 -- a list or a length on a line of its own
 unfoldable pub list_text : List ℕ → Bool → ℕ → List ℕ → List ℕ

@@ -3,7 +3,7 @@ use Rattle.std.specs.Prelude.{Bool, false, ◌≡◌, List, ◌++◌, ℕ, lengt
 use Rattle.numbers.specs.Bounded.{list_below}
 use Rattle.journal.specs.Cursor.{Reading, read_of, and_then, reads_below, word_after, number_after}
 use Rattle.journal.specs.declared.cursor.Read.{Read}
-use Rattle.journal.specs.declared.cursor.Unreadable.{Unreadable}
+use Rattle.journal.specs.declared.list.BrokenPart.{BrokenPart}
 
 -- so many numbers, none above the most
 unfoldable pub numbers_after : ℕ → List ℕ → ℕ → Bool → ℕ → Reading (List ℕ)
@@ -52,8 +52,9 @@ unfoldable pub list_left : List ℕ → ℕ → List ℕ → ℕ → Bool → �
 list_left text at name longest signed most found =
     left_by_count (count_after text at name longest) text signed most found
 
--- a list that is broken
+-- a list that is broken: the byte, and its count where that was read
 pub record ListBroken (text : List ℕ) (at : ℕ) (name : List ℕ) (longest : ℕ) (signed : Bool) (most : ℕ)
-    (broken : Unreadable) (found left : List ℕ) : Type 0 where
-  pub after : list_after text at name longest signed most ≡ Err broken
+    (part : BrokenPart) (found left : List ℕ) : Type 0 where
+  pub after : list_after text at name longest signed most ≡ Err part.broken
+  pub counted : part.number ≡ value_or_zero (count_after text at name longest)
   pub lent : left ≡ list_left text at name longest signed most found

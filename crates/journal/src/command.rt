@@ -1,6 +1,6 @@
 // The commands of a journal: which one stands next, and the form of what follows its word.
 ghost use Rattle.std.specs.Prelude.{◌≡◌};
-ghost use Rattle.journal.specs.Command.{load_form, command_form, command_named, command_after};
+ghost use Rattle.journal.specs.Command.{load_form, form_by, command_named, command_after};
 
 use crate::cursor::{Read, Unreadable};
 use crate::form::{Kind, MOST_WORD, PARTS, Part};
@@ -129,19 +129,19 @@ pub fn load_form() -> &'static [Part]
     &LOAD_FORM
 }
 
-// The form of what follows a command's word.
-pub fn form_of(command: Command) -> &'static [Part]
-    ensures { result.now ≡ command_form command }
+// The form of what follows a command's word; where there is no command, nothing follows.
+pub fn form_of(command: Option<Command>) -> &'static [Part]
+    ensures { result.now ≡ form_by command }
 {
     match command {
-        Command::Open => &OPEN_FORM,
-        Command::Fix => &FIX_FORM,
-        Command::Settle => &SETTLE_FORM,
-        Command::Load => &LOAD_FORM,
-        Command::Interim => &INTERIM_FORM,
-        Command::ReadSheet => &READ_SHEET_FORM,
-        Command::WriteSheet => &WRITE_SHEET_FORM,
-        Command::Save | Command::Join => &[],
+        Some(Command::Open) => &OPEN_FORM,
+        Some(Command::Fix) => &FIX_FORM,
+        Some(Command::Settle) => &SETTLE_FORM,
+        Some(Command::Load) => &LOAD_FORM,
+        Some(Command::Interim) => &INTERIM_FORM,
+        Some(Command::ReadSheet) => &READ_SHEET_FORM,
+        Some(Command::WriteSheet) => &WRITE_SHEET_FORM,
+        Some(Command::Save | Command::Join) | None => &[],
     }
 }
 

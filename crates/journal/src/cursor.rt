@@ -2,7 +2,7 @@
 // token starts.
 ghost use Rattle.std.specs.Prelude.{◌≡◌};
 ghost use Rattle.text.specs.Text.{name_text};
-ghost use Rattle.journal.specs.Cursor.{token_read, at_most, word_after, number_after};
+ghost use Rattle.journal.specs.Cursor.{and_then, token_read, at_most, word_after, number_after};
 
 use crate::number::read_digits;
 use crate::token::{Token, next_token};
@@ -56,11 +56,29 @@ fn at_most(number: Option<u64>, most: u64) -> Option<u64>
     }
 }
 
-// Reads a number of at most `most`, signed or not: a flag, as at `read_digits`, which `number_after` takes.
-pub fn next_number(text: &[u8], at: usize, signed: bool, most: u64) -> Result<Read<u64>, Unreadable>
+// Reads a number of at most `most` from a place on, signed or not: a flag, as at `read_digits`, which the definition
+// takes.
+pub(crate) fn number_after(
+    text: &[u8],
+    at: usize,
+    signed: bool,
+    most: u64,
+) -> Result<Read<u64>, Unreadable>
     ensures { result ≡ number_after text.now at signed most }
 {
     let token = next_token(text, at);
     let number = read_digits(token.bytes(text), signed);
     token.read(at_most(number, most))
+}
+
+// The same from where a reading ended; where that could not be read, nothing is read after it.
+pub fn next_number(
+    text: &[u8],
+    from: Result<usize, Unreadable>,
+    signed: bool,
+    most: u64,
+) -> Result<Read<u64>, Unreadable>
+    ensures { result ≡ and_then from (λ at. number_after text.now at signed most) }
+{
+    number_after(text, from?, signed, most)
 }

@@ -1,16 +1,15 @@
 // A form: the parts of a command's text in their order, as data. One reader and one writer serve every form.
 ghost use Rattle.std.specs.Prelude.{◌≡◌, ◌+◌, ◌^◌, ◌<◌, ◌≤◌, length, MatchResult};
 ghost use Rattle.text.specs.Text.{words_by};
-ghost use Rattle.text.specs.Buffer.{written};
 ghost use Rattle.journal.specs.Form.{part_count, held_of, room_of, count_of, place_of, placed};
 ghost use Rattle.journal.specs.Form.{number_of, start_of, end_of, words_in};
-ghost use Rattle.journal.specs.Form.{PartFollows, PartBroken, FormFollows, FormBroken, FormHeld, parts_in};
-ghost use Rattle.journal.specs.Form.{list_text, part_text, form_text};
+ghost use Rattle.journal.specs.Form.{numberless, PartFollows, PartBroken, FormFollows, FormBroken, FormRead, FormHeld};
+ghost use Rattle.journal.specs.Form.{parts_in, list_text, part_text, form_text};
 
-use crate::cursor::{Read, Unreadable, next_number};
-use crate::list::{read_count, read_list};
+use crate::cursor::{Read, Unreadable, number_after};
+use crate::list::{BrokenPart, read_count, read_list};
 use numbers::signed::signed_of;
-use text::buffer::Text;
+use text::buffer::Writable;
 use text::name::{NAME, write_name};
 use text::number::{write_word, write_words};
 
@@ -77,6 +76,13 @@ impl Placed {
 #[derive(Clone, Copy)]
 pub struct Parts(pub [Placed; PARTS]);
 
+// A form that cannot be read: the byte where the token starts, and what was read of the parts.
+#[derive(Clone, Copy)]
+pub struct BrokenForm {
+    pub broken: Unreadable,
+    pub parts: Parts,
+}
+
 impl Parts {
     // The number of part k; a part is known by its place, as the form counts its parts.
     pub fn number_of(&self, k: usize) -> u64
@@ -95,6 +101,16 @@ impl Parts {
     {
         let placed = self.0[k];
         &words[placed.start..placed.end]
+    }
+}
+
+// A reading of a number alone, as that of a part: where it is broken there is no number.
+fn of_number(reading: Result<Read<u64>, Unreadable>) -> Result<Read<u64>, BrokenPart>
+    ensures { result ≡ numberless reading }
+{
+    match reading {
+        Ok(read) => Ok(read),
+        Err(broken) => Err(BrokenPart { broken, number: 0 }),
     }
 }
 
@@ -120,7 +136,7 @@ impl Part {
     }
 
     // Reads the part: its number, and a list's words into the first places of the lent words.
-    fn read(self, text: &[u8], at: usize, into: &mut [u64]) -> Result<Read<u64>, Unreadable>
+    fn read(self, text: &[u8], at: usize, into: &mut [u64]) -> Result<Read<u64>, BrokenPart>
         requires { length into.old ≡ room_of self }
         ensures { MatchResult result (λ read. PartFollows self text.now at read into.old into.new)
             (λ broken. PartBroken self text.now at broken into.old into.new) }
@@ -128,21 +144,21 @@ impl Part {
         let name = self.0;
         match self.1 {
             Kind::Nothing => Ok(Read { value: 0, next: at }),
-            Kind::Number(most) => next_number(text, at, false, most),
+            Kind::Number(most) => of_number(number_after(text, at, false, most)),
             Kind::List(_, most) => read_list(text, at, name, false, most, into),
             Kind::Signed(_) => read_list(text, at, name, true, MOST_WORD, into),
-            Kind::Length(longest) => read_count(text, at, name, longest),
+            Kind::Length(longest) => of_number(read_count(text, at, name, longest)),
         }
     }
 }
 
-// Reads the parts of a form; the words of a list stand where the longest lists before it would end.
-pub fn read_form(
+// Reads the parts of a form from a place on; the words of a list stand where the longest lists before it would end.
+fn form_after(
     text: &[u8],
     at: usize,
     form: &[Part],
     words: &mut [u64],
-) -> Result<Read<Parts>, Unreadable>
+) -> Result<Read<Parts>, BrokenForm>
     requires few { length form.now ≤ part_count }
     requires room { place_of form.now part_count ≤ length words.old }
     ensures { MatchResult result (λ read. FormFollows form.now text.now at read words.new)
@@ -153,12 +169,24 @@ pub fn read_form(
     let mut start: usize = 0;
     for (k, part) in form.iter().enumerate() {
         let room = start + part.room();
-        let read = part.read(text, next, &mut words[start..room])?;
-        let number = read.value;
-        let end = start + part.count(number);
-        parts[k] = Placed { number, start, end };
-        next = read.next;
-        start = room;
+        match part.read(text, next, &mut words[start..room]) {
+            Ok(read) => {
+                let number = read.value;
+                let end = start + part.count(number);
+                parts[k] = Placed { number, start, end };
+                next = read.next;
+                start = room;
+            }
+            Err(broken) => {
+                let number = broken.number;
+                let end = start + part.count(number);
+                parts[k] = Placed { number, start, end };
+                return Err(BrokenForm {
+                    broken: broken.broken,
+                    parts: Parts(parts),
+                });
+            }
+        }
     }
     Ok(Read {
         value: Parts(parts),
@@ -166,10 +194,30 @@ pub fn read_form(
     })
 }
 
+// Reads the parts of a form from where a reading ended; where that could not be read, nothing is read after it.
+pub fn read_form(
+    text: &[u8],
+    from: Result<usize, Unreadable>,
+    form: &[Part],
+    words: &mut [u64],
+) -> Result<Read<Parts>, BrokenForm>
+    requires few { length form.now ≤ part_count }
+    requires room { place_of form.now part_count ≤ length words.old }
+    ensures { FormRead form.now text.now from result words.old words.new }
+{
+    match from {
+        Ok(at) => form_after(text, at, form, words),
+        Err(broken) => Err(BrokenForm {
+            broken,
+            parts: Parts([Placed::of_number(0); PARTS]),
+        }),
+    }
+}
+
 // Writes words, each after a blank, as numbers of either sign where they are signed.
 // `signed` is a flag, since the kind of a part says it when the text is written, and `words_by` takes it.
-fn write_words_by<const SIZE: usize>(text: &mut Text<SIZE>, signed: bool, words: &[u64])
-    ensures { text.new ≡ written SIZE (words_by signed words.now) text.old }
+fn write_words_by<T: Writable>(text: &mut T, signed: bool, words: &[u64])
+    ensures { text.new ≡ T.after (words_by signed words.now) text.old }
 {
     if !signed {
         return write_words(text, words);
@@ -181,14 +229,8 @@ fn write_words_by<const SIZE: usize>(text: &mut Text<SIZE>, signed: bool, words:
 
 // Writes a list, or a length, as a line of its own: its name, its number and its words.
 // `signed` is a flag, as at `write_words_by`, which `list_text` takes.
-fn write_list<const SIZE: usize>(
-    text: &mut Text<SIZE>,
-    name: [u8; NAME],
-    signed: bool,
-    number: u64,
-    words: &[u64],
-)
-    ensures { text.new ≡ written SIZE (list_text name signed number words.now) text.old }
+fn write_list<T: Writable>(text: &mut T, name: [u8; NAME], signed: bool, number: u64, words: &[u64])
+    ensures { text.new ≡ T.after (list_text name signed number words.now) text.old }
 {
     text.push(b'\n');
     write_name(text, name);
@@ -198,8 +240,8 @@ fn write_list<const SIZE: usize>(
 
 impl Part {
     // Writes the part of its number and words.
-    fn write<const SIZE: usize>(self, text: &mut Text<SIZE>, number: u64, words: &[u64])
-        ensures { text.new ≡ written SIZE (part_text self (held_of number words.now)) text.old }
+    fn write<T: Writable>(self, text: &mut T, number: u64, words: &[u64])
+        ensures { text.new ≡ T.after (part_text self (held_of number words.now)) text.old }
     {
         match self.1 {
             Kind::Nothing => (),
@@ -211,8 +253,8 @@ impl Part {
 }
 
 // Writes a command of these parts: its name and numbers on the first line, then a line for each list.
-pub fn write_form<const SIZE: usize>(
-    text: &mut Text<SIZE>,
+pub fn write_form<T: Writable>(
+    text: &mut T,
     name: [u8; NAME],
     form: &[Part],
     parts: &Parts,
@@ -220,7 +262,7 @@ pub fn write_form<const SIZE: usize>(
 )
     requires few { length form.now ≤ part_count }
     requires held { FormHeld form.now parts.now (length words.now) }
-    ensures { text.new ≡ written SIZE (form_text name form.now (parts_in parts.now words.now)) text.old }
+    ensures { text.new ≡ T.after (form_text name form.now (parts_in parts.now words.now)) text.old }
 {
     write_name(text, name);
     for (k, part) in form.iter().enumerate() {

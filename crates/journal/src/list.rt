@@ -4,7 +4,7 @@ ghost use Rattle.text.specs.Text.{name_text};
 ghost use Rattle.journal.specs.Cursor.{read_of};
 ghost use Rattle.journal.specs.List.{numbers_after, numbers_or_zeros, count_after, ListFollows, ListBroken};
 
-use crate::cursor::{Read, Unreadable, next_name, next_number};
+use crate::cursor::{Read, Unreadable, next_name, number_after};
 use text::name::NAME;
 
 // Reads as many numbers as the lent list has places, each of at most `most`: how far the text is read with them. Zeros
@@ -23,11 +23,18 @@ fn fill_numbers(
     into.fill(0);
     let mut next = at;
     for place in into.iter_mut() {
-        let number = next_number(text, next, signed, most)?;
+        let number = number_after(text, next, signed, most)?;
         *place = number.value;
         next = number.next;
     }
     Ok(next)
+}
+
+// A part that cannot be read: the byte where its token starts, and of a list its count where that could be read.
+#[derive(Clone, Copy)]
+pub(crate) struct BrokenPart {
+    pub broken: Unreadable,
+    pub number: u64,
 }
 
 // Reads a list's name and its count, or the length of a lent list.
@@ -40,7 +47,7 @@ pub(crate) fn read_count(
     ensures { result ≡ count_after text.now at (name_text name) longest }
 {
     let named = next_name(text, at, name)?;
-    next_number(text, named, false, longest)
+    number_after(text, named, false, longest)
 }
 
 // Reads a list by its name, of at most as many numbers as the lent list has places, into its first places: its count.
@@ -52,20 +59,29 @@ pub(crate) fn read_list(
     signed: bool,
     most: u64,
     into: &mut [u64],
-) -> Result<Read<u64>, Unreadable>
+) -> Result<Read<u64>, BrokenPart>
     ensures { let longest = length into.old in
         MatchResult result
         (λ read. ListFollows text.now at (name_text name) longest signed most read into.old into.new)
         (λ broken. ListBroken text.now at (name_text name) longest signed most broken into.old into.new) }
 {
-    let counted = read_count(text, at, name, into.len() as u64)?;
-    let value = counted.value;
-    let next = fill_numbers(
-        text,
-        counted.next,
-        signed,
-        most,
-        &mut into[..value as usize],
-    )?;
-    Ok(Read { value, next })
+    match read_count(text, at, name, into.len() as u64) {
+        Ok(counted) => {
+            let value = counted.value;
+            match fill_numbers(
+                text,
+                counted.next,
+                signed,
+                most,
+                &mut into[..value as usize],
+            ) {
+                Ok(next) => Ok(Read { value, next }),
+                Err(broken) => Err(BrokenPart {
+                    broken,
+                    number: value,
+                }),
+            }
+        }
+        Err(broken) => Err(BrokenPart { broken, number: 0 }),
+    }
 }

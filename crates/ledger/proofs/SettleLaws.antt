@@ -1,8 +1,8 @@
 -- Laws of the open call of settlement: what a month that is due is worked from, and what is promised where the call
 -- refuses and where it settles; an accepted month's balances and transfers one by one. Assumes nothing.
 use mathlib.Core.Path.{◌≡◌, refl, sym, ◌∙◌, ap}
-use mathlib.Core.Bool.{true}
-use mathlib.Core.List.{List}
+use mathlib.Core.Bool.{true, false}
+use mathlib.Core.List.{List, []}
 use Prim.Native.Nat.{ℕ, ◌*◌, ◌<◌}
 use native.Mathlib.Omega.{arith}
 use lib.Dec.{eqb}
@@ -13,12 +13,14 @@ use Rattle.numbers.specs.Bounded.{list_below}
 use Rattle.numbers.specs.Refusal.{Verdict, is_passed}
 use Rattle.numbers.specs.Sizes.{most_distributors}
 use Rattle.numbers.specs.declared.refusal.Refusal.{Refusal}
+use Rattle.numbers.specs.declared.units.Pesos.{Pesos}
 use Rattle.numbers.specs.declared.refusal.Refusal.TheVariants.{Unsound, WrongLength, OutOfTurn, NoFixing, WrongReading}
 use Rattle.numbers.specs.declared.refusal.Refusal.TheVariants.{PositionBeyond}
 use Rattle.std.specs.Prelude.{Ok, Err}
+use Rattle.numbers.specs.Checks.{verdict_of}
 use Rattle.numbers.proofs.BoolLaws.{and_three}
 use Rattle.numbers.proofs.ListLaws.{list_at}
-use Rattle.numbers.proofs.CheckLaws.{AllTold, check_told, judged}
+use Rattle.numbers.proofs.CheckLaws.{AllTold, FirstPass, passes, refused_unless, check_told, judged}
 use Rattle.numbers.proofs.CheckLaws.{answer_passed, answer_refused}
 use Rattle.fixing.specs.declared.sector.SectorCharges.{SectorCharges}
 use Rattle.settlement.specs.Amount.{billing_in_range}
@@ -136,6 +138,35 @@ module _ (ledger : Ledger) (call : SettlementCall) where
               };
           bounded = sound_charges ledger whole call.month;
         }
+
+    module _ (turn : settlement_turn (any_settled ledger) (next_month ledger) ledger.fixed ledger.month call.month ≡ true)
+        (in_force : ledger.fixed ≡ true) where
+      -- the checks that a month which is due has passed
+      pub first_due : FirstPass 4 (settlement_checks ledger call)
+      unfolding FirstPass settlement_checks
+      first_due = (
+        passes Unsound whole,
+        (passes WrongLength lengths, (passes OutOfTurn turn, (passes NoFixing in_force, tt))),
+      )
+
+      module _ (billed : billing_in_range ledger.n under.present call.readings call.losses ≡ true) where
+        pub first_billed : FirstPass 5 (settlement_checks ledger call)
+        unfolding FirstPass settlement_checks
+        first_billed = (
+          passes Unsound whole,
+          (
+            passes WrongLength lengths,
+            (passes OutOfTurn turn, (passes NoFixing in_force, (passes WrongReading billed, tt))),
+          ),
+        )
+
+        pub position_beyond : (positions : List Pesos) → positions ≡ positions_of ledger call →
+            positions_in_range ledger.n (money_at positions) ≡ false →
+            verdict_of (settlement_checks ledger call) ≡ Err PositionBeyond
+        unfolding FirstPass settlement_checks
+        position_beyond positions e f =
+            refused_unless 5 (settlement_checks ledger call) 13 _ PositionBeyond [] first_billed refl
+            (ap (λ (l : List Pesos). positions_in_range ledger.n (money_at l)) (sym e) ∙ f)
 
 -- what an accepted settlement hands back for distributor i: the balance and the transfer that the definitions settle
 module _ (ledger next : Ledger) (call : SettlementCall) (list : List ℤ)

@@ -448,3 +448,13 @@ module _ (one other : Term → ℕ) (line : Line)
   allowed_same =
       ap₂ (λ r p. indexed_within most_power_price line.power_base_price r && between 1 most_power_price p) ratio_same
       power_same
+
+-- a line's price in force: none past the list's end, else the word at its place
+module _ (in_force : List ℕ) (j : ℕ) where
+  pub none_in_force : length in_force ≤ j → price_in_force in_force j ≡ None
+  unfolding price_in_force
+  none_in_force p = rw (le-ltb j (length in_force) p)
+
+  pub some_in_force : j < length in_force → price_in_force in_force j ≡ Some (get_or in_force j 0)
+  unfolding price_in_force
+  some_in_force p = rw (lt-ltb j (length in_force) p)

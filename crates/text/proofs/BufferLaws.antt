@@ -1,61 +1,46 @@
--- Laws of text in a buffer: two texts one after another are one, and a text for which there is room stands in it whole.
--- Assumes nothing.
+-- Laws of what is written to: two texts one after another are one; and a text for which there is room stands in a text of
+-- its own whole. Assumes nothing.
 use mathlib.Core.Path.{◌≡◌, refl, sym, ◌∙◌, ap}
-use mathlib.Core.List.{List, [], ◌∷◌, ◌++◌, append_assoc, append-nil}
-use Prim.Native.Nat.{ℕ, zero, suc, ◌+◌, ◌-◌, ◌≤◌, ◌<◌}
+use mathlib.Core.List.{List, [], ◌++◌, append-nil}
+use Prim.Native.Nat.{ℕ, ◌+◌, ◌-◌, ◌≤◌, ◌<◌}
 use native.Mathlib.Numerals.{add-one}
 use native.Mathlib.Omega.{arith}
-use lib.ListN.{length, get_or, take, drop, length-append, length-take}
+use lib.ListN.{length, get_or, drop}
 use lib.Seq.{take_all}
 use Rattle.std.proofs.lemmas.List.{drop_more, drop_all}
 use Rattle.std.specs.List.{flat_map}
 use Rattle.text.specs.Buffer.{written}
 use Rattle.text.specs.Text.{text_below}
 
--- a part of two texts
-take_both : (n : ℕ) (a b : List ℕ) → take n (a ++ b) ≡ take n a ++ take (n - length a) b
-take_both zero a b = grind arith
-take_both (suc n) [] b =
-    let left : suc n - 0 ≡ suc n = omega arith in
-    rw left
-take_both (suc n) (byte ∷ a) b =
-    let left : suc n - suc (length a) ≡ n - length a = omega arith in
-    rw left (ap (λ (text : List ℕ). byte ∷ text) (take_both n a b))
+module _ {H : Type 0} (after : List ℕ → H → H)
+    (both : (a b : List ℕ) (held next last : H) → next ≡ after a held → last ≡ after b next → last ≡ after (a ++ b) held)
+  where
+    -- what is left of a list, each of whose items is written as a text, when one more is written
+    pub items_more : {A : Type 0} (f : A → List ℕ) (items : List A) (i : ℕ) (d : A) (held next : H) → i < length items →
+        next ≡ after (f (get_or items i d)) held →
+        after (flat_map f (drop (i + 1) items)) next ≡ after (flat_map f (drop i items)) held
+    items_more f items i d held next p e =
+        both (f (get_or items i d)) (flat_map f (drop (i + 1) items)) held next _ e refl
+        ∙ ap (λ rest. after (flat_map f rest) held) (sym (drop_more items i d p))
+
+    -- a loop that writes text after text: one more of them
+    pub texts_more : (f : ℕ → List ℕ) (held : H) (k : ℕ) (next last : H) → next ≡ after (text_below k f) held →
+        last ≡ after (f k) next → last ≡ after (text_below (k + 1) f) held
+    unfolding text_below
+    texts_more f held k next last p q = rw add-one (both (text_below k f) (f k) held next last p q)
+
+module _ {H : Type 0} (after : List ℕ → H → H) (none : (held : H) → after [] held ≡ held) where
+  -- no item is left
+  pub items_all : {A : Type 0} (f : A → List ℕ) (items : List A) (i : ℕ) (held : H) → length items ≤ i →
+      after (flat_map f (drop i items)) held ≡ held
+  items_all f items i held p = ap (λ rest. after (flat_map f rest) held) (drop_all i items p) ∙ none held
+
+  -- none of the texts of a loop
+  pub texts_none : (f : ℕ → List ℕ) (held : H) → held ≡ after (text_below 0 f) held
+  unfolding text_below
+  texts_none f held = sym (none held)
 
 module _ (size : ℕ) where
-  -- no text
-  pub written_none : (held : List ℕ) → written size [] held ≡ held
-  unfolding written
-  written_none held =
-      let none : take {A = ℕ} (size - length held) [] ≡ [] = take_all (size - length held) [] (omega arith) in
-      rw none (append-nil held)
-
-  -- one text after another
-  pub written_more : (a b held : List ℕ) → written size b (written size a held) ≡ written size (a ++ b) held
-  unfolding written
-  written_more a b held =
-      let part = take (size - length held) a in
-      let room : size - length (held ++ part) ≡ size - length held - length a =
-      simp (length-append, length-take) (omega arith) in
-      rw (room, take_both (size - length held) a b) (append_assoc held part (take (size - length held - length a) b))
-
-  -- what two calls have written
-  pub written_after : (a b held next last : List ℕ) → next ≡ written size a held → last ≡ written size b next →
-      last ≡ written size (a ++ b) held
-  written_after a b held next last p q = q ∙ ap (written size b) p ∙ written_more a b held
-
-  -- what is left of a list, each of whose items is written as a text, when one more is written; and nothing is left
-  module _ {A : Type 0} (f : A → List ℕ) (items : List A) (i : ℕ) where
-    pub items_more : (d : A) (held next : List ℕ) → i < length items → next ≡ written size (f (get_or items i d)) held →
-        written size (flat_map f (drop (i + 1) items)) next ≡ written size (flat_map f (drop i items)) held
-    items_more d held next p e =
-        written_after (f (get_or items i d)) (flat_map f (drop (i + 1) items)) held next _ e refl
-        ∙ ap (λ (rest : List A). written size (flat_map f rest) held) (sym (drop_more items i d p))
-
-    pub items_all : (held : List ℕ) → length items ≤ i → written size (flat_map f (drop i items)) held ≡ held
-    items_all held p =
-        ap (λ (rest : List A). written size (flat_map f rest) held) (drop_all i items p) ∙ written_none held
-
   -- a text for which there is room stands whole after what was written before
   pub text_stands : (text held : List ℕ) → length held + length text ≤ size → written size text held ≡ held ++ text
   unfolding written
@@ -67,14 +52,3 @@ module _ (size : ℕ) where
   text_full text held full =
       let none : size - length held ≡ 0 = omega (arith, full) in
       rw none (append-nil held)
-
-  -- a loop that writes text after text: none of them, and one more
-  module _ (f : ℕ → List ℕ) (held : List ℕ) where
-    pub texts_none : held ≡ written size (text_below 0 f) held
-    unfolding text_below
-    texts_none = sym (written_none held)
-
-    pub texts_more : (k : ℕ) (next last : List ℕ) → next ≡ written size (text_below k f) held →
-        last ≡ written size (f k) next → last ≡ written size (text_below (k + 1) f) held
-    unfolding text_below
-    texts_more k next last p q = rw add-one (written_after (text_below k f) (f k) held next last p q)

@@ -3,16 +3,17 @@ use mathlib.Core.Path.{◌≡◌, refl, ap}
 use mathlib.Core.Bool.{Bool, true, false, cond}
 use mathlib.Core.List.{List, [], ◌∷◌}
 use mathlib.Core.Logic.{inl, inr}
-use Prim.Native.Nat.{ℕ, ◌+◌, ◌≤◌}
+use Prim.Native.Nat.{ℕ, suc, ◌+◌, ◌≤◌, ◌<◌}
+use native.Mathlib.Numerals.{add-one}
 use native.Mathlib.Omega.{arith}
 use lib.Dec.{eqb, ltb}
-use lib.ListN.{length, take, length-take}
-use lib.Seq.{take_all}
+use lib.ListN.{length, get_or, take, drop, length-take, drop_of_length-le}
+use lib.Seq.{take_all, drop-cons}
 use Rattle.std.specs.List.{position_or_len}
 use Rattle.std.specs.Prelude.{Some, None}
 use Rattle.std.specs.Option.{unwrap_or}
 use Rattle.std.proofs.lemmas.Bool.{cases_lt}
-use borrow.Author.Tests.{lt-ltb, le-ltb}
+use borrow.Author.Tests.{lt-ltb, le-ltb, eq-eqb, ne_eqb}
 use Rattle.std.proofs.lemmas.List.Recursion.{is_position_or_len}
 use Rattle.text.specs.Text.{blank, before_blank, name_text}
 
@@ -66,3 +67,23 @@ place_or name whole =
       | inl q ↦ rw (lt-ltb place (length name) q) refl
       | inr q ↦ rw (le-ltb place (length name) q) (omega arith)
     ]
+
+-- a name of 12 bytes is what stands before its first blank
+pub name_whole : (name : List ℕ) → length name ≡ 12 → name_text name ≡ before_blank name
+unfolding name_text
+name_whole name whole = ap before_blank (take_all 12 name (omega (arith, whole)))
+
+-- the first blank: it stands at k, not there, nowhere
+module _ (name : List ℕ) (k : ℕ) where
+  pub name_ends : k < length name → get_or name k 0 ≡ blank → length (before_blank (drop k name)) ≡ 0
+  unfolding before_blank
+  name_ends p e = rw (drop-cons name k 0 p, eq-eqb (get_or name k 0) blank e)
+
+  pub name_goes : k < length name → (get_or name k 0 ≡ blank → ⊥) →
+      length (before_blank (drop k name)) ≡ suc (length (before_blank (drop (k + 1) name)))
+  unfolding before_blank
+  name_goes p e = rw (add-one, drop-cons name k 0 p, ne_eqb (get_or name k 0) blank e)
+
+  pub name_over : length name ≤ k → length (before_blank (drop k name)) ≡ 0
+  unfolding before_blank
+  name_over p = rw (drop_of_length-le name p)

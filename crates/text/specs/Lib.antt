@@ -1,3 +1,5 @@
 pub mod Text
 pub mod Buffer
 pub mod Row
+pub mod Lent
+pub mod LentText

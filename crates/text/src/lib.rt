@@ -3,6 +3,7 @@
 #![tactic(auto)]
 
 pub mod buffer;
+pub mod lent;
 pub mod name;
 pub mod number;
 pub mod row;

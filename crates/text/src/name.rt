@@ -1,9 +1,8 @@
 // Names: what a command, a list or a number is called. A name has 12 bytes, the last of them blank where it is shorter.
 ghost use Rattle.std.specs.Prelude.{◌≡◌};
 ghost use Rattle.text.specs.Text.{name_text};
-ghost use Rattle.text.specs.Buffer.{written};
 
-use crate::buffer::Text;
+use crate::buffer::Writable;
 
 pub const NAME: usize = 12;
 
@@ -16,8 +15,8 @@ pub fn name_bytes(name: &[u8; NAME]) -> &[u8]
 }
 
 // Writes a name.
-pub fn write_name<const SIZE: usize>(text: &mut Text<SIZE>, name: [u8; NAME])
-    ensures { text.new ≡ written SIZE (name_text name) text.old }
+pub fn write_name<T: Writable>(text: &mut T, name: [u8; NAME])
+    ensures { text.new ≡ T.after (name_text name) text.old }
 {
     text.push_all(name_bytes(&name));
 }

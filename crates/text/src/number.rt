@@ -1,9 +1,8 @@
 // Numbers as text.
 ghost use Rattle.std.specs.Prelude.{◌≡◌, ℕ, List, ◌∷◌, ◌++◌};
 ghost use Rattle.text.specs.Text.{blank, decimal, integer, words_text};
-ghost use Rattle.text.specs.Buffer.{written};
 
-use crate::buffer::Text;
+use crate::buffer::{Text, Writable};
 use numbers::units::Pesos;
 
 // The most bytes of a number of 64 bits.
@@ -13,19 +12,28 @@ pub const DIGITS: usize = 20;
 pub trait Decimal: Copy {
     ghost shown: { Self → List ℕ };
 
+    // As a text of its own.
     fn decimal(self) -> Text<DIGITS>
         ensures { result ≡ shown self };
+
+    // Written straight to a text: the digits are copied once.
+    fn write_to<T: Writable>(self, text: &mut T)
+        ensures { text.new ≡ T.after (shown self) text.old };
 }
 
 impl Decimal for u64 {
     ghost shown = { decimal };
 
     fn decimal(self) -> Text<DIGITS> {
+        let mut text = Text::new();
+        self.write_to(&mut text);
+        text
+    }
+
+    fn write_to<T: Writable>(self, text: &mut T) {
         let mut digits = [0u8; DIGITS];
         let size = io::decimal(self, &mut digits);
-        let mut text = Text::new();
         text.push_all(&digits[..size]);
-        text
     }
 }
 
@@ -35,19 +43,27 @@ impl Decimal for u8 {
     fn decimal(self) -> Text<DIGITS> {
         u64::from(self).decimal()
     }
+
+    fn write_to<T: Writable>(self, text: &mut T) {
+        u64::from(self).write_to(text);
+    }
 }
 
 impl Decimal for i64 {
     ghost shown = { integer };
 
     fn decimal(self) -> Text<DIGITS> {
-        if self >= 0 {
-            return self.unsigned_abs().decimal();
-        }
         let mut text = Text::new();
-        text.push(b'-');
-        write_decimal(&mut text, self.unsigned_abs());
+        self.write_to(&mut text);
         text
+    }
+
+    fn write_to<T: Writable>(self, text: &mut T) {
+        if self >= 0 {
+            return self.unsigned_abs().write_to(text);
+        }
+        text.push(b'-');
+        self.unsigned_abs().write_to(text);
     }
 }
 
@@ -57,34 +73,38 @@ impl Decimal for Pesos {
     fn decimal(self) -> Text<DIGITS> {
         self.0.decimal()
     }
+
+    fn write_to<T: Writable>(self, text: &mut T) {
+        self.0.write_to(text);
+    }
 }
 
 // Writes a number.
-pub(crate) fn write_decimal<const SIZE: usize, N: Decimal>(text: &mut Text<SIZE>, x: N)
-    ensures { text.new ≡ written SIZE (N.shown x) text.old }
+pub(crate) fn write_decimal<T: Writable, N: Decimal>(text: &mut T, x: N)
+    ensures { text.new ≡ T.after (N.shown x) text.old }
 {
-    text.push_all(x.decimal().as_bytes());
+    x.write_to(text);
 }
 
 // Writes a blank and a number.
-pub fn write_word<const SIZE: usize, N: Decimal>(text: &mut Text<SIZE>, x: N)
-    ensures { text.new ≡ written SIZE (blank ∷ N.shown x) text.old }
+pub fn write_word<T: Writable, N: Decimal>(text: &mut T, x: N)
+    ensures { text.new ≡ T.after (blank ∷ N.shown x) text.old }
 {
     text.push(b' ');
     write_decimal(text, x);
 }
 
 // Writes a name, and a number after a blank.
-pub fn write_item<const SIZE: usize, N: Decimal>(text: &mut Text<SIZE>, name: &[u8], x: N)
-    ensures { text.new ≡ written SIZE (name.now ++ blank ∷ N.shown x) text.old }
+pub fn write_item<T: Writable, N: Decimal>(text: &mut T, name: &[u8], x: N)
+    ensures { text.new ≡ T.after (name.now ++ blank ∷ N.shown x) text.old }
 {
     text.push_all(name);
     write_word(text, x);
 }
 
 // Writes numbers, each after a blank.
-pub fn write_words<const SIZE: usize, N: Decimal>(text: &mut Text<SIZE>, numbers: &[N])
-    ensures { text.new ≡ written SIZE (words_text N.shown numbers.now) text.old }
+pub fn write_words<T: Writable, N: Decimal>(text: &mut T, numbers: &[N])
+    ensures { text.new ≡ T.after (words_text N.shown numbers.now) text.old }
 {
     for number in numbers {
         write_word(text, *number);

@@ -51,7 +51,7 @@ fn calls_of(call: &[u8]) -> Option<Calls> {
 
 // The number of a word.
 fn count_of(count: &[u8]) -> Option<u64> {
-    Some(next_number(count, 0, false, u64::MAX).ok()?.value)
+    Some(next_number(count, Ok(0), false, u64::MAX).ok()?.value)
 }
 
 // Whether there is an argument at this place, however long.

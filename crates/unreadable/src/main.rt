@@ -2,6 +2,8 @@
 
 #![tactic(auto)]
 
+ghost use Rattle.std.specs.Prelude.{◌≡◌, length};
+
 use commands::run::replay;
 
 // The file descriptor of standard output.
@@ -191,9 +193,11 @@ const JOURNALS: [(&[u8], &[u8]); 52] = [
     (b"an error in a comment", b"# opne 3\nopen 41\nsave"),
 ];
 
-// So many blanks, from a function so that no goal writes them out.
-fn blanks<const SIZE: usize>() -> [u8; SIZE] {
-    [b' '; SIZE]
+// One byte more than the longest text, all blanks, from a function so that no goal writes them out.
+fn blanks() -> [u8; 524289]
+    ensures { 524289 ≡ length result }
+{
+    [b' '; 524289]
 }
 
 // Replays a journal under a title.
@@ -204,10 +208,19 @@ fn report(title: &[u8], text: &[u8]) {
     replay(text);
 }
 
+// Replays the first bytes of a text under a title.
+fn report_first(title: &[u8], text: &[u8], count: usize) {
+    if count <= text.len() {
+        report(title, &text[..count]);
+    }
+}
+
 fn main() {
     for (title, text) in JOURNALS {
         report(title, text);
     }
-    report(b"a text too long", &blanks::<524289>());
-    report(b"the longest text", &blanks::<524288>());
+    // One list for both, since two would stand on the stack side by side.
+    let long = blanks();
+    report(b"a text too long", &long);
+    report_first(b"the longest text", &long, 524288);
 }

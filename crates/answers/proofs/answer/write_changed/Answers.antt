@@ -1,7 +1,6 @@
 -- The line, or nothing.
 use Rattle.std.proofs.Common.{sym}
 use Rattle.answers.specs.Answer.{changed_text}
-use Rattle.text.proofs.BufferLaws.{written_none}
 use Rattle.answers.proofs.answer.write_changed.Goals as goal
 
 pub returns-then-not-unwritten : goal.returns-then-not-unwritten
@@ -10,4 +9,4 @@ returns-then-not-unwritten g c = rw c.if-not-unwritten.true c.write_changed_line
 
 pub returns-else-not-unwritten : goal.returns-else-not-unwritten
 unfolding changed_text
-returns-else-not-unwritten g c = rw c.if-not-unwritten.false (sym (written_none g.row.SIZE _))
+returns-else-not-unwritten g c = rw c.if-not-unwritten.false (sym (g.met.T.Writable.after_none _))

@@ -1,16 +1,11 @@
--- The line, then rows or what was changed.
-use Rattle.text.proofs.BufferLaws.{written_after}
-use Rattle.answers.specs.Answer.{answer_text, fixed_text}
+-- The line, then what stands under it.
+use Rattle.std.proofs.Common.{ap, ◌∙◌}
+use Rattle.answers.specs.Answer.{fixed_rows, fixed_text}
+use Rattle.answers.proofs.AnswerLaws.{answer_under}
 use Rattle.answers.proofs.answer.write_fixed.Goals as goal
 
-pub returns-in-Ok : goal.returns-in-Ok
-unfolding answer_text fixed_text
-returns-in-Ok g c =
-    rw c.in-Ok.is (written_after g.row.SIZE _ _ _ _ _ (rw c.in-Ok.is at c.write_fixing.ensures) c.write_rows.ensures)
-
-pub returns-in-Err : goal.returns-in-Err
-unfolding answer_text fixed_text
-returns-in-Err g c =
-    rw c.in-Err.is
-    (written_after g.row.SIZE _ _ _ _ _ (rw c.in-Err.is at c.write_fixing.ensures)
-    (rw (c.is_unwritten.ensures, c.is_unwritten-in-Err.ensures) at c.write_changed.ensures))
+pub returns : goal.returns
+unfolding fixed_rows fixed_text
+returns g c =
+    g.met.T.Writable.after_both _ _ _ _ _ c.write_fixing.ensures (rw c.is_ok.ensures.value at c.write_fixed_rows.ensures)
+    ∙ ap (λ text. g.T.Writable.after text c.args.text.now) (answer_under _ c.args.answer _ _)

@@ -21,7 +21,7 @@ within {n} {readings} {buffer} {left} (Ok used) promise = written_within n readi
 within (Err refusal) promise = tt
 
 pub write_sheet_written-requires : goal.write_sheet_written-requires
-write_sheet_written-requires c = (omega arith, within _ c.write_sheet-used.ensures)
+write_sheet_written-requires c = within _ c.write_sheet-used.ensures
 
 pub returns : goal.returns
 unfolding unwritten_bytes sheet_writing_text write_verdict parts_in parts_below list_below

@@ -2,20 +2,19 @@
 use mathlib.Core.Path.{◌≡◌, sym, ◌∙◌, ap, ap₂}
 use native.Mathlib.Omega.{arith}
 use lib.ListN.{length}
-use Rattle.text.specs.Buffer.{written}
-use Rattle.text.proofs.BufferLaws.{texts_none, texts_more, written_after}
+use Rattle.text.proofs.BufferLaws.{texts_none, texts_more}
 use Rattle.journal.specs.Form.{part_at, held_of, parts_in, part_text, form_text}
 use Rattle.journal.proofs.FormLaws.{part_held, text_whole}
 use Rattle.journal.proofs.form.write_form.Goals as goal
 
 pub loop-k-init : goal.loop-k-init
-loop-k-init g c = texts_none g.row.SIZE _ _
+loop-k-init g c = texts_none g.T.Writable.after g.met.T.Writable.after_none _ _
 
 pub loop-k-preserved : goal.loop-k-preserved
 loop-k-preserved g c =
-    texts_more g.row.SIZE _ _ c.loop-k.k _ _ c.loop-k.invariant
+    texts_more g.T.Writable.after g.met.T.Writable.after_both _ _ c.loop-k.k _ _ c.loop-k.invariant
     (c.write.ensures
-    ∙ ap (λ held. written g.row.SIZE (part_text (part_at c.args.form.now c.loop-k.k) held) c.loop-k.text)
+    ∙ ap (λ held. g.T.Writable.after (part_text (part_at c.args.form.now c.loop-k.k) held) c.loop-k.text)
     (ap₂ held_of c.number_of.ensures c.words_of.ensures
     ∙ sym (part_held c.args.parts.now c.args.words.now c.loop-k.k (omega (arith, c.requires.few)))))
 
@@ -23,8 +22,8 @@ pub returns : goal.returns
 unfolding form_text
 returns g c =
     let last : c.loop-k.k ≡ length c.args.form.now = omega arith in
-    written_after g.row.SIZE _ _ _ _ _
-    (written_after g.row.SIZE _ _ _ _ _ c.write_name.ensures
+    g.met.T.Writable.after_both _ _ _ _ _
+    (g.met.T.Writable.after_both _ _ _ _ _ c.write_name.ensures
     (rw (text_whole c.args.form.now (parts_in c.args.parts.now c.args.words.now) c.requires.few) at
     (rw last at c.loop-k.invariant)))
     c.push.ensures

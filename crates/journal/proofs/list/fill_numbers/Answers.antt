@@ -14,11 +14,11 @@ pub returns-in_err-number : goal.returns-in_err-number
 returns-in_err-number c =
     let p = err_from_is_err_and c.from_residual.result c.from_residual.ensures.1 in
     rw (p.1, p.2, set-get_or c.loop-place.into c.loop-place.place-index 0, ← c.fill.ensures.len)
-    (numbers_broken c.loop-place.invariant (sym c.next_number.ensures ∙ c.in_err-number.was) (omega arith))
+    (numbers_broken c.loop-place.invariant (sym c.number_after.ensures ∙ c.in_err-number.was) (omega arith))
 
 pub loop-place-preserved : goal.loop-place-preserved
 loop-place-preserved c =
-    numbers_more c.loop-place.invariant (sym c.next_number.ensures ∙ c.in_ok-number.was) (omega arith)
+    numbers_more c.loop-place.invariant (sym c.number_after.ensures ∙ c.in_ok-number.was) (omega arith)
 
 pub returns : goal.returns
 returns c =

@@ -12,4 +12,4 @@ returns-in_err-named c =
 
 pub returns : goal.returns
 unfolding count_after
-returns c = rw (c.next_number.ensures, sym c.next_name.ensures ∙ c.in_ok-named.was) refl
+returns c = rw (c.number_after.ensures, sym c.next_name.ensures ∙ c.in_ok-named.was) refl

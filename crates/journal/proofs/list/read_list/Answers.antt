@@ -4,55 +4,52 @@ use mathlib.Core.List.{◌++◌}
 use Prim.Native.Nat.{◌≤◌}
 use lib.ListN.{length, take, drop}
 use lib.Seq.{length-take-le}
-use Rattle.std.proofs.lemmas.Result.{err_from_is_err_and, IfOk-at_ok}
+use Rattle.std.proofs.lemmas.Result.{IfOk-at_ok}
 use Rattle.journal.specs.List.{list_after, list_left}
 use Rattle.journal.proofs.ListLaws.{count_most, numbers_length}
 use Rattle.journal.proofs.list.read_list.Goals as goal
-use Rattle.journal.proofs.list.read_list.Goals.{In_ok-counted}
+use Rattle.journal.proofs.list.read_list.Goals.{In-Ok}
 
 -- the count lies within the lent list
-counted : (c : In_ok-counted) → c.in_ok-counted.counted.value ≤ length c.args.into.now
+counted : (c : In-Ok) → c.in-Ok.counted.value ≤ length c.args.into.now
 counted c =
-    IfOk-at_ok (λ read. read.value ≤ length c.args.into.now) (sym c.read_count.ensures ∙ c.in_ok-counted.was)
+    IfOk-at_ok (λ read. read.value ≤ length c.args.into.now) (sym c.read_count.ensures ∙ c.in-Ok.is)
     (count_most _ _ _ _)
 
-room : (c : In_ok-counted) →
-    length (take c.in_ok-counted.counted.value c.args.into.now) ≡ c.in_ok-counted.counted.value
+room : (c : In-Ok) → length (take c.in-Ok.counted.value c.args.into.now) ≡ c.in-Ok.counted.value
 room c = length-take-le _ _ (counted c)
 
 pub slice_bounds-fill_numbers-end : goal.slice_bounds-fill_numbers-end
-slice_bounds-fill_numbers-end c = counted (goal.at.slice_bounds-fill_numbers-end c).In_ok-counted
+slice_bounds-fill_numbers-end c = counted (goal.at.slice_bounds-fill_numbers-end c).In-Ok
 
-pub slice_bounds-fill_numbers-end-2 : goal.slice_bounds-fill_numbers-end-2
-slice_bounds-fill_numbers-end-2 c = sym (room (goal.at.slice_bounds-fill_numbers-end-2 c).In_ok-counted)
+pub slice_bounds-fill_numbers-end-in-Ok : goal.slice_bounds-fill_numbers-end-in-Ok
+slice_bounds-fill_numbers-end-in-Ok c = sym (room (goal.at.slice_bounds-fill_numbers-end-in-Ok c).In-Ok)
 
-pub returns-in_err-counted : goal.returns-in_err-counted
+pub returns-in-Err : goal.returns-in-Err
 unfolding list_after list_left
-returns-in_err-counted c =
-    let p = err_from_is_err_and c.from_residual.result c.from_residual.ensures.1 in
-    let e = sym c.read_count.ensures ∙ c.in_err-counted.was in
-    rw (p.1, p.2) (record { after = rw e refl; lent = rw e refl })
+returns-in-Err c =
+    let e = sym c.read_count.ensures ∙ c.in-Err.is in
+    record { after = rw e refl; counted = rw e refl; lent = rw e refl }
 
-pub returns-in_err-next : goal.returns-in_err-next
+pub returns-in-Err-fill_numbers : goal.returns-in-Err-fill_numbers
 unfolding list_after list_left
-returns-in_err-next c =
-    let p = err_from_is_err_and c.from_residual-in_err-next.result c.from_residual-in_err-next.ensures.1 in
-    let e = sym c.read_count.ensures ∙ c.in_ok-counted.was in
-    let broken = rw (room (goal.at.returns-in_err-next c).In_ok-counted) at c.in_err-next.ensures in
-    rw (p.1, p.2)
-    (record {
+returns-in-Err-fill_numbers c =
+    let e = sym c.read_count.ensures ∙ c.in-Ok.is in
+    let broken = rw (c.in-Err-fill_numbers.is, room (goal.at.returns-in-Err-fill_numbers c).In-Ok) at c.fill_numbers.ensures in
+    record {
       after = rw e broken.0;
-      lent = rw e (ap (λ l. l ++ drop c.in_ok-counted.counted.value c.args.into.now) broken.1);
-    })
+      counted = rw e refl;
+      lent = rw e (ap (λ l. l ++ drop c.in-Ok.counted.value c.args.into.now) broken.1);
+    }
 
-pub returns : goal.returns
+pub returns-in-Ok-fill_numbers : goal.returns-in-Ok-fill_numbers
 unfolding list_after
-returns c =
-    let numbers = rw (room (goal.at.returns c).In_ok-counted) at c.in_ok-next.ensures in
+returns-in-Ok-fill_numbers c =
+    let numbers = rw (c.in-Ok-fill_numbers.is, room (goal.at.returns-in-Ok-fill_numbers c).In-Ok) at c.fill_numbers.ensures in
     record {
       words = c.fill_numbers.new.into;
-      after = rw (sym c.read_count.ensures ∙ c.in_ok-counted.was) numbers;
-      counted = sym (IfOk-at_ok (λ read. length read.value ≡ c.in_ok-counted.counted.value) numbers
+      after = rw (sym c.read_count.ensures ∙ c.in-Ok.is) numbers;
+      counted = sym (IfOk-at_ok (λ read. length read.value ≡ c.in-Ok.counted.value) numbers
           (numbers_length _ _ _ _ _));
       lent = refl;
     }

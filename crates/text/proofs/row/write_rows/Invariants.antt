@@ -1,6 +1,5 @@
 -- The invariant: the rows before the i-th are written.
 use Rattle.std.proofs.Common.{◌≡◌}
-use Rattle.text.specs.Buffer.{written}
 use Rattle.text.specs.Row.{row_of}
 use Rattle.text.specs.Text.{text_below}
 use Rattle.text.proofs.row.write_rows.Given as goal
@@ -8,6 +7,6 @@ use Rattle.text.proofs.row.write_rows.Given as goal
 abbrev pub invariant-loop-i : goal.invariant-loop-i
 invariant-loop-i g l =
     l.text
-    ≡ written g.row.SIZE
+    ≡ g.T.Writable.after
     (text_below l.i (row_of g.N.Decimal.shown g.C.Decimal.shown l.list l.width l.column))
     l.initial.text

@@ -2,13 +2,12 @@
 use mathlib.Core.Path.{sym}
 use mathlib.Core.Logic.{inl, inr}
 use Rattle.text.specs.Text.{word}
-use Rattle.text.proofs.BufferLaws.{written_none}
 use Rattle.journal.specs.Form.{part_text}
 use Rattle.journal.proofs.form.Part.write.Goals as goal
 
 pub returns-in-Nothing : goal.returns-in-Nothing
 unfolding part_text
-returns-in-Nothing g c = rw c.in-Nothing.is (sym (written_none g.row.SIZE c.args.text.now))
+returns-in-Nothing g c = rw c.in-Nothing.is (sym (g.met.T.Writable.after_none c.args.text.now))
 
 pub returns-in-Number : goal.returns-in-Number
 unfolding part_text word

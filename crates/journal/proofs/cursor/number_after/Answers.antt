@@ -1,6 +1,6 @@
 -- By the next token.
 use Rattle.journal.specs.Cursor.{number_after}
-use Rattle.journal.proofs.cursor.next_number.Goals as goal
+use Rattle.journal.proofs.cursor.number_after.Goals as goal
 
 pub returns : goal.returns
 unfolding number_after

@@ -1,14 +1,14 @@
 -- The invariant: the first k parts are read, each list where the longest ones before it would end;
 -- the words from there on are as they were lent.
-use mathlib.Core.Path.{◌≡◌, ap}
+use mathlib.Core.Path.{◌≡◌, ap, ◌∙◌}
 use Prim.Native.Nat.{◌+◌, ◌*◌, ◌^◌, ◌≤◌, ◌<◌}
 use native.Mathlib.Omega.{arith}
 use lib.ListN.{length}
-use Rattle.std.proofs.lemmas.Result.{err_from_is_err_and}
+use borrow.Rule.Slice.PartMut.{mid_len}
 use Rattle.journal.specs.Form.{part_count, place_of}
-use Rattle.journal.proofs.FormLaws.{form_none, form_fits, few_words, form_broken, form_more, form_whole}
-use Rattle.journal.proofs.form.read_form.Goals as goal
-use Rattle.journal.proofs.form.read_form.Goals.{After-room, At-loop-k}
+use Rattle.journal.proofs.FormLaws.{form_none, form_fits, few_words, few_broken, form_broken, form_more, form_whole}
+use Rattle.journal.proofs.form.form_after.Goals as goal
+use Rattle.journal.proofs.form.form_after.Goals.{After-room, At-loop-k}
 
 pub loop-k-init : goal.loop-k-init
 loop-k-init c = rw c.of_number-parts.ensures (form_none _ _ _ _)
@@ -42,13 +42,26 @@ offset_bounds-words-start c =
 pub slice_bounds-read-end : goal.slice_bounds-read-end
 slice_bounds-read-end c = fits (goal.at.slice_bounds-read-end c).After-room
 
-pub returns-in_err-read : goal.returns-in_err-read
-returns-in_err-read c =
-    let p = err_from_is_err_and c.from_residual.result c.from_residual.ensures.1 in
-    let r = (goal.at.returns-in_err-read c).After-room in
-    rw (p.1, p.2)
-    (form_broken _ _ _ _ c.loop-k.invariant (inside r) _ (ap (λ room. c.loop-k.start + room) c.room.ensures) (fits r)
-    c.read.new.into c.in_err-read.ensures (omega arith))
+pub overflow_add-end-in-Err : goal.overflow_add-end-in-Err
+overflow_add-end-in-Err c =
+    let r = (goal.at.overflow_add-end-in-Err c).After-room in
+    let broken = rw c.in-Err.is at c.read.ensures in
+    omega (
+      arith,
+      short (goal.at.overflow_add-end-in-Err c).At-loop-k,
+      c.count-in-Err.ensures,
+      fits r,
+      few_broken _ _ _ _ c.loop-k.invariant (inside r) _ (ap (λ room. c.loop-k.start + room) c.room.ensures) (fits r) _
+          broken,
+    )
+
+pub returns-in-Err : goal.returns-in-Err
+returns-in-Err c =
+    let r = (goal.at.returns-in-Err c).After-room in
+    form_broken _ _ _ _ c.loop-k.invariant (inside r) _ (ap (λ room. c.loop-k.start + room) c.room.ensures) (fits r)
+    c.read.new.into (rw c.in-Err.is at c.read.ensures) (omega arith)
+    (c.read.auto.into ∙ mid_len c.loop-k.start _ c.loop-k.words (fits r)) _
+    (ap (λ count. c.loop-k.start + count) c.count-in-Err.ensures)
 
 pub overflow_add-end : goal.overflow_add-end
 overflow_add-end c =
@@ -59,14 +72,14 @@ overflow_add-end c =
       c.count.ensures,
       fits r,
       few_words _ _ _ _ c.loop-k.invariant (inside r) _ (ap (λ room. c.loop-k.start + room) c.room.ensures) (fits r) _ _
-          c.in_ok-read.ensures,
+          (rw c.in-Ok.is at c.read.ensures),
     )
 
 pub loop-k-preserved : goal.loop-k-preserved
 loop-k-preserved c =
     let r = (goal.at.loop-k-preserved c).After-room in
     form_more _ _ _ _ c.loop-k.invariant (inside r) _ (ap (λ room. c.loop-k.start + room) c.room.ensures) (fits r) _ _
-    c.in_ok-read.ensures _ (ap (λ count. c.loop-k.start + count) c.count.ensures)
+    (rw c.in-Ok.is at c.read.ensures) _ (ap (λ count. c.loop-k.start + count) c.count.ensures)
 
 pub returns : goal.returns
 returns c =
