@@ -4,7 +4,7 @@
 use mathlib.Core.Path.{◌≡◌, refl, sym, ◌∙◌, ap, ap₂}
 use mathlib.Core.Bool.{Bool, true, false, cond, ◌&&◌, and-false, true≢false}
 use mathlib.Core.List.{List}
-use Rattle.std.specs.Prelude.{Option, Some, None, Ok, Err, IfSome}
+use Rattle.std.specs.Prelude.{Option, Some, None, Ok, Err, IfSome, is_some, option_and_then}
 use Rattle.std.proofs.lemmas.Option.{none-some, cond_some}
 use Prim.Native.Nat.{ℕ, ◌*◌, ◌≤◌, ◌<◌}
 use native.Mathlib.Omega.{arith}
@@ -110,6 +110,25 @@ module _ (mean : Term → ℕ) (line : Line) where
       let p = cond_some (indexed_within most_power_price line.power_base_price ratio) _ x h in
       rw (p.0, p.1)
 
+  -- in one: where that has none it has none
+  pub power_word : option_and_then (λ x. price_within most_power_price (line_purchase line x))
+      (indexed_by most_power_price line.power_base_price ratio) ≡ power_answer mean line
+  power_word = go (indexed_by most_power_price line.power_base_price ratio) refl
+    where
+      go : (price : Option ℕ) → indexed_by most_power_price line.power_base_price ratio ≡ price →
+          option_and_then (λ x. price_within most_power_price (line_purchase line x)) price ≡ power_answer mean line
+      go None h = sym (power_stopped h)
+      go (Some x) h = power_worked x h
+
+  -- there is one where it is allowed, and nowhere else
+  pub power_tells : is_some (power_answer mean line) ≡ power_allowed mean line
+  unfolding power_answer
+  power_tells = go (power_allowed mean line)
+    where
+      go : (b : Bool) → is_some (cond b (Some (power_purchase mean line)) None) ≡ b
+      go true = refl
+      go false = refl
+
   power_bound : power_allowed mean line ≡ true → power_purchase mean line ≤ most_power_price
   unfolding power_allowed
   power_bound h =
@@ -175,6 +194,20 @@ module _ (mean : Term → ℕ) (line : Line) where
         price_answer mean numbers line old ≡ reference_answer numbers line (price_taken old (line_indexed mean line))
     unfolding price_answer
     answer_allowed h = rw h
+
+    -- the reference from the indexed price: where there is none, factor or price is out of bounds, and nowhere else
+    abbrev pub indexed_reference : Option ℕ → Option PesoPrice
+    indexed_reference None = None
+    indexed_reference (Some indexed) = reference_answer numbers line (price_taken old indexed)
+
+    pub indexed_reference_lem : indexed_reference (indexed_answer mean line) ≡ price_answer mean numbers line old
+    unfolding indexed_answer indexed_by indexed_allowed line_indexed
+    indexed_reference_lem = go (indexed_allowed mean line) refl
+      where
+        go : (b : Bool) → indexed_allowed mean line ≡ b →
+            indexed_reference (cond b (Some (line_indexed mean line)) None) ≡ price_answer mean numbers line old
+        go true e = sym (answer_allowed e)
+        go false e = sym (answer_beyond e)
 
     -- a line without words is out of bounds, and one with them has the reference of the price that it takes
     pub wordless : (j : ℕ) → line_words mean line ≡ None →
