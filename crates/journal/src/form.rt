@@ -216,7 +216,7 @@ pub fn read_form(
 
 // Writes words, each after a blank, as numbers of either sign where they are signed.
 // `signed` is a flag, since the kind of a part says it when the text is written, and `words_by` takes it.
-fn write_words_by<T: Writable>(text: &mut T, signed: bool, words: &[u64])
+pub fn write_words_by<T: Writable>(text: &mut T, signed: bool, words: &[u64])
     ensures { text.new ≡ T.after (words_by signed words.now) text.old }
 {
     if !signed {
