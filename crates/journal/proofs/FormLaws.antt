@@ -38,22 +38,53 @@ use Rattle.journal.specs.declared.form.Parts.{Parts}
 use Rattle.journal.specs.declared.form.Placed.{Placed}
 use Rattle.journal.proofs.CursorLaws.{ReadWithin, reads_more, reads_broken, reads_keep, Past, then_number}
 use Rattle.journal.proofs.CursorLaws.{number_most}
-use Rattle.journal.proofs.ListLaws.{count_most, list_most, then_count, then_list, list_left_on}
+use Rattle.journal.proofs.ListLaws.{count_most, list_most, then_count, then_list, list_left_on, list_left_length}
+
+-- of a part without words no count is left
+no_count : (kind : Kind) (name text : List ℕ) (at : ℕ) → ((number : ℕ) → count_by kind number ≡ 0) →
+    0 ≡ number_by kind name text at
+no_count Nothing name text at none = refl
+no_count (Number most) name text at none = refl
+no_count (Words longest most) name text at none = absurd (omega (arith, none 1))
+no_count (Signed longest) name text at none = absurd (omega (arith, none 1))
+no_count (Length longest) name text at none = refl
 
 -- a part by its kind, as the code reads it
 module _ (part : Part) (text : List ℕ) (at : ℕ) (kind : Kind) (k : part.1 ≡ kind) where
   pub follows : (found : List ℕ) (reading : Reading ℕ) → number_part reading ≡ part_by kind (name_text part.0) text at →
-      ((number : ℕ) → count_by kind number ≡ 0) → 0 ≡ number_by kind (name_text part.0) text at →
-      found ≡ left_by kind (name_text part.0) text at found →
+      ((number : ℕ) → count_by kind number ≡ 0) → found ≡ left_by kind (name_text part.0) text at found →
       MatchResult (numberless reading) (λ read. PartFollows part text at read found found)
       (λ broken. PartBroken part text at broken found found)
   unfolding part_after part_left number_left
-  follows found (Ok read) e none no_count left =
+  follows found (Ok read) e none left =
       record { words = []; after = rw (k, ← e) refl; lent = rw (k, none read.value) refl }
-  follows found (Err broken) e none no_count left =
-      record { after = rw (k, ← e) refl; number = rw k no_count; lent = rw k left }
+  follows found (Err broken) e none left = record {
+    after = rw (k, ← e) refl;
+    number = rw k (no_count kind (name_text part.0) text at none);
+    lent = rw k left;
+  }
 
-  -- a list into as many places as it may have words
+  -- a list into as many places as it may have words: where it is broken, with the number that the part leaves
+  pub follows_list_left : (signed : Bool) (most : ℕ) (found left : List ℕ) (result : Result (Read ℕ) BrokenPart) →
+      list_part (list_after text at (name_text part.0) (length found) signed most)
+      ≡ part_by kind (name_text part.0) text at → ((number : ℕ) → count_by kind number ≡ number) →
+      list_left text at (name_text part.0) (length found) signed most found
+      ≡ left_by kind (name_text part.0) text at found →
+      MatchResult result (λ read. ListFollows text at (name_text part.0) (length found) signed most read found left)
+      (λ broken. ListBroken text at (name_text part.0) (length found) signed most broken found left) →
+      MatchResult result (λ read. PartFollows part text at read found left)
+      (λ broken. PartBroken part text at (record { broken = broken.broken; number = number_left part text at }) found left)
+  unfolding part_after part_left
+  follows_list_left signed most found left (Ok read) e whole same f =
+      record {
+        words = f.words;
+        after = rw (k, ← e, f.after, f.counted) refl;
+        lent = rw (k, whole read.value) f.lent;
+      }
+  follows_list_left signed most found left (Err broken) e whole same f =
+      record { after = rw (k, ← e, f.after) refl; number = refl; lent = rw k (f.lent ∙ same) }
+
+  -- with the count that the list leaves, where that is the part's number
   pub follows_list : (signed : Bool) (most : ℕ) (found left : List ℕ) (result : Result (Read ℕ) BrokenPart) →
       list_part (list_after text at (name_text part.0) (length found) signed most)
       ≡ part_by kind (name_text part.0) text at → ((number : ℕ) → count_by kind number ≡ number) →
@@ -64,15 +95,12 @@ module _ (part : Part) (text : List ℕ) (at : ℕ) (kind : Kind) (k : part.1 �
       (λ broken. ListBroken text at (name_text part.0) (length found) signed most broken found left) →
       MatchResult result (λ read. PartFollows part text at read found left)
       (λ broken. PartBroken part text at broken found left)
-  unfolding part_after part_left number_left
+  unfolding number_left
   follows_list signed most found left (Ok read) e whole count same f =
-      record {
-        words = f.words;
-        after = rw (k, ← e, f.after, f.counted) refl;
-        lent = rw (k, whole read.value) f.lent;
-      }
+      follows_list_left signed most found left (Ok read) e whole same f
   follows_list signed most found left (Err broken) e whole count same f =
-      record { after = rw (k, ← e, f.after) refl; number = rw k (f.counted ∙ count); lent = rw k (f.lent ∙ same) }
+      let unread = follows_list_left signed most found left (Err broken) e whole same f in
+      record { after = unread.after; number = rw k (f.counted ∙ count); lent = unread.lent }
 
 -- past a place still by a part
 then_part : {text : List ℕ} {place at : ℕ} → Past text place at → (part : Part) →
@@ -247,6 +275,20 @@ part_left_on part text at n found p q = go part.1 p
     go (Signed longest) r = list_left_on text at (name_text part.0) longest true most_word n found r q
     go (Length longest) r = take-append-drop n found
 
+-- and it leaves as many words as were lent
+part_left_length : (part : Part) (text : List ℕ) (at : ℕ) (found : List ℕ) → room_of part ≤ length found →
+    length (part_left part text at found) ≡ length found
+unfolding part_left
+part_left_length part text at found p = go part.1 p
+  where
+    go : (kind : Kind) → count_by kind (bound_by kind) ≤ length found →
+        length (left_by kind (name_text part.0) text at found) ≡ length found
+    go Nothing q = refl
+    go (Number most) q = refl
+    go (Words longest most) q = list_left_length text at (name_text part.0) longest false most found q
+    go (Signed longest) q = list_left_length text at (name_text part.0) longest true most_word found q
+    go (Length longest) q = refl
+
 -- the first k parts are read, each list where the longest before it would end, and the other parts hold nothing; the
 -- words from there on are as they were found
 pub record FormSoFar (form : List Part) (text : List ℕ) (from : ℕ) (found : List ℕ) (parts : List Placed)
@@ -330,11 +372,11 @@ module _ (form : List Part) (text : List ℕ) (from : ℕ) (found : List ℕ) wh
 
       pub form_broken : {broken : BrokenPart} →
           PartBroken (part_at form k) text at broken (take (end - place) (drop place words)) left → k < length form →
-          length left ≡ end - place → (close : ℕ) → close ≡ place + count_of (part_at form k) broken.number →
+          (close : ℕ) → close ≡ place + count_of (part_at form k) broken.number →
           FormBroken form text from
           (record { broken = broken.broken; parts = parts_of (parts_with broken.number close) }) found new
       unfolding form_after parts_after
-      form_broken {broken} b more kept close c = record {
+      form_broken {broken} b more close c = record {
         after = reads_broken _ from f.after b.after part_count p;
         k = k;
         next = at;
@@ -355,6 +397,15 @@ module _ (form : List Part) (text : List ℕ) (from : ℕ) (found : List ℕ) wh
         rest = same_after broken.number close;
       }
         where
+          room : length (take (end - place) (drop place words)) ≡ end - place
+          room = length-take-le (end - place) (drop place words) (rw length-drop (omega (arith, fits)))
+
+          kept : length left ≡ end - place
+          kept =
+              ap length b.lent
+              ∙ part_left_length (part_at form k) text at (take (end - place) (drop place words)) (omega (arith, e, room))
+              ∙ room
+
           whole : length new ≡ length words
           whole =
               simp (length-append, length-drop)

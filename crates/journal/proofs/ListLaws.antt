@@ -8,13 +8,13 @@ use native.Mathlib.Numerals.{add-one}
 use native.Mathlib.Omega.{arith}
 use native.Mathlib.Decide.{ℕ_discrete, dec_lt}
 use lib.Dec.{ltb}
-use lib.ListN.{length, take, drop, set, replicate, take-append-drop}
+use lib.ListN.{length, take, drop, set, replicate, length-append, length-drop, take-append-drop}
 use lib.Seq.{length-take-le, drop-append-le}
 use borrow.Author.Tests.{lt-ltb, le-ltb}
 use Rattle.std.specs.Prelude.{Ok, Err, IfOk}
 use Rattle.std.proofs.lemmas.Result.{IfOk-weaker}
 use Rattle.numbers.specs.Bounded.{list_below, filled_below}
-use Rattle.numbers.proofs.ListLaws.{list_same, filled_none, filled_next}
+use Rattle.numbers.proofs.ListLaws.{list_length, list_same, filled_none, filled_next}
 use Rattle.journal.specs.Cursor.{read_of, Reading, word_after, number_after}
 use Rattle.journal.specs.List.{numbers_after, value_or_zero, number_at, numbers_or_zeros, count_after, list_after}
 use Rattle.journal.specs.List.{left_by_count, list_left}
@@ -144,3 +144,18 @@ list_left_on text at name longest signed most n found p q =
         (sym (drop-append-le count.value (take n found) (drop n found) inside)
         ∙ ap (drop count.value) (take-append-drop n found))
     go (Err broken) h = take-append-drop n found
+
+-- a broken list leaves as many words as were lent
+pub list_left_length : (text : List ℕ) (at : ℕ) (name : List ℕ) (longest : ℕ) (signed : Bool) (most : ℕ)
+    (found : List ℕ) → longest ≤ length found →
+    length (list_left text at name longest signed most found) ≡ length found
+unfolding list_left numbers_or_zeros
+list_left_length text at name longest signed most found p =
+    go (count_after text at name longest) (count_most text at name longest)
+  where
+    go : (count : Reading ℕ) → IfOk count (λ read. read.value ≤ longest) →
+        length (left_by_count count text signed most found) ≡ length found
+    go (Ok count) h =
+        simp (length-append, length-drop)
+        (omega (arith, h, p, list_length (number_at text count.next signed most) count.value))
+    go (Err broken) h = refl

@@ -16,9 +16,12 @@ pub trait Decimal: Copy {
     fn decimal(self) -> Text<DIGITS>
         ensures { result ≡ shown self };
 
-    // Written straight to a text: the digits are copied once.
+    // Written to a text. A type whose digits are at hand writes them straight to it, so that they are copied once.
     fn write_to<T: Writable>(self, text: &mut T)
-        ensures { text.new ≡ T.after (shown self) text.old };
+        ensures { text.new ≡ T.after (shown self) text.old }
+    {
+        text.push_all(self.decimal().as_bytes());
+    }
 }
 
 impl Decimal for u64 {
@@ -108,5 +111,29 @@ pub fn write_words<T: Writable, N: Decimal>(text: &mut T, numbers: &[N])
 {
     for number in numbers {
         write_word(text, *number);
+    }
+}
+
+#[cfg(test)]
+mod tests {
+    use super::*;
+
+    // A number of which only its text is at hand.
+    #[derive(Clone, Copy)]
+    struct Sector(u64);
+
+    impl Decimal for Sector {
+        ghost shown = { λ sector. decimal sector.0 };
+
+        fn decimal(self) -> Text<DIGITS> {
+            self.0.decimal()
+        }
+    }
+
+    #[test]
+    fn written_by_its_text(rt: HostRuntime) {
+        let mut text: Text<8> = Text::new();
+        write_words(&mut text, &[Sector(7), Sector(40)]);
+        assert_eq!(rt; text.as_bytes(), b" 7 40".as_slice());
     }
 }

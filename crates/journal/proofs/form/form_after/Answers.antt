@@ -1,10 +1,9 @@
 -- The invariant: the first k parts are read, each list where the longest ones before it would end;
 -- the words from there on are as they were lent.
-use mathlib.Core.Path.{◌≡◌, ap, ◌∙◌}
+use mathlib.Core.Path.{◌≡◌, ap}
 use Prim.Native.Nat.{◌+◌, ◌*◌, ◌^◌, ◌≤◌, ◌<◌}
 use native.Mathlib.Omega.{arith}
 use lib.ListN.{length}
-use borrow.Rule.Slice.PartMut.{mid_len}
 use Rattle.journal.specs.Form.{part_count, place_of}
 use Rattle.journal.proofs.FormLaws.{form_none, form_fits, few_words, few_broken, form_broken, form_more, form_whole}
 use Rattle.journal.proofs.form.form_after.Goals as goal
@@ -59,8 +58,7 @@ pub returns-in-Err : goal.returns-in-Err
 returns-in-Err c =
     let r = (goal.at.returns-in-Err c).After-room in
     form_broken _ _ _ _ c.loop-k.invariant (inside r) _ (ap (λ room. c.loop-k.start + room) c.room.ensures) (fits r)
-    c.read.new.into (rw c.in-Err.is at c.read.ensures) (omega arith)
-    (c.read.auto.into ∙ mid_len c.loop-k.start _ c.loop-k.words (fits r)) _
+    c.read.new.into (rw c.in-Err.is at c.read.ensures) (omega arith) _
     (ap (λ count. c.loop-k.start + count) c.count-in-Err.ensures)
 
 pub overflow_add-end : goal.overflow_add-end

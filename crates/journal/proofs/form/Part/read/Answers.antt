@@ -15,7 +15,7 @@ returns-in-Nothing c = record { words = []; after = rw c.in-Nothing.is refl; len
 pub returns-in-Number : goal.returns-in-Number
 returns-in-Number c =
     rw (c.of_number.ensures, c.number_after.ensures)
-    (follows _ _ _ (Number c.in-Number.most) c.in-Number.is _ _ refl (λ number. refl) refl refl)
+    (follows _ _ _ (Number c.in-Number.most) c.in-Number.is _ _ refl (λ number. refl) refl)
 
 pub returns-in-List : goal.returns-in-List
 returns-in-List c =
@@ -34,4 +34,4 @@ returns-in-Signed c =
 pub returns-in-Length : goal.returns-in-Length
 returns-in-Length c =
     rw (c.of_number-in-Length.ensures, c.read_count.ensures)
-    (follows _ _ _ (Length c.in-Length.longest) c.in-Length.is _ _ refl (λ number. refl) refl refl)
+    (follows _ _ _ (Length c.in-Length.longest) c.in-Length.is _ _ refl (λ number. refl) refl)
